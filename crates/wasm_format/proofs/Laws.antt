@@ -1,0 +1,295 @@
+-- A format whose reading finds what its form says, and nothing else.
+use Rattle.std.proofs.Common.{◌≡◌, ℕ, zero, suc, ◌+◌, ◌≤◌, ◌⊎◌, Bool, true, false, cond, eqb, ltb, List, [], ◌∷◌, ◌++◌, length, take, drop, Result, Ok, Err, refl, sym, ap, subst, ◌∙◌, append_assoc, arith, inl, inr}
+use Rattle.std.proofs.lemmas.Bool.{ltb-false, le-ltb, eqb-true}
+use Rattle.std.proofs.lemmas.List.{append-nil, nil_from_length, take_at, drop_at, take-append-drop, length-append, length-take, length-drop}
+use Rattle.wasm_format.specs.declared.fault.Fault.{Fault}
+use Rattle.wasm_format.specs.declared.fault.Rule.{Rule}
+use Rattle.wasm_format.specs.declared.fault.Rule.TheVariants as rules
+use Rattle.wasm_format.specs.Format.{Format, Whole, wrong, and_then, ◌>>=◌, yield, refuse, judge, such, byte_at, byte, chunk, repeat_at, repeat, exactly, begins, everything, Kept, keeping, beyond, sized}
+
+pub record Found {X : Type 0} (f : Format X) (bytes : List ℕ) (x : X) (rest : List ℕ) : Type 0 where
+  pub front : List ℕ
+  pub parts : bytes ≡ front ++ rest
+  pub formed : f.form front x
+
+pub record Law {X : Type 0} (f : Format X) : Type 0 where
+  pub found : (bytes : List ℕ) (x : X) (rest : List ℕ) → f.read bytes ≡ Ok (x, rest) → Found f bytes x rest
+  pub again : (front : List ℕ) (x : X) (rest : List ℕ) → f.form front x → f.read (front ++ rest) ≡ Ok (x, rest)
+  pub within : (bytes : List ℕ) (e : Fault) → f.read bytes ≡ Err e → e.left ≤ length bytes
+
+pub record WholeLaw {X : Type 0} (w : Whole X) : Type 0 where
+  pub found : (bytes : List ℕ) (x : X) → w.read bytes ≡ Ok x → w.form bytes x
+  pub again : (bytes : List ℕ) (x : X) → w.form bytes x → w.read bytes ≡ Ok x
+  pub within : (bytes : List ℕ) (e : Fault) → w.read bytes ≡ Err e → e.left ≤ length bytes
+
+-- ---- steps
+
+pub bind_ok : {A B : Type 0} (r : Result A Fault) (f : A → Result B Fault) (y : B) → and_then r f ≡ Ok y → (x : A) × (r ≡ Ok x) × (f x ≡ Ok y)
+bind_ok (Ok x) f y e = (x, refl, e)
+bind_ok (Err d) f y e = absurd cc
+
+pub bind_err : {A B : Type 0} (r : Result A Fault) (f : A → Result B Fault) (d : Fault) → and_then r f ≡ Err d → (r ≡ Err d) ⊎ ((x : A) × (r ≡ Ok x) × (f x ≡ Err d))
+bind_err (Ok x) f d e = inr (x, refl, e)
+bind_err (Err c) f d e = inl (let h : c ≡ d = cc in ap (λ (t : Fault). Err t) h)
+
+pub guard_ok : {A : Type 0} (b : Bool) (d : Fault) (x y : A) → cond b (Err d) (Ok x) ≡ Ok y → (b ≡ false) × (x ≡ y)
+guard_ok true d x y e = absurd cc
+guard_ok false d x y e = (refl, cc)
+
+pub guard_err : {A : Type 0} (b : Bool) (d e : Fault) (x : A) → cond b (Err d) (Ok x) ≡ Err e → d ≡ e
+guard_err true d e x h = cc
+guard_err false d e x h = absurd cc
+
+pub test_ok : {A : Type 0} (b : Bool) (d : Fault) (x y : A) → cond b (Ok x) (Err d) ≡ Ok y → (b ≡ true) × (x ≡ y)
+test_ok true d x y e = (refl, cc)
+test_ok false d x y e = absurd cc
+
+pub test_err : {A : Type 0} (b : Bool) (d e : Fault) (x : A) → cond b (Ok x) (Err d) ≡ Err e → d ≡ e
+test_err true d e x h = absurd cc
+test_err false d e x h = cc
+
+abbrev done : {A : Type 0} → A → Result A Fault
+done x = Ok x
+
+pub ok_is : {A : Type 0} (x y : A) → done x ≡ done y → x ≡ y
+ok_is x y e = cc
+
+-- ---- then
+
+pub bind_law : {A B : Type 0} (f : Format A) (g : A → Format B) → Law f → ((a : A) → Law (g a)) → Law (f >>= g)
+bind_law f g lf lg = record {
+  found = λ bytes y rest e.
+      let p = bind_ok (f.read bytes) (λ a. (g a.0).read a.1) (y, rest) e in
+      let one = lf.found bytes p.0.0 p.0.1 p.1 in
+      let two = (lg p.0.0).found p.0.1 y rest p.2 in
+      record {
+        front = one.front ++ two.front;
+        parts = one.parts ∙ ap (λ (t : List ℕ). one.front ++ t) two.parts ∙ sym (append_assoc one.front two.front rest);
+        formed = record { value = p.0.0; front = one.front; back = two.front; parts = refl; first = one.formed; second = two.formed };
+      };
+  again = λ front y rest h.
+      let regrouped : front ++ rest ≡ h.front ++ (h.back ++ rest) = ap (λ (t : List ℕ). t ++ rest) h.parts ∙ append_assoc h.front h.back rest in
+      let one : f.read (front ++ rest) ≡ Ok (h.value, h.back ++ rest) = ap f.read regrouped ∙ lf.again h.front h.value (h.back ++ rest) h.first in
+      ap (λ t. and_then t (λ a. (g a.0).read a.1)) one ∙ (lg h.value).again h.back y rest h.second;
+  within = λ bytes d e.
+      elim (bind_err (f.read bytes) (λ a. (g a.0).read a.1) d e) [
+        | inl first ↦ lf.within bytes d first
+        | inr p ↦
+            let one = lf.found bytes p.0.0 p.0.1 p.1 in
+            let two : d.left ≤ length p.0.1 = (lg p.0.0).within p.0.1 d p.2 in
+            omega (arith, ap length one.parts, length-append one.front p.0.1)
+      ];
+}
+
+pub yield_law : {X : Type 0} (x : X) → Law (yield x)
+yield_law x = record {
+  found = λ bytes y rest e. let h = ok_is (x, bytes) (y, rest) e in record { front = []; parts = ap (λ p. p.1) h; formed = (refl, sym (ap (λ p. p.0) h)) };
+  again = λ front y rest h. rw (h.0, h.1) refl;
+  within = λ bytes d e. absurd cc;
+}
+
+pub refuse_law : {X : Type 0} (rule : Rule) → Law (refuse {X = X} rule)
+refuse_law rule = record {
+  found = λ bytes y rest e. absurd cc;
+  again = λ front y rest h. absurd h;
+  within = λ bytes d e. let h : length bytes ≡ d.left = cc in omega arith;
+}
+
+pub judge_law : {X : Type 0} (r : Result X Rule) → Law (judge r)
+judge_law (Ok x) = yield_law x
+judge_law (Err rule) = refuse_law rule
+
+pub byte_law : Law byte
+byte_law = record {
+  found = λ bytes b rest e. elim bytes as (λ s. byte_at s ≡ Ok (b, rest) → Found byte s b rest) [
+    | [] ↦ λ h. absurd cc
+    | c ∷ cs ↦ λ h. let p = ok_is (c, cs) (b, rest) h in record { front = c ∷ []; parts = ap (λ (q : ℕ × List ℕ). c ∷ q.1) p; formed = ap (λ (q : ℕ × List ℕ). q.0 ∷ []) p }
+  ] e;
+  again = λ front b rest h. rw h refl;
+  within = λ bytes d e. elim bytes as (λ s. byte_at s ≡ Err d → d.left ≤ length s) [
+    | [] ↦ λ h. let k : 0 ≡ d.left = cc in omega arith
+    | c ∷ cs ↦ λ h. absurd cc
+  ] e;
+}
+
+pub chunk_law : (n : ℕ) → Law (chunk n)
+chunk_law n = record {
+  found = λ bytes x rest e.
+      let g = guard_ok (ltb (length bytes) n) (record { rule = rules.Short; left = length bytes }) (take n bytes, drop n bytes) (x, rest) e in
+      let long : n ≤ length bytes = ltb-false _ _ g.0 in
+      let len : length (take n bytes) ≡ n = omega (arith, length-take n bytes) in
+      let x-is : take n bytes ≡ x = ap (λ (p : List ℕ × List ℕ). p.0) g.1 in
+      let rest-is : drop n bytes ≡ rest = ap (λ (p : List ℕ × List ℕ). p.1) g.1 in
+      record { front = x; parts = rw (← x-is, ← rest-is) (sym (take-append-drop n bytes)); formed = (refl, ap length (sym x-is) ∙ len) };
+  again = λ front x rest h.
+      let len : length front ≡ n = ap length h.0 ∙ h.1 in
+      let long : ltb (length (front ++ rest)) n ≡ false = le-ltb _ _ (omega (arith, length-append front rest)) in
+      rw (long, take_at front rest n len, drop_at front rest n len) (ap (λ (t : List ℕ). Ok (t, rest)) h.0);
+  within = λ bytes d e.
+      let h = guard_err (ltb (length bytes) n) (record { rule = rules.Short; left = length bytes }) d (take n bytes, drop n bytes) e in
+      let k : length bytes ≡ d.left = ap (λ (t : Fault). t.left) h in omega arith;
+}
+
+pub such_law : {X : Type 0} (rule : Rule) (test : X → Bool) (f : Format X) → Law f → Law (such rule test f)
+such_law {X = X} rule test f lf = record {
+  found = λ bytes x rest e.
+      let p = bind_ok (f.read bytes) (λ x. cond (test x.0) (Ok x) (wrong rule bytes)) (x, rest) e in
+      let g = test_ok (test p.0.0) (record { rule = rule; left = length bytes }) p.0 (x, rest) p.2 in
+      let one = lf.found bytes p.0.0 p.0.1 p.1 in
+      subst (λ (y : X × List ℕ). Found (such rule test f) bytes y.0 y.1) g.1 (record { front = one.front; parts = one.parts; formed = (one.formed, g.0) });
+  again = λ front x rest h. rw (lf.again front x rest h.0, h.1) refl;
+  within = λ bytes d e.
+      elim (bind_err (f.read bytes) (λ x. cond (test x.0) (Ok x) (wrong rule bytes)) d e) [
+        | inl first ↦ lf.within bytes d first
+        | inr p ↦
+            let h = test_err (test p.0.0) (record { rule = rule; left = length bytes }) d p.0 p.2 in
+            let k : length bytes ≡ d.left = ap (λ (t : Fault). t.left) h in omega arith
+      ];
+}
+
+in_three : (bytes a b c d : List ℕ) → bytes ≡ a ++ b → b ≡ c ++ d → bytes ≡ (a ++ c) ++ d
+in_three bytes a b c d e f = e ∙ ap (λ (t : List ℕ). a ++ t) f ∙ sym (append_assoc a c d)
+
+repeat_found : {X : Type 0} (f : Format X) → Law f → (n : ℕ) (bytes : List ℕ) (xs : List X) (rest : List ℕ) → repeat_at f.read n bytes ≡ Ok (xs, rest) → Found (repeat f n) bytes xs rest
+unfolding repeat_at
+repeat_found {X = X} f lf zero bytes xs rest e =
+    subst (λ (y : List X × List ℕ). Found (repeat f zero) bytes y.0 y.1) (ok_is ([], bytes) (xs, rest) e) (record { front = []; parts = refl; formed = (refl, refl) })
+repeat_found {X = X} f lf (suc n) bytes xs rest e =
+    let p = bind_ok (f.read bytes) (λ x. and_then (repeat_at f.read n x.1) (λ xs. Ok (x.0 ∷ xs.0, xs.1))) (xs, rest) e in
+    let q = bind_ok (repeat_at f.read n p.0.1) (λ xs. Ok (p.0.0 ∷ xs.0, xs.1)) (xs, rest) p.2 in
+    let one = lf.found bytes p.0.0 p.0.1 p.1 in
+    let two = repeat_found f lf n p.0.1 q.0.0 q.0.1 q.1 in
+    subst (λ (y : List X × List ℕ). Found (repeat f (suc n)) bytes y.0 y.1) (ok_is (p.0.0 ∷ q.0.0, q.0.1) (xs, rest) q.2)
+    (record {
+      front = one.front ++ two.front;
+      parts = in_three bytes one.front p.0.1 two.front q.0.1 one.parts two.parts;
+      formed = (record { front = one.front; back = two.front; parts = refl; first = one.formed; second = two.formed.0 }, ap suc two.formed.1);
+    })
+
+repeat_again : {X : Type 0} (f : Format X) → Law f → (n : ℕ) (front : List ℕ) (xs : List X) (rest : List ℕ) → (repeat f n).form front xs → repeat_at f.read n (front ++ rest) ≡ Ok (xs, rest)
+unfolding repeat_at
+repeat_again f lf zero front [] rest h = rw h.0 refl
+repeat_again f lf zero front (x ∷ xs) rest h = absurd cc
+repeat_again f lf (suc n) front [] rest h = absurd cc
+repeat_again f lf (suc n) front (x ∷ xs) rest h =
+    let t = h.0 in
+    let regrouped : front ++ rest ≡ t.front ++ (t.back ++ rest) = ap (λ (s : List ℕ). s ++ rest) t.parts ∙ append_assoc t.front t.back rest in
+    let one : f.read (front ++ rest) ≡ Ok (x, t.back ++ rest) = ap f.read regrouped ∙ lf.again t.front x (t.back ++ rest) t.first in
+    let len : length xs ≡ n = cc in
+    rw (one, repeat_again f lf n t.back xs rest (t.second, len)) refl
+
+repeat_within : {X : Type 0} (f : Format X) → Law f → (n : ℕ) (bytes : List ℕ) (d : Fault) → repeat_at f.read n bytes ≡ Err d → d.left ≤ length bytes
+unfolding repeat_at
+repeat_within f lf zero bytes d e = absurd cc
+repeat_within f lf (suc n) bytes d e =
+    elim (bind_err (f.read bytes) (λ x. and_then (repeat_at f.read n x.1) (λ xs. Ok (x.0 ∷ xs.0, xs.1))) d e) [
+      | inl first ↦ lf.within bytes d first
+      | inr p ↦
+          let one = lf.found bytes p.0.0 p.0.1 p.1 in
+          elim (bind_err (repeat_at f.read n p.0.1) (λ xs. Ok (p.0.0 ∷ xs.0, xs.1)) d p.2) [
+            | inl second ↦ let two = repeat_within f lf n p.0.1 d second in omega (arith, ap length one.parts, length-append one.front p.0.1)
+            | inr q ↦ let k = q.2 in absurd cc
+          ]
+    ]
+
+pub repeat_law : {X : Type 0} (f : Format X) → Law f → (n : ℕ) → Law (repeat f n)
+repeat_law f lf n = record { found = repeat_found f lf n; again = repeat_again f lf n; within = repeat_within f lf n }
+
+-- ---- all of the bytes
+
+pub exactly_law : {X : Type 0} (f : Format X) → Law f → WholeLaw (exactly f)
+exactly_law {X = X} f lf = record {
+  found = λ bytes x e.
+      let p = bind_ok (f.read bytes) (λ x. cond (eqb (length x.1) 0) (Ok x.0) (wrong rules.Trailing x.1)) x e in
+      let g = test_ok (eqb (length p.0.1) 0) (record { rule = rules.Trailing; left = length p.0.1 }) p.0.0 x p.2 in
+      let none : p.0.1 ≡ [] = nil_from_length p.0.1 (eqb-true _ _ g.0) in
+      let one = lf.found bytes p.0.0 p.0.1 p.1 in
+      let whole : bytes ≡ one.front = one.parts ∙ ap (λ (t : List ℕ). one.front ++ t) none ∙ append-nil one.front in
+      subst (λ (t : List ℕ). f.form t x) (sym whole) (subst (λ (y : X). f.form one.front y) g.1 one.formed);
+  again = λ bytes x h.
+      let one : f.read bytes ≡ Ok (x, []) = ap f.read (sym (append-nil bytes)) ∙ lf.again bytes x [] h in
+      rw one refl;
+  within = λ bytes d e.
+      elim (bind_err (f.read bytes) (λ x. cond (eqb (length x.1) 0) (Ok x.0) (wrong rules.Trailing x.1)) d e) [
+        | inl first ↦ lf.within bytes d first
+        | inr p ↦
+            let one = lf.found bytes p.0.0 p.0.1 p.1 in
+            let h = test_err (eqb (length p.0.1) 0) (record { rule = rules.Trailing; left = length p.0.1 }) d p.0.0 p.2 in
+            let k : length p.0.1 ≡ d.left = ap (λ (t : Fault). t.left) h in
+            omega (arith, ap length one.parts, length-append one.front p.0.1)
+      ];
+}
+
+pub begins_law : {X : Type 0} (f : Format X) → Law f → WholeLaw (begins f)
+begins_law {X = X} f lf = record {
+  found = λ bytes x e.
+      let p = bind_ok (f.read bytes) (λ x. Ok x.0) x e in
+      let one = lf.found bytes p.0.0 p.0.1 p.1 in
+      record { value = p.0.0; front = one.front; back = p.0.1; parts = one.parts; first = one.formed; second = sym (ok_is p.0.0 x p.2) };
+  again = λ bytes x h.
+      let one : f.read bytes ≡ Ok (h.value, h.back) = ap f.read h.parts ∙ lf.again h.front h.value h.back h.first in
+      rw (one, h.second) refl;
+  within = λ bytes d e.
+      elim (bind_err (f.read bytes) (λ x. Ok x.0) d e) [
+        | inl first ↦ lf.within bytes d first
+        | inr p ↦ let k = p.2 in absurd cc
+      ];
+}
+
+pub everything_law : WholeLaw everything
+everything_law = record {
+  found = λ bytes x e. sym (ok_is bytes x e);
+  again = λ bytes x h. rw h refl;
+  within = λ bytes d e. absurd cc;
+}
+
+pub keeping_law : {X Y : Type 0} (w : Whole X) (make : X → List ℕ → Y) → WholeLaw w → WholeLaw (keeping w make)
+keeping_law {X = X} {Y = Y} w make lw = record {
+  found = λ bytes y e.
+      let p = bind_ok (w.read bytes) (λ x. Ok (make x bytes)) y e in
+      record { value = p.0; formed = lw.found bytes p.0 p.1; made = sym (ok_is (make p.0 bytes) y p.2) };
+  again = λ bytes y h. rw (lw.again bytes h.value h.formed, h.made) refl;
+  within = λ bytes d e.
+      elim (bind_err (w.read bytes) (λ x. Ok (make x bytes)) d e) [
+        | inl first ↦ lw.within bytes d first
+        | inr p ↦ let k = p.2 in absurd cc
+      ];
+}
+
+beyond_ok : {X : Type 0} (k : ℕ) (r : Result X Fault) (x : X) → beyond k r ≡ Ok x → r ≡ Ok x
+beyond_ok k (Ok y) x e = e
+beyond_ok k (Err f) x e = absurd cc
+
+beyond_err : {X : Type 0} (k : ℕ) (r : Result X Fault) (d : Fault) → beyond k r ≡ Err d → (f : Fault) × (r ≡ Err f) × (d.left ≡ f.left + k)
+beyond_err k (Ok y) d e = absurd cc
+beyond_err k (Err f) d e = let h : record f { left = f.left + k } ≡ d = cc in (f, refl, sym (ap (λ (t : Fault). t.left) h))
+
+pub sized_law : {X : Type 0} (w : Whole X) → WholeLaw w → (n : ℕ) → Law (sized w n)
+sized_law {X = X} w lw n = record {
+  found = λ bytes x rest e.
+      elim (ltb (length bytes) n) as (λ b. ltb (length bytes) n ≡ b → cond b (wrong {X = X × List ℕ} rules.Short bytes) (and_then {B = X × List ℕ} (beyond (length (drop n bytes)) (w.read (take n bytes))) (λ x. Ok (x, drop n bytes))) ≡ Ok (x, rest) → Found (sized w n) bytes x rest) [
+        | true ↦ λ b h. absurd cc
+        | false ↦ λ b h.
+            let long : n ≤ length bytes = ltb-false _ _ b in
+            let p = bind_ok (beyond (length (drop n bytes)) (w.read (take n bytes))) (λ x. Ok (x, drop n bytes)) (x, rest) h in
+            let one = lw.found (take n bytes) p.0 (beyond_ok (length (drop n bytes)) (w.read (take n bytes)) p.0 p.1) in
+            let len : length (take n bytes) ≡ n = omega (arith, length-take n bytes) in
+            subst (λ (y : X × List ℕ). Found (sized w n) bytes y.0 y.1) (ok_is (p.0, drop n bytes) (x, rest) p.2) (record { front = take n bytes; parts = sym (take-append-drop n bytes); formed = (one, len) })
+      ] refl e;
+  again = λ front x rest h.
+      let long : ltb (length (front ++ rest)) n ≡ false = le-ltb _ _ (omega (arith, length-append front rest)) in
+      rw (long, take_at front rest n h.1, drop_at front rest n h.1, lw.again front x h.0) refl;
+  within = λ bytes d e.
+      elim (ltb (length bytes) n) as (λ b. ltb (length bytes) n ≡ b → cond b (wrong {X = X × List ℕ} rules.Short bytes) (and_then {B = X × List ℕ} (beyond (length (drop n bytes)) (w.read (take n bytes))) (λ x. Ok (x, drop n bytes))) ≡ Err d → d.left ≤ length bytes) [
+        | true ↦ λ b h. let k : length bytes ≡ d.left = cc in omega arith
+        | false ↦ λ b h.
+            let long : n ≤ length bytes = ltb-false _ _ b in
+            elim (bind_err (beyond (length (drop n bytes)) (w.read (take n bytes))) (λ x. Ok (x, drop n bytes)) d h) [
+              | inl first ↦
+                  let p = beyond_err (length (drop n bytes)) (w.read (take n bytes)) d first in
+                  let one = lw.within (take n bytes) p.0 p.1 in
+                  omega (arith, p.2, length-take n bytes, length-drop n bytes)
+              | inr q ↦ let k = q.2 in absurd cc
+            ]
+      ] refl e;
+}

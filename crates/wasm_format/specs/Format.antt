@@ -1,0 +1,201 @@
+-- Formats: which bytes stand for which value, and the reading from left to right that finds it.
+use Rattle.std.specs.Prelude.{◌≡◌, ℕ, zero, suc, ◌+◌, ◌-◌, ◌*◌, ◌<◌, ◌≤◌, ◌^◌, List, [], ◌∷◌, ◌++◌, length, take, drop, Option, Some, None, Result, Ok, Err, Bool, true, nat_lt, ◌==◌, if◌then◌else◌}
+use Rattle.std.specs.Str.{is_utf8}
+use Rattle.wasm_format.specs.declared.fault.Fault.{Fault}
+use Rattle.wasm_format.specs.declared.fault.Rule.{Rule}
+use Rattle.wasm_format.specs.declared.fault.Rule.TheVariants as rules
+use Rattle.wasm_format.specs.declared.fault.ReadError.{ReadError}
+use Rattle.wasm_format.specs.declared.fault.ReadError.TheVariants as errors
+
+-- form says which bytes stand for which value. read takes such bytes from the front, or says what is wrong.
+pub record Format (X : Type 0) : Type 1 where
+  pub form : List ℕ → X → Type 0
+  pub read : List ℕ → Result (X × List ℕ) Fault
+
+-- the same, of all of the bytes
+pub record Whole (X : Type 0) : Type 1 where
+  pub form : List ℕ → X → Type 0
+  pub read : List ℕ → Result X Fault
+
+abbrev pub wrong : {X : Type 0} → Rule → List ℕ → Result X Fault
+wrong rule bytes = Err (record { rule = rule; left = length bytes })
+
+abbrev pub and_then : {A B : Type 0} → Result A Fault → (A → Result B Fault) → Result B Fault
+and_then (Ok x) f = f x
+and_then (Err e) f = Err e
+
+-- ---- one part after the other
+
+-- bytes in two parts: the second may speak of the first's value
+pub record Then {A B : Type 0} (F : List ℕ → A → Type 0) (G : A → List ℕ → B → Type 0) (bytes : List ℕ) (y : B) : Type 0 where
+  pub value : A
+  pub front : List ℕ
+  pub back : List ℕ
+  pub parts : bytes ≡ front ++ back
+  pub first : F front value
+  pub second : G value back y
+
+infixl 10 ◌>>=◌
+abbrev pub ◌>>=◌ : {A B : Type 0} → Format A → (A → Format B) → Format B
+f >>= g = record { form = Then f.form (λ a. (g a).form); read = λ bytes. and_then (f.read bytes) (λ a. (g a.0).read a.1) }
+
+-- no bytes, and this value
+abbrev pub yield : {X : Type 0} → X → Format X
+yield x = record { form = λ bytes y. (bytes ≡ []) × (y ≡ x); read = λ bytes. Ok (x, bytes) }
+
+-- nothing
+abbrev pub refuse : {X : Type 0} → Rule → Format X
+refuse rule = record { form = λ bytes y. ⊥; read = λ bytes. wrong rule bytes }
+
+-- the value that was found, or the rule that is broken
+abbrev pub judge : {X : Type 0} → Result X Rule → Format X
+judge (Ok x) = yield x
+judge (Err rule) = refuse rule
+
+-- those whose value passes a test
+abbrev pub such : {X : Type 0} → Rule → (X → Bool) → Format X → Format X
+such rule test f = record {
+  form = λ bytes x. f.form bytes x × (test x ≡ true);
+  read = λ bytes. and_then (f.read bytes) (λ x. if test x.0 then Ok x else wrong rule bytes);
+}
+
+-- ---- bytes
+
+abbrev pub byte_at : List ℕ → Result (ℕ × List ℕ) Fault
+byte_at [] = wrong rules.Short []
+byte_at (b ∷ rest) = Ok (b, rest)
+
+abbrev pub byte : Format ℕ
+byte = record { form = λ bytes b. bytes ≡ b ∷ []; read = byte_at }
+
+-- this byte
+abbrev pub tag : ℕ → Format ℕ
+tag n = such rules.Tag (λ b. b == n) byte
+
+-- that many bytes
+abbrev pub chunk : ℕ → Format (List ℕ)
+chunk n = record {
+  form = λ bytes x. (bytes ≡ x) × (length x ≡ n);
+  read = λ bytes. if nat_lt (length bytes) n then wrong rules.Short bytes else Ok (take n bytes, drop n bytes);
+}
+
+-- ---- numbers: unsigned LEB128 (WebAssembly Core, Binary Format, Values, Integers)
+
+-- A byte below 128 is the last, and stands for itself. One from 128 on has the low seven bits, and the
+-- bytes after it stand for the rest.
+abbrev pub IsLeb : List ℕ → ℕ → Type 0
+IsLeb [] n = ⊥
+IsLeb (b ∷ []) n = (b < 128) × (n ≡ b)
+IsLeb (b ∷ c ∷ bs) n = (128 ≤ b) × (high : ℕ) × (n + 128 ≡ b + 128 * high) × IsLeb (c ∷ bs) high
+
+-- a number of at most 32 bits in at most five bytes
+pub record IsU32 (bytes : List ℕ) (n : ℕ) : Type 0 where
+  pub digits : IsLeb bytes n
+  pub short : length bytes ≤ 5
+  pub small : n < 2 ^ 32
+
+-- the digits, of which there are at most as many
+unfoldable pub leb_at : ℕ → List ℕ → Result (ℕ × List ℕ) Fault
+leb_at zero bytes = wrong rules.Number bytes
+leb_at (suc k) bytes = and_then (byte_at bytes) (λ b. if nat_lt b.0 128 then Ok b else and_then (leb_at k b.1) (λ high. Ok (b.0 - 128 + 128 * high.0, high.1)))
+
+unfoldable pub u32_at : List ℕ → Result (ℕ × List ℕ) Fault
+u32_at bytes = and_then (leb_at 5 bytes) (λ n. if nat_lt n.0 (2 ^ 32) then Ok n else wrong rules.Number bytes)
+
+abbrev pub u32 : Format ℕ
+u32 = record { form = IsU32; read = u32_at }
+
+-- a number below a limit
+abbrev pub index : ℕ → Format ℕ
+index limit = such rules.Index (λ i. nat_lt i limit) u32
+
+-- ---- names (Values, Names): a length, and so many bytes of UTF-8
+
+unfoldable pub name : Format (List ℕ)
+name = do
+  n ← u32
+  such rules.Text is_utf8 (chunk n)
+
+-- ---- several of one kind
+
+-- bytes in two parts
+pub record Joins (P Q : List ℕ → Type 0) (bytes : List ℕ) : Type 0 where
+  pub front : List ℕ
+  pub back : List ℕ
+  pub parts : bytes ≡ front ++ back
+  pub first : P front
+  pub second : Q back
+
+-- one after the other, for each value
+abbrev pub Each : {X : Type 0} → (List ℕ → X → Type 0) → List ℕ → List X → Type 0
+Each F bytes [] = bytes ≡ []
+Each F bytes (x ∷ xs) = Joins (λ s. F s x) (λ s. Each F s xs) bytes
+
+unfoldable pub repeat_at : {X : Type 0} → (List ℕ → Result (X × List ℕ) Fault) → ℕ → List ℕ → Result (List X × List ℕ) Fault
+repeat_at read zero bytes = Ok ([], bytes)
+repeat_at read (suc n) bytes = and_then (read bytes) (λ x. and_then (repeat_at read n x.1) (λ xs. Ok (x.0 ∷ xs.0, xs.1)))
+
+abbrev pub repeat : {X : Type 0} → Format X → ℕ → Format (List X)
+repeat f n = record { form = λ bytes xs. Each f.form bytes xs × (length xs ≡ n); read = repeat_at f.read n }
+
+-- a count, and so many of them (Conventions, Vectors)
+abbrev pub vec : {X : Type 0} → Format X → Format (List X)
+vec f = u32 >>= repeat f
+
+-- ---- all of some bytes
+
+-- nothing stands behind it
+abbrev pub exactly : {X : Type 0} → Format X → Whole X
+exactly f = record {
+  form = f.form;
+  read = λ bytes. and_then (f.read bytes) (λ x. if length x.1 == 0 then Ok x.0 else wrong rules.Trailing x.1);
+}
+
+-- anything may stand behind it
+abbrev pub begins : {X : Type 0} → Format X → Whole X
+begins f = record {
+  form = Then f.form (λ x _ z. z ≡ x);
+  read = λ bytes. and_then (f.read bytes) (λ x. Ok x.0);
+}
+
+-- whatever the bytes are
+abbrev pub everything : Whole (List ℕ)
+everything = record { form = λ bytes x. x ≡ bytes; read = λ bytes. Ok bytes }
+
+-- the value together with the bytes
+pub record Kept {X Y : Type 0} (F : List ℕ → X → Type 0) (make : X → List ℕ → Y) (bytes : List ℕ) (y : Y) : Type 0 where
+  pub value : X
+  pub formed : F bytes value
+  pub made : y ≡ make value bytes
+
+abbrev pub keeping : {X Y : Type 0} → Whole X → (X → List ℕ → Y) → Whole Y
+keeping w make = record {
+  form = Kept w.form make;
+  read = λ bytes. and_then (w.read bytes) (λ x. Ok (make x bytes));
+}
+
+abbrev pub beyond : {X : Type 0} → ℕ → Result X Fault → Result X Fault
+beyond k (Ok x) = Ok x
+beyond k (Err f) = Err (record f { left = f.left + k })
+
+-- that many bytes, which are this
+abbrev pub sized : {X : Type 0} → Whole X → ℕ → Format X
+sized w n = record {
+  form = λ bytes x. w.form bytes x × (length bytes ≡ n);
+  read = λ bytes. if nat_lt (length bytes) n then wrong rules.Short bytes else and_then (beyond (length (drop n bytes)) (w.read (take n bytes))) (λ x. Ok (x, drop n bytes));
+}
+
+-- ---- what loops keep
+
+-- what was read before, and what is read behind it
+abbrev pub onto : {X : Type 0} → List X → Result (List X × List ℕ) Fault → Result (List X × List ℕ) Fault
+onto front read = and_then read (λ x. Ok (front ++ x.0, x.1))
+
+-- an error, seen from bytes that go on behind
+abbrev pub further : ℕ → ReadError → ReadError
+further k errors.Memory = errors.Memory
+further k (errors.Malformed f) = errors.Malformed (record f { left = f.left + k })
+
+abbrev pub CanMove : ℕ → ReadError → Type 0
+CanMove k errors.Memory = Unit {0}
+CanMove k (errors.Malformed f) = f.left + k < 2 ^ 64

@@ -1,0 +1,4 @@
+pub mod Fault
+pub mod Format
+pub mod Module
+pub mod Grammar

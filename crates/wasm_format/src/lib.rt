@@ -1,0 +1,16 @@
+//! Core WebAssembly modules as bytes, and what every binary format is made of.
+#![tactic(auto)]
+
+mod core_module;
+mod fault;
+mod module_reader;
+pub mod reading;
+mod types;
+
+pub use core_module::{CoreModule, Export, Import, Section, SectionId};
+pub use fault::{Fault, ModuleFault, ReadError, Rule};
+pub use module_reader::read_module;
+pub use types::{EntityType, ExportKind, FuncType, RefType, ValType};
+
+#[cfg(test)]
+mod tests;

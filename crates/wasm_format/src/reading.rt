@@ -1,0 +1,181 @@
+//! Readers of what binary formats are made of: bytes, numbers, names, vectors.
+//!
+//! Each takes its part from the front of the bytes and answers it with the bytes behind it.
+
+ghost use Rattle.std.specs.Prelude.{◌≡◌, ℕ, List, length, IfOk, Ok, ◌≤◌, ◌<◌, ◌+◌, ◌^◌, map};
+ghost use Rattle.wasm_format.specs.Format.{Format, vec, leb_at, u32_at, byte_at, chunk, tag, index, name, repeat, exactly, further, CanMove};
+ghost use Rattle.wasm_format.specs.Fault.{Gives};
+
+use crate::fault::{Fault, ReadError, Rule};
+use std::alloc::Global;
+
+/// A broken rule at the front of these bytes.
+pub fn fault(rule: Rule, bytes: &[u8]) -> ReadError
+    ensures { result ≡ ReadError.Malformed (record { rule = rule; left = length bytes.now }) }
+{
+    ReadError::Malformed(Fault {
+        rule,
+        left: bytes.len(),
+    })
+}
+
+/// The same error, seen from bytes that go on for so many more.
+pub fn moved(e: ReadError, more: usize) -> ReadError
+    requires { CanMove more e }
+    ensures { result ≡ further more e }
+{
+    match e {
+        ReadError::Memory => ReadError::Memory,
+        ReadError::Malformed(Fault { rule, left }) => ReadError::Malformed(Fault {
+            rule,
+            left: left + more,
+        }),
+    }
+}
+
+/// One byte.
+pub fn byte_of(bytes: &[u8]) -> Result<(u8, &[u8]), ReadError>
+    ensures gives { Gives (λ x. (x.0, x.1.now)) result (byte_at bytes.now) }
+    ensures fits { IfOk result (λ x. x.0 < 256) }
+{
+    match bytes {
+        [] => Err(fault(Rule::Short, bytes)),
+        [first, rest @ ..] => Ok((*first, rest)),
+    }
+}
+
+/// This byte, or a fault.
+pub fn tag_of(wanted: u8, bytes: &[u8]) -> Result<&[u8], ReadError>
+    ensures { Gives (λ x. (wanted, x.now)) result ((tag wanted).read bytes.now) }
+{
+    let (found, rest) = byte_of(bytes)?;
+    if found != wanted {
+        return Err(fault(Rule::Tag, bytes));
+    }
+    Ok(rest)
+}
+
+/// The digits of a LEB128 number, at most so many.
+#[tactic(auto, unfolding(crate::specs::Format::leb_at))]
+fn digits_of(bytes: &[u8], most: u32) -> Result<(u64, &[u8]), ReadError>
+    requires { most ≤ 5 }
+    ensures gives { Gives (λ x. (x.0, x.1.now)) result (leb_at most bytes.now) }
+    ensures small { IfOk result (λ x. x.0 < 128 ^ most) }
+{
+    if most == 0 {
+        return Err(fault(Rule::Number, bytes));
+    }
+    let (first, rest) = byte_of(bytes)?;
+    if first < 128 {
+        return Ok((u64::from(first), rest));
+    }
+    let (high, rest) = digits_of(rest, most - 1)?;
+    Ok((u64::from(first) - 128 + 128 * high, rest))
+}
+
+/// An unsigned LEB128 number of at most 32 bits in at most five bytes.
+#[tactic(auto, unfolding(crate::specs::Format::u32_at))]
+pub fn u32_of(bytes: &[u8]) -> Result<(u32, &[u8]), ReadError>
+    ensures { Gives (λ x. (x.0, x.1.now)) result (u32_at bytes.now) }
+{
+    let (number, rest) = digits_of(bytes, 5)?;
+    match u32::try_from(number) {
+        Ok(number) => Ok((number, rest)),
+        Err(_) => Err(fault(Rule::Number, bytes)),
+    }
+}
+
+/// A number below a limit.
+pub fn index_of(limit: usize, bytes: &[u8]) -> Result<(u32, &[u8]), ReadError>
+    ensures { Gives (λ x. (x.0, x.1.now)) result ((index limit).read bytes.now) }
+{
+    let (index, rest) = u32_of(bytes)?;
+    if index as usize >= limit {
+        return Err(fault(Rule::Index, bytes));
+    }
+    Ok((index, rest))
+}
+
+/// So many bytes.
+pub fn chunk_of(size: u32, bytes: &[u8]) -> Result<(&[u8], &[u8]), ReadError>
+    ensures gives { Gives (λ x. (x.0.now, x.1.now)) result ((chunk size).read bytes.now) }
+    ensures room { IfOk result (λ x. length x.0.now + length x.1.now < 2 ^ 64) }
+{
+    let size = size as usize;
+    if bytes.len() < size {
+        return Err(fault(Rule::Short, bytes));
+    }
+    Ok(bytes.split_at(size))
+}
+
+/// A length and so many bytes of UTF-8.
+#[tactic(auto, using(crate::proofs::Fields::text_is, crate::proofs::Fields::text_is_not), unfolding(crate::specs::Format::name))]
+pub fn name_of(bytes: &[u8]) -> Result<(&str, &[u8]), ReadError>
+    ensures { Gives (λ x. (x.0.now, x.1.now)) result (name.read bytes.now) }
+{
+    let (size, rest) = u32_of(bytes)?;
+    let (text, after) = chunk_of(size, rest)?;
+    let Ok(text) = std::str::from_utf8(text) else {
+        return Err(fault(Rule::Text, rest));
+    };
+    Ok((text, after))
+}
+
+/// What can stand in a vector, perhaps with an index below a limit in it.
+pub trait VectorItem<'a>: Sized + Drop {
+    ghost Value: { Type 0 };
+
+    ghost format: { ℕ → Format Value };
+
+    ghost value: { Self → Value };
+
+    /// One item.
+    fn read(alloc: Global, limit: usize, bytes: &'a [u8]) -> Result<(Self, &'a [u8]), ReadError>
+        ensures { Gives (λ x. (value x.0, x.1.now)) result ((format limit).read bytes.now) };
+}
+
+/// So many items.
+fn items_of<'a, T: VectorItem<'a>>(
+    alloc: Global,
+    limit: usize,
+    count: u32,
+    bytes: &'a [u8],
+) -> Result<(Vec<T>, &'a [u8]), ReadError>
+    ensures { Gives (λ x. (map T.value x.0.items, x.1.now)) result ((repeat (T.format limit) count).read bytes.now) }
+{
+    let mut items = Vec::new(alloc);
+    let mut rest = bytes;
+    for _ in 0..count {
+        let (item, after) = T::read(alloc, limit, rest)?;
+        items.push(item)?;
+        rest = after;
+    }
+    Ok((items, rest))
+}
+
+/// A vector: a count, and so many items.
+pub fn vec_of<'a, T: VectorItem<'a>>(
+    alloc: Global,
+    limit: usize,
+    bytes: &'a [u8],
+) -> Result<(Vec<T>, &'a [u8]), ReadError>
+    ensures { Gives (λ x. (map T.value x.0.items, x.1.now)) result ((vec (T.format limit)).read bytes.now) }
+{
+    let (count, rest) = u32_of(bytes)?;
+    items_of(alloc, limit, count, rest)
+}
+
+/// A vector that is all of the bytes.
+pub fn whole_vec_of<'a, T: VectorItem<'a>>(
+    alloc: Global,
+    limit: usize,
+    bytes: &'a [u8],
+) -> Result<Vec<T>, ReadError>
+    ensures { Gives (λ x. map T.value x.items) result ((exactly (vec (T.format limit))).read bytes.now) }
+{
+    let (items, rest) = vec_of(alloc, limit, bytes)?;
+    if !rest.is_empty() {
+        return Err(fault(Rule::Trailing, rest));
+    }
+    Ok(items)
+}
