@@ -1,5 +1,5 @@
 -- Each part of the grammar is read as it says.
-use Rattle.std.proofs.Common.{◌≡◌, ℕ, List, [], ◌∷◌, ◌++◌, refl, sym}
+use Rattle.std.proofs.Common.{ℕ}
 use Rattle.wasm_format.specs.declared.core_module.SectionId.{SectionId}
 use Rattle.wasm_format.specs.declared.core_module.SectionId.TheVariants as sections
 use Rattle.wasm_format.specs.Format.{name}

@@ -5,7 +5,7 @@ use Rattle.std.proofs.lemmas.List.{append-nil, nil_from_length, take_at, drop_at
 use Rattle.wasm_format.specs.declared.fault.Fault.{Fault}
 use Rattle.wasm_format.specs.declared.fault.Rule.{Rule}
 use Rattle.wasm_format.specs.declared.fault.Rule.TheVariants as rules
-use Rattle.wasm_format.specs.Format.{Format, Whole, wrong, and_then, ◌>>=◌, yield, refuse, judge, such, byte_at, byte, chunk, repeat_at, repeat, exactly, begins, everything, Kept, keeping, beyond, sized}
+use Rattle.wasm_format.specs.Format.{Format, Whole, wrong, and_then, ◌>>=◌, yield, refuse, judge, such, byte_at, byte, chunk, repeat_at, repeat, exactly, begins, everything, keeping, beyond, sized}
 
 pub record Found {X : Type 0} (f : Format X) (bytes : List ℕ) (x : X) (rest : List ℕ) : Type 0 where
   pub front : List ℕ

@@ -1,8 +1,6 @@
 -- The sections of a module, and all of it.
 use Rattle.std.proofs.Common.{◌≡◌, ℕ, zero, suc, ◌+◌, ◌≤◌, ◌<◌, ◌^◌, ◌⊎◌, Bool, true, false, cond, eqb, List, [], ◌∷◌, ◌++◌, length, map, Result, Ok, Err, refl, sym, ap, subst, ◌∙◌, arith, inl, inr}
-use Rattle.std.specs.Prelude.{nat_lt}
 use Rattle.std.specs.List.{list_all}
-use Rattle.std.specs.Str.{bytes_eq}
 use Rattle.std.proofs.lemmas.Bool.{eqb-true, eq-eqb}
 use Rattle.std.proofs.lemmas.Slice.Eq.{bytes_eq-Decides}
 use Rattle.std.proofs.lemmas.List.{nil_from_length, length-append}
@@ -15,8 +13,8 @@ use Rattle.wasm_format.specs.Format.{and_then, wrong, CanMove}
 use Rattle.wasm_format.specs.Fault.{Fails}
 use Rattle.wasm_format.specs.Module.{ModuleValue, no_module}
 use Rattle.wasm_format.specs.Grammar.{content, section, section_start, Sections, ends, goes, IsModule, header, sections_at, start, module_at}
-use Rattle.wasm_format.proofs.Laws.{bind_ok, bind_err, ok_is}
-use Rattle.wasm_format.proofs.GrammarLaws.{content_law, section_law, section_start_law, start_law}
+use Rattle.wasm_format.proofs.Laws.{bind_ok}
+use Rattle.wasm_format.proofs.GrammarLaws.{content_law, section_law, start_law}
 
 ended : {A : Type 0} (b : Bool) (x y : A) (r : Result A Fault) → cond b (Ok x) r ≡ Ok y → ((b ≡ true) × (x ≡ y)) ⊎ ((b ≡ false) × (r ≡ Ok y))
 ended true x y r e = inl (refl, cc)

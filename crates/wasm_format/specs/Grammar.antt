@@ -1,5 +1,5 @@
 -- Core modules as bytes (WebAssembly Core, Binary Format, Modules), cut to functions.
-use Rattle.std.specs.Prelude.{◌≡◌, ℕ, zero, suc, ◌<◌, ◌≤◌, ◌^◌, List, [], ◌∷◌, ◌++◌, length, Result, Ok, Err, Bool, true, nat_lt, nat_le, ◌==◌, ◌&&◌, ◌||◌, if◌then◌else◌}
+use Rattle.std.specs.Prelude.{◌≡◌, ℕ, zero, suc, ◌<◌, ◌≤◌, ◌^◌, List, [], ◌∷◌, ◌++◌, length, Result, Ok, Err, Bool, nat_lt, nat_le, ◌==◌, ◌&&◌, ◌||◌, if◌then◌else◌}
 use Rattle.std.specs.List.{list_all}
 use Rattle.std.specs.Str.{bytes_eq}
 use Rattle.wasm_format.specs.declared.fault.Fault.{Fault}
@@ -14,11 +14,10 @@ use Rattle.wasm_format.specs.declared.types.EntityType.{EntityType}
 use Rattle.wasm_format.specs.declared.types.EntityType.TheVariants as entities
 use Rattle.wasm_format.specs.declared.types.ExportKind.{ExportKind}
 use Rattle.wasm_format.specs.declared.types.ExportKind.TheVariants as kinds
-use Rattle.wasm_format.specs.declared.core_module.CoreModule.{CoreModule}
 use Rattle.wasm_format.specs.declared.core_module.SectionId.{SectionId}
 use Rattle.wasm_format.specs.declared.core_module.SectionId.TheVariants as sections
-use Rattle.wasm_format.specs.Format.{Format, Whole, ◌>>=◌, yield, refuse, judge, such, byte, chunk, u32, index, name, vec, exactly, begins, everything, keeping, sized, wrong, and_then}
-use Rattle.wasm_format.specs.Module.{FuncTypeValue, ImportValue, ExportValue, SectionValue, ModuleValue, no_module, with_section, functions_in, module_value}
+use Rattle.wasm_format.specs.Format.{Format, Whole, ◌>>=◌, yield, judge, such, byte, chunk, u32, index, name, vec, exactly, begins, everything, keeping, sized, wrong, and_then}
+use Rattle.wasm_format.specs.Module.{FuncTypeValue, ImportValue, ExportValue, ModuleValue, no_module, with_section, functions_in}
 
 -- ---- types
 

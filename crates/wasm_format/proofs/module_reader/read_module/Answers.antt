@@ -1,4 +1,4 @@
-use Rattle.std.proofs.Common.{◌≡◌, ◌<◌, ◌^◌, length, arith, ◌∙◌, sym}
+use Rattle.std.proofs.Common.{arith, ◌∙◌, sym}
 use Rattle.wasm_format.proofs.Laws.{ok_is}
 use Rattle.wasm_format.proofs.Sections.{module_found, module_again}
 use Rattle.wasm_format.proofs.module_reader.read_module.Goals as goal

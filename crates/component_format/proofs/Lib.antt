@@ -1,0 +1,10 @@
+pub mod Lists
+pub mod Parts
+pub mod Sizes
+pub mod Runs
+pub mod Spelled
+pub mod Adding
+pub mod Counting
+pub mod GrammarLaws
+pub mod Sections
+pub mod Loops

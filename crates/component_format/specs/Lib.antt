@@ -1,0 +1,6 @@
+pub mod Names
+pub mod Definition
+pub mod Found
+pub mod Grammar
+pub mod Spelling
+pub mod Fault

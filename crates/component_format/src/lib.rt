@@ -1,0 +1,24 @@
+//! Components as bytes, to and from a list of definitions.
+#![tactic(auto)]
+
+mod building;
+mod component;
+mod definition;
+mod fault;
+mod found;
+mod names;
+mod reading;
+mod section_writing;
+mod writing;
+
+pub use building::ComponentBuilder;
+pub use component::{Component, read_component};
+pub use definition::{
+    Argument, Definition, DefinitionKind, FunctionType, InlineExport, Items, Parameter,
+    PrimitiveType, SectionId,
+};
+pub use fault::{BuildFault, FormatFault};
+pub use names::Names;
+
+#[cfg(test)]
+mod tests;

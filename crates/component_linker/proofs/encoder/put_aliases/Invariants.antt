@@ -1,0 +1,9 @@
+use Rattle.std.proofs.Common.{◌≡◌, ◌+◌}
+use Rattle.component_format.specs.Found.{counts_in, names_in}
+use Rattle.component_linker.proofs.encoder.put_aliases.Given as goal
+
+abbrev pub invariant-loop-name : goal.invariant-loop-name
+invariant-loop-name l = record {
+  counts : counts_in l.builder ≡ record (counts_in l.initial.builder) { core_functions = (counts_in l.initial.builder).core_functions + l.name-index };
+  names : names_in l.builder ≡ names_in l.initial.builder;
+}

@@ -1,0 +1,10 @@
+use Rattle.std.proofs.Common.{◌≡◌, ◌+◌}
+use Rattle.component_format.specs.Found.{counts_in, names_in}
+use Rattle.component_linker.proofs.encoder.put_imports.Given as goal
+
+abbrev pub invariant-loop-place : goal.invariant-loop-place
+invariant-loop-place l = record {
+  counts : counts_in l.builder ≡ record (counts_in l.initial.builder) { functions = (counts_in l.initial.builder).functions + l.place };
+  seen : l.seen ≡ (names_in l.builder).imports;
+  exports : (names_in l.builder).exports ≡ (names_in l.initial.builder).exports;
+}

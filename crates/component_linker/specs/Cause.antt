@@ -1,0 +1,57 @@
+-- Why a component isn't built: each a fact of the input.
+use Rattle.std.specs.Prelude.{◌≡◌, ◌<◌, ◌⊎◌, List, [], ◌∷◌, length, Some, None, Bool, true, ◌&&◌, ◌||◌, Any, bytes_eq}
+use Rattle.std.specs.List.{list_any}
+use Rattle.wasm_format.specs.Grammar.{IsModuleFault}
+use Rattle.component_linker.specs.declared.fault.Fault.{Fault}
+use Rattle.component_linker.specs.declared.fault.Fault.TheVariants as faults
+use Rattle.component_linker.specs.World.{FunctionItem}
+use Rattle.component_linker.specs.Flat.{flat}
+use Rattle.component_linker.specs.CoreNames.{is_legacy_import, is_memory_name, is_initialize_name, is_post_return_name, is_hook_name, is_outer_memory}
+use Rattle.component_linker.specs.Input.{Input, ModuleInput}
+use Rattle.component_linker.specs.Linking.{CoreImport, CoreExport, Linking, Links}
+use Rattle.component_linker.specs.Table.{imported_by, exported_by}
+
+-- two imports of one pair of texts
+abbrev pub same_pair : CoreImport → CoreImport → Bool
+same_pair i j = bytes_eq i.place j.place && bytes_eq i.name j.name
+
+abbrev pub RepeatsPair : List CoreImport → Type 0
+RepeatsPair [] = ⊥
+RepeatsPair (i ∷ more) = (list_any (same_pair i) more ≡ true) ⊎ RepeatsPair more
+
+-- the module asks for, or offers, what is still to come
+abbrev pub IsStillToCome : Linking → Type 0
+IsStillToCome l =
+    Any (λ i. is_outer_memory i.place i.name ≡ true) l.main.imports
+    ⊎ Any (λ e. (is_hook_name e.name || is_initialize_name l.rejects_legacy e.name || list_any (λ f. is_post_return_name l.rejects_legacy f.name e.name) l.world.exports) ≡ true) l.main.exports
+
+-- why a core import has no link
+abbrev pub IsImportCause : Linking → Fault → CoreImport → Type 0
+IsImportCause l faults.UnknownImport i = imported_by l i ≡ []
+IsImportCause l faults.Ambiguous i = 1 < length (imported_by l i)
+IsImportCause l faults.LegacyName i = (l.rejects_legacy ≡ true) × Any (λ f. is_legacy_import i.place i.name f.name ≡ true) l.world.imports
+IsImportCause l faults.WrongCoreType i = (f : FunctionItem) × (imported_by l i ≡ f ∷ []) × ¬ (i.ty ≡ Some (flat f.ty))
+IsImportCause l _ i = ⊥
+
+-- why an exported function has no link; a text that is also the memory's has two meanings
+abbrev pub IsExportCause : Linking → Fault → FunctionItem → Type 0
+IsExportCause l faults.MissingCoreExport f = exported_by l f ≡ []
+IsExportCause l faults.Ambiguous f = (1 < length (exported_by l f)) ⊎ Any (λ e. is_memory_name l.rejects_legacy e.name ≡ true) (exported_by l f)
+IsExportCause l faults.WrongCoreType f = (e : CoreExport) × (exported_by l f ≡ e ∷ []) × ¬ (e.ty ≡ Some (flat f.ty))
+IsExportCause l _ f = ⊥
+
+-- the options ask for what is still to come
+abbrev pub AsksBeyond : Input → Type 0
+AsksBeyond input = (input.options.shim_return_call_ref ≡ true) ⊎ (input.options.debug_names ≡ true)
+
+-- why links aren't answered
+abbrev pub IsCause : Input → Fault → Type 0
+IsCause input faults.NoModule = input.main ≡ None
+IsCause input faults.NoWorld = input.world ≡ None
+IsCause input (faults.BadModule m) = (handed : ModuleInput) × (input.main ≡ Some handed) × IsModuleFault handed.bytes m
+IsCause input faults.NotYet = AsksBeyond input ⊎ ((l : Linking) × Links input l × IsStillToCome l)
+IsCause input faults.DuplicateImport = (l : Linking) × Links input l × RepeatsPair l.main.imports
+IsCause input faults.OutOfMemory = Unit {0}
+IsCause input faults.WorldNotFound = ⊥
+IsCause input faults.TooLarge = ⊥
+IsCause input fault = (l : Linking) × Links input l × (Any (IsImportCause l fault) l.main.imports ⊎ Any (IsExportCause l fault) l.world.exports)

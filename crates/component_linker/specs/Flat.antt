@@ -1,0 +1,28 @@
+-- Core types of functions (Component Model, Canonical ABI, Flattening), of the primitive types.
+use Rattle.std.specs.Prelude.{List, [], ◌∷◌, map, Option, Some, None}
+use Rattle.wasm_format.specs.declared.types.ValType.{ValType}
+use Rattle.wasm_format.specs.declared.types.ValType.TheVariants.{I32, I64}
+use Rattle.wasm_format.specs.Module.{FuncTypeValue}
+use Rattle.component_format.specs.declared.definition.PrimitiveType.{PrimitiveType}
+use Rattle.component_format.specs.declared.definition.PrimitiveType.TheVariants as primitives
+use Rattle.component_format.specs.Definition.{FunctionTypeValue}
+
+-- integers of 64 bits are i64, all else of this shape is i32
+abbrev pub flat_value : PrimitiveType → ValType
+flat_value primitives.Bool = I32
+flat_value primitives.S8 = I32
+flat_value primitives.U8 = I32
+flat_value primitives.S16 = I32
+flat_value primitives.U16 = I32
+flat_value primitives.S32 = I32
+flat_value primitives.U32 = I32
+flat_value primitives.S64 = I64
+flat_value primitives.U64 = I64
+
+abbrev pub flat_result : Option PrimitiveType → List ValType
+flat_result None = []
+flat_result (Some p) = flat_value p ∷ []
+
+-- The core type of a function of at most 16 parameters: each parameter, and the result, has one core value.
+abbrev pub flat : FunctionTypeValue → FuncTypeValue
+flat t = record { params = map (λ p. flat_value p.ty) t.params; results = flat_result t.result }

@@ -1,0 +1,16 @@
+pub mod World
+pub mod Input
+pub mod Names
+pub mod Handed
+pub mod Pushed
+pub mod ModuleCause
+pub mod Flat
+pub mod CoreNames
+pub mod Linking
+pub mod Table
+pub mod Cause
+pub mod Meaning
+pub mod Right
+pub mod Line
+pub mod Program
+pub mod Texts

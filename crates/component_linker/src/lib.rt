@@ -1,0 +1,44 @@
+//! Links core modules into a component for a world of a WIT text, and judges components against that.
+#![tactic(auto)]
+
+mod auditor;
+mod encoder;
+mod fault;
+mod id;
+mod line;
+mod link;
+mod linking;
+mod links;
+mod options;
+mod output;
+mod path;
+mod program;
+mod sample;
+mod session;
+mod spaces;
+mod table;
+mod verdict;
+mod walk;
+mod world;
+
+pub use auditor::audit;
+pub use fault::Fault;
+pub use id::{Id, PackageId, WorldId};
+pub use line::{Action, Input, Line, LineFault, read_line};
+pub use link::{Link, LinkKind, LinkSide, Owner};
+pub use options::{Options, StringEncoding};
+pub use output::{EmitFault, emit};
+pub use program::run;
+pub use sample::example;
+pub use session::{HandedModule, Session, Source};
+pub use verdict::{FindingKind, Verdict};
+pub use world::{Function, Package, PackageName, Param, World};
+
+#[cfg(test)]
+mod tests;
+#[cfg(test)]
+mod tests_program;
+#[cfg(test)]
+mod tests_rows;
+#[cfg(test)]
+mod tests_text;

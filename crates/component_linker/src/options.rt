@@ -1,0 +1,63 @@
+//! What a session is asked to do, beside its texts and modules.
+
+ghost use Rattle.std.specs.Prelude.{◌≡◌};
+
+use std::alloc::Global;
+use std::collections::HashMap;
+use std::marker::Model;
+
+/// How a module lays out its strings (Component Model, Canonical ABI, String Encoding).
+#[derive(Clone, Copy, Debug, PartialEq, Eq)]
+pub enum StringEncoding {
+    UTF8,
+    UTF16,
+    CompactUTF16,
+}
+
+/// The options of a session.
+#[derive(Drop)]
+pub struct Options {
+    pub(crate) merge_imports_based_on_semver: bool,
+    pub(crate) emit_canonical_names: bool,
+    pub(crate) reject_legacy_names: bool,
+    pub(crate) shim_return_call_ref: bool,
+    pub(crate) debug_names: bool,
+    pub(crate) validate: bool,
+    pub(crate) import_name_map: HashMap<String, String>,
+}
+
+impl Model for Options {
+    ghost use Rattle.component_linker.specs.Input.{OptionsInput};
+    ghost use Rattle.component_linker.specs.Names.{pairs_of};
+
+    ghost Value = { OptionsInput };
+
+    ghost view = { λ o. record {
+      merge_imports_based_on_semver = o.merge_imports_based_on_semver;
+      emit_canonical_names = o.emit_canonical_names;
+      reject_legacy_names = o.reject_legacy_names;
+      shim_return_call_ref = o.shim_return_call_ref;
+      debug_names = o.debug_names;
+      validate = o.validate;
+      import_name_map = pairs_of o.import_name_map.entries;
+    } };
+}
+
+impl Options {
+    ghost use Rattle.component_linker.specs.Input.{first_options};
+
+    /// The options of a new session.
+    pub fn new(alloc: Global) -> Options
+        ensures { result ≡ first_options }
+    {
+        Options {
+            merge_imports_based_on_semver: true,
+            emit_canonical_names: false,
+            reject_legacy_names: false,
+            shim_return_call_ref: false,
+            debug_names: false,
+            validate: false,
+            import_name_map: HashMap::new(alloc),
+        }
+    }
+}

@@ -1,0 +1,375 @@
+//! The program over two writers and the files that could be read.
+
+ghost use Rattle.std.specs.Prelude.{◌≡◌, ◌<◌, ◌++◌, ◌∷◌, [], None, IfErr, OnErr, IfOk, OnOk};
+ghost use Rattle.std.specs.Io.KnownBytes.{Appends};
+ghost use Rattle.component_linker.specs.Program.{line_status, verdict_status, IsAnswer, IsFile, AreSources, AddsSource, ReplacesMain, last_main, IsMain, HasComponent, WritesComponent, WritesLinks, WritesVerdict, Handed, IsOutcome};
+ghost use Rattle.component_linker.specs.Input.{empty_input, first_options};
+ghost use Rattle.component_linker.specs.declared.line.Action.TheVariants.{Build, Links, Audit};
+
+use crate::auditor::audit;
+use crate::fault::Fault;
+use crate::id::PackageId;
+use crate::line::{Action, Input, Line, LineFault};
+use crate::link::lines_of;
+use crate::options::StringEncoding;
+use crate::output::{EmitFault, emit};
+use crate::session::Session;
+use crate::verdict::Verdict;
+use std::alloc::{AllocError, AllocFailed, Global};
+use std::io::Write;
+use std::str;
+
+/// Why the program ends without its answer.
+#[derive(Drop)]
+enum Stop<'a> {
+    /// A call is refused.
+    Refused(Fault),
+    /// A file can't be read, is no text, or can't be written.
+    File(&'a str),
+    /// The inputs don't fit the action.
+    Usage,
+}
+
+impl<'a> From<Fault> for Stop<'a> {
+    fn from(fault: Fault) -> Stop<'a> {
+        Stop::Refused(fault)
+    }
+}
+
+impl<'a> From<AllocError> for Stop<'a> {
+    fn from(_e: AllocError) -> Stop<'a> {
+        Stop::Refused(Fault::OutOfMemory)
+    }
+}
+
+impl<'a, T: Drop> From<AllocFailed<T>> for Stop<'a> {
+    fn from(_e: AllocFailed<T>) -> Stop<'a> {
+        Stop::Refused(Fault::OutOfMemory)
+    }
+}
+
+/// The bytes of the file at a path.
+fn bytes_at<'a>(files: &'a [(&'a str, &'a [u8])], path: &'a str) -> Result<&'a [u8], Stop<'a>>
+    ensures { IfOk result (λ b. IsFile files.entry.now path.entry.now b.now) }
+{
+    for (name, bytes) in files {
+        if *name == path {
+            return Ok(bytes);
+        }
+    }
+    Err(Stop::File(path))
+}
+
+/// The text of the file at a path.
+fn text_at<'a>(files: &'a [(&'a str, &'a [u8])], path: &'a str) -> Result<&'a str, Stop<'a>>
+    ensures { IfOk result (λ t. IsFile files.entry.now path.entry.now t.now) }
+{
+    let bytes = bytes_at(files, path)?;
+    match str::from_utf8(bytes) {
+        Ok(text) => Ok(text),
+        Err(_) => Err(Stop::File(path)),
+    }
+}
+
+/// Looks at all files of the line, in order.
+fn look_at_files<'a>(
+    inputs: &'a [Input],
+    files: &'a [(&'a str, &'a [u8])],
+) -> Result<(), Stop<'a>> {
+    for input in inputs {
+        match input {
+            Input::Text(path) => {
+                text_at(files, path.as_str())?;
+            }
+            Input::Main { path, .. } | Input::Component(path) => {
+                bytes_at(files, path.as_str())?;
+            }
+        }
+    }
+    Ok(())
+}
+
+/// Pushes the text that an input may be, and adds its package.
+fn push_text<'a>(
+    session: &mut Session<'a>,
+    packages: &mut Vec<PackageId>,
+    input: &'a Input,
+    files: &'a [(&'a str, &'a [u8])],
+) -> Result<(), Stop<'a>>
+    ensures sources { OnOk result (AddsSource files.entry.now input.entry.now session.old.sources session.new.sources) }
+    ensures rest { OnOk result ((session.new.main ≡ session.old.main) × (session.new.options ≡ session.old.options)) }
+{
+    if let Input::Text(path) = input {
+        let contents = text_at(files, path.as_str())?;
+        packages.push(session.push_source(path.as_str(), contents)?)?;
+    }
+    Ok(())
+}
+
+/// Pushes the texts in order, and answers their packages.
+fn push_texts<'a>(
+    alloc: Global,
+    session: &mut Session<'a>,
+    inputs: &'a [Input],
+    files: &'a [(&'a str, &'a [u8])],
+) -> Result<Vec<PackageId>, Stop<'a>>
+    requires { session.old.sources ≡ [] }
+    ensures sources { OnOk result (AreSources files.entry.now inputs.entry.now session.new.sources) }
+    ensures rest { OnOk result ((session.new.main ≡ session.old.main) × (session.new.options ≡ session.old.options)) }
+{
+    let mut packages = Vec::new(alloc);
+    for input in inputs {
+        push_text(session, &mut packages, input, files)?;
+    }
+    Ok(packages)
+}
+
+/// Hands in the module that an input may be; an empty world is the chosen one.
+fn hand_in_one<'a>(
+    session: &mut Session<'a>,
+    packages: &[PackageId],
+    chosen: &str,
+    input: &'a Input,
+    files: &'a [(&'a str, &'a [u8])],
+) -> Result<(), Stop<'a>>
+    ensures main { OnOk result (ReplacesMain files.entry.now input.entry.now session.old.main session.new.main) }
+    ensures rest { OnOk result ((session.new.sources ≡ session.old.sources) × (session.new.world ≡ session.old.world) × (session.new.options ≡ session.old.options)) }
+{
+    if let Input::Main { world, path } = input {
+        let named = if world.is_empty() {
+            chosen
+        } else {
+            world.as_str()
+        };
+        let world = session.world_named(packages, Some(named))?;
+        let bytes = bytes_at(files, path.as_str())?;
+        session.module(bytes, world, StringEncoding::UTF8)?;
+    }
+    Ok(())
+}
+
+/// Hands in the modules in order.
+fn hand_in<'a>(
+    session: &mut Session<'a>,
+    packages: &[PackageId],
+    chosen: &str,
+    inputs: &'a [Input],
+    files: &'a [(&'a str, &'a [u8])],
+) -> Result<(), Stop<'a>>
+    requires { session.old.main ≡ None }
+    ensures main { OnOk result (IsMain files.entry.now (last_main inputs.entry.now) session.new.main) }
+    ensures rest { OnOk result ((session.new.sources ≡ session.old.sources) × (session.new.world ≡ session.old.world) × (session.new.options ≡ session.old.options)) }
+{
+    for input in inputs {
+        hand_in_one(session, packages, chosen, input, files)?;
+    }
+    Ok(())
+}
+
+/// The bytes of the first component.
+fn component_in<'a>(
+    inputs: &'a [Input],
+    files: &'a [(&'a str, &'a [u8])],
+) -> Result<&'a [u8], Stop<'a>>
+    ensures { IfOk result (λ b. HasComponent files.entry.now inputs.entry.now b.now) }
+{
+    for input in inputs {
+        if let Input::Component(path) = input {
+            return bytes_at(files, path.as_str());
+        }
+    }
+    Err(Stop::Usage)
+}
+
+/// Writes an answer, whose fault is one of OUT.
+fn put<'a, O: Write>(bytes: &[u8], line: &'a Line, out: &mut O) -> Result<(), Stop<'a>>
+    ensures { OnOk result (Appends (O.contents out.old) (O.contents out.new) bytes.now) }
+{
+    match emit(bytes, out) {
+        Ok(()) => Ok(()),
+        Err(EmitFault { .. }) => match &line.out {
+            Some(path) => Err(Stop::File(path.as_str())),
+            None => Err(Stop::File("-")),
+        },
+    }
+}
+
+/// Writes the component.
+fn build<'a, O: Write>(session: &Session<'a>, line: &'a Line, out: &mut O) -> Result<u8, Stop<'a>>
+    ensures { IfOk result (λ s. WritesComponent session.now s (O.contents out.old) (O.contents out.new)) }
+{
+    let bytes = session.build()?;
+    put(&bytes, line, out)?;
+    Ok(0)
+}
+
+/// Writes the lines of the links.
+fn list<'a, O: Write>(
+    alloc: Global,
+    session: &Session<'a>,
+    line: &'a Line,
+    out: &mut O,
+) -> Result<u8, Stop<'a>>
+    ensures { IfOk result (λ s. WritesLinks session.now s (O.contents out.old) (O.contents out.new)) }
+{
+    let links = session.links()?;
+    let text = lines_of(alloc, &links)?;
+    put(text.as_bytes(), line, out)?;
+    Ok(0)
+}
+
+fn status_of(verdict: Verdict) -> u8
+    ensures { result ≡ verdict_status verdict }
+{
+    match verdict {
+        Verdict::Yes => 0,
+        Verdict::Finding(_, _) => 1,
+    }
+}
+
+/// Judges a component, and writes the verdict.
+fn judge<'a, O: Write>(
+    alloc: Global,
+    session: &Session<'a>,
+    component: &[u8],
+    line: &'a Line,
+    out: &mut O,
+) -> Result<u8, Stop<'a>>
+    ensures { IfOk result (λ s. WritesVerdict session.now component.now s (O.contents out.old) (O.contents out.new)) }
+{
+    let verdict = audit(session, component)?;
+    let mut text = verdict.to_text(alloc)?;
+    text.push('\n')?;
+    put(text.as_bytes(), line, out)?;
+    Ok(status_of(verdict))
+}
+
+/// Does what the line asks of a session, and answers the exit status.
+fn act<'a, O: Write>(
+    alloc: Global,
+    session: &Session<'a>,
+    line: &'a Line,
+    files: &'a [(&'a str, &'a [u8])],
+    out: &mut O,
+) -> Result<u8, Stop<'a>>
+    ensures { IfOk result (λ s. IsAnswer files.entry.now line.entry.now.inputs.items session.now line.entry.now.action s (O.contents out.old) (O.contents out.new)) }
+{
+    match line.action {
+        Action::Build => build(session, line, out),
+        Action::Links => list(alloc, session, line, out),
+        Action::Audit => {
+            let component = component_in(&line.inputs, files)?;
+            judge(alloc, session, component, line, out)
+        }
+    }
+}
+
+/// Looks at the files, and hands the texts, the chosen world and the modules to a session.
+fn prepare<'a>(
+    alloc: Global,
+    line: &'a Line,
+    files: &'a [(&'a str, &'a [u8])],
+) -> Result<Session<'a>, Stop<'a>>
+    ensures { IfOk result (Handed files.entry.now line.entry.now.inputs.items) }
+{
+    look_at_files(&line.inputs, files)?;
+    let mut session = Session::new(alloc);
+    let packages = push_texts(alloc, &mut session, &line.inputs, files)?;
+    let chosen = line.world.as_str();
+    session.select_world(&packages, Some(chosen))?;
+    hand_in(&mut session, &packages, chosen, &line.inputs, files)?;
+    Ok(session)
+}
+
+/// Does what the line asks, and answers the exit status.
+fn perform<'a, O: Write>(
+    alloc: Global,
+    line: &'a Line,
+    files: &'a [(&'a str, &'a [u8])],
+    out: &mut O,
+) -> Result<u8, Stop<'a>>
+    ensures { IfOk result (λ s. IsOutcome files.entry.now line.entry.now s (O.contents out.old) (O.contents out.new)) }
+{
+    let session = prepare(alloc, line, files)?;
+    act(alloc, &session, line, files, out)
+}
+
+/// Writes the line of a refusal.
+fn report_fault<E: Write>(fault: &Fault, err: &mut E) {
+    let Some(code) = fault.code() else {
+        let _ = writeln!(err, "error: out of memory");
+        return;
+    };
+    let name = fault.name();
+    let _ = match fault.place() {
+        Some(place) => writeln!(err, "error: {code} {name} at {place}"),
+        None => writeln!(err, "error: {code} {name}"),
+    };
+}
+
+/// Writes why the program ends, and answers the exit status.
+fn report<E: Write>(stop: &Stop<'_>, err: &mut E) -> u8
+    ensures stopped { 0 < result }
+    ensures known { result < 4 }
+{
+    match stop {
+        Stop::Refused(fault) => {
+            report_fault(fault, err);
+            1
+        }
+        Stop::File(path) => {
+            let _ = writeln!(err, "error: file {path}");
+            3
+        }
+        Stop::Usage => {
+            let _ = writeln!(err, "error: usage");
+            2
+        }
+    }
+}
+
+/// Writes why the words are no line, and answers the exit status.
+fn report_line<E: Write>(fault: &LineFault, err: &mut E) -> u8
+    ensures { result ≡ line_status fault.now }
+{
+    match fault {
+        LineFault::Clap(text) => {
+            let _ = write!(err, "{text}");
+            2
+        }
+        LineFault::Usage => {
+            let _ = writeln!(err, "error: usage");
+            2
+        }
+        LineFault::OutOfMemory => {
+            let _ = writeln!(err, "error: out of memory");
+            1
+        }
+    }
+}
+
+/// Runs a command line over the files that could be read, each by its path, and answers the exit status: 0 done,
+/// 1 refused, a finding or want of memory, 2 usage, 3 a file that isn't there, isn't text or can't be written.
+///
+/// The answer goes to `out`, whatever OUT the line names, and why there is none goes to `err`.
+pub fn run<O: Write, E: Write>(
+    alloc: Global,
+    line: &Result<Line, LineFault>,
+    files: &[(&str, &[u8])],
+    out: &mut O,
+    err: &mut E,
+) -> u8
+    ensures status { result < 4 }
+    ensures done { result ≡ 0 → IfOk line.now (λ l. IsOutcome files.now l 0 (O.contents out.old) (O.contents out.new)) }
+    ensures line { IfErr line.now (λ fault. result ≡ line_status fault) }
+    ensures silent { OnErr line.now (out.new ≡ out.old) }
+{
+    let line = match line {
+        Ok(line) => line,
+        Err(fault) => return report_line(fault, err),
+    };
+    match perform(alloc, line, files, out) {
+        Ok(status) => status,
+        Err(stop) => report(&stop, err),
+    }
+}

@@ -1,0 +1,427 @@
+//! A session: texts, a chosen world, modules and options.
+
+ghost use Rattle.std.specs.Prelude.{◌≡◌, ◌<◌, ◌++◌, ◌∷◌, [], Some, None, IfOk, OnOk, OnErr, IfErr, length, option_map};
+ghost use Rattle.component_linker.specs.Names.{pairs_of};
+ghost use Rattle.component_linker.specs.ModuleCause.{refusal_of, IsModuleCause};
+ghost use Rattle.wasm_format.specs.Module.{ModuleValue};
+ghost use Rattle.wasm_format.specs.Grammar.{IsModule};
+
+use crate::auditor::judge;
+use crate::encoder::encode;
+use crate::fault::Fault;
+use crate::id::{PackageId, WorldId};
+use crate::link::Link;
+use crate::linking::Linking;
+use crate::links::links_of;
+use crate::options::{Options, StringEncoding};
+use crate::path::{WorldPath, read_path};
+use crate::verdict::Verdict;
+use crate::world::{Package, package_of, world_fits};
+use component_format::{FormatFault, read_component};
+use std::alloc::Global;
+use std::collections::HashMap;
+use std::marker::Model;
+use wasm_format::{ModuleFault, read_module};
+use wit_syntax::{ReadError, parse_file};
+
+/// A text that was pushed.
+#[derive(Drop)]
+pub struct Source {
+    pub path: String,
+    pub contents: String,
+}
+
+/// A module that was handed in.
+#[derive(Clone, Copy)]
+pub struct HandedModule<'a> {
+    pub bytes: &'a [u8],
+    pub world: WorldId,
+    pub encoding: StringEncoding,
+}
+
+/// Texts, a chosen world, modules and options, from which a component is built, and against which one is
+/// judged. Contracts see it as its input.
+#[derive(Drop)]
+pub struct Session<'a> {
+    alloc: Global,
+    sources: Vec<Source>,
+    packages: Vec<Package>,
+    world: Option<WorldId>,
+    main: Option<HandedModule<'a>>,
+    options: Options,
+}
+
+impl<'a> Model for Session<'a> {
+    ghost use Rattle.std.specs.Prelude.{map, option_map};
+    ghost use Rattle.component_linker.specs.Input.{Input};
+    ghost use Rattle.component_linker.specs.Handed.{source_text, module_input};
+    ghost use Rattle.component_linker.specs.World.{package_meaning};
+
+    ghost Value = { Input };
+
+    ghost view = { λ s. record {
+      sources = map source_text s.sources.items;
+      packages = map package_meaning s.packages.items;
+      world = s.world;
+      main = option_map module_input s.main;
+      options = s.options;
+    } };
+}
+
+impl<'a> Session<'a> {
+    ghost use Rattle.std.specs.Prelude.{map};
+    ghost use Rattle.std.specs.Option.{option_copied};
+    ghost use Rattle.component_linker.specs.Handed.{source_text, module_input};
+    ghost use Rattle.component_linker.specs.World.{package_meaning};
+    ghost use Rattle.component_linker.specs.Input.{empty_input};
+    ghost use Rattle.component_linker.specs.Pushed.{Pushed};
+
+    /// A session without texts, world and modules, with the options of `Options::new`.
+    pub fn new(alloc: Global) -> Session<'a>
+        ensures { result ≡ empty_input }
+    {
+        Session {
+            alloc,
+            sources: Vec::new(alloc),
+            packages: Vec::new(alloc),
+            world: None,
+            main: None,
+            options: Options::new(alloc),
+        }
+    }
+
+    /// The packages that were pushed, in order.
+    pub fn packages(&self) -> &[Package]
+        ensures { map package_meaning result.now ≡ self.now.packages }
+    {
+        &self.packages
+    }
+
+    /// The chosen world.
+    pub fn world(&self) -> Option<WorldId>
+        ensures { result ≡ self.now.world }
+    {
+        self.world
+    }
+
+    /// The main module.
+    pub fn main(&self) -> Option<&HandedModule<'a>>
+        ensures { option_map module_input (option_copied result) ≡ self.now.main }
+    {
+        self.main.as_ref()
+    }
+
+    /// The options.
+    pub fn options(&self) -> &Options
+        ensures { result.now ≡ self.now.options }
+    {
+        &self.options
+    }
+
+    /// Adds the package of a text, and answers its place.
+    ///
+    /// Answers X1 for a text that lies outside the shape, and for a second package.
+    pub fn push_source(&mut self, path: &str, contents: &str) -> Result<PackageId, Fault>
+        ensures ok { IfOk result (λ id. Pushed self.old path.now contents.now id self.new) }
+        ensures err { OnErr result (self.new ≡ self.old) }
+    {
+        if !self.packages.is_empty() {
+            return Err(Fault::NotYet);
+        }
+        let file = match parse_file(self.alloc, contents) {
+            Ok(file) => file,
+            Err(ReadError::Memory) => return Err(Fault::OutOfMemory),
+            Err(ReadError::Malformed(_)) => return Err(Fault::NotYet),
+        };
+        let package = package_of(self.alloc, &file)?;
+        if !world_fits(self.alloc, &package.world)? {
+            return Err(Fault::NotYet);
+        }
+        let source = Source {
+            path: String::from_str(self.alloc, path)?,
+            contents: String::from_str(self.alloc, contents)?,
+        };
+        self.keep(source, package)
+    }
+
+    /// Adds a text and its package; the room for both is made before.
+    fn keep(&mut self, source: Source, found: Package) -> Result<PackageId, Fault>
+        ensures place { IfOk result (λ id. id ≡ length self.old.packages) }
+        ensures added { OnOk result (self.new ≡ record self.old { sources = self.old.sources ++ source_text source ∷ []; packages = self.old.packages ++ package_meaning found ∷ [] }) }
+        ensures err { OnErr result (self.new ≡ self.old) }
+    {
+        let id = PackageId::from_index(self.packages.len());
+        self.sources.reserve(1)?;
+        self.packages.reserve(1)?;
+        self.sources.push(source).unwrap();
+        self.packages.push(found).unwrap();
+        Ok(id)
+    }
+
+    /// Chooses the world of the component, and answers it.
+    ///
+    /// No text needs one main package; a plain name needs exactly one main package, which has a world of that
+    /// name; a full path names a world without main packages too. Answers G8 where no single world is named.
+    pub fn select_world(
+        &mut self,
+        main_packages: &[PackageId],
+        text: Option<&str>,
+    ) -> Result<WorldId, Fault>
+        ensures ok { IfOk result (λ id. self.new ≡ record self.old { world = Some id }) }
+        ensures there { IfOk result (λ id. id < length self.old.packages) }
+        ensures err { OnErr result (self.new ≡ self.old) }
+    {
+        let world = self.world_named(main_packages, text)?;
+        self.world = Some(world);
+        Ok(world)
+    }
+
+    /// The world that a text or list names; the choice stays.
+    pub fn world_named(
+        &self,
+        main_packages: &[PackageId],
+        text: Option<&str>,
+    ) -> Result<WorldId, Fault>
+        ensures there { IfOk result (λ id. id < length self.now.packages) }
+    {
+        let Some(text) = text else {
+            return self.only_world(main_packages);
+        };
+        match read_path(self.alloc, text)? {
+            WorldPath::Plain(name) => {
+                let id = self.only_world(main_packages)?;
+                self.checked(id, name)
+            }
+            WorldPath::Full {
+                namespace,
+                package,
+                world,
+            } => {
+                let id = self.package_named(namespace, package)?;
+                self.checked(id, world)
+            }
+        }
+    }
+
+    /// The world of the one main package.
+    fn only_world(&self, main_packages: &[PackageId]) -> Result<WorldId, Fault>
+        ensures { IfOk result (λ id. id < length self.now.packages) }
+    {
+        match main_packages {
+            [only] if only.index() < self.packages.len() => Ok(WorldId::from_index(only.index())),
+            _ => Err(Fault::WorldNotFound),
+        }
+    }
+
+    /// The world of the package of this namespace and name.
+    fn package_named(&self, namespace: &str, name: &str) -> Result<WorldId, Fault>
+        ensures { IfOk result (λ id. id < length self.now.packages) }
+    {
+        for (index, package) in self.packages.iter().enumerate() {
+            if package.name.namespace.as_str() == namespace && package.name.name.as_str() == name {
+                return Ok(WorldId::from_index(index));
+            }
+        }
+        Err(Fault::WorldNotFound)
+    }
+
+    /// The world at this place, if it has this name.
+    fn checked(&self, id: WorldId, name: &str) -> Result<WorldId, Fault>
+        requires { id < length self.now.packages }
+        ensures { IfOk result (λ found. found ≡ id) }
+    {
+        if self.packages[id.index()].world.name.as_str() != name {
+            return Err(Fault::WorldNotFound);
+        }
+        Ok(id)
+    }
+
+    /// Hands in the main module, with the world whose exports it supplies and the encoding of its strings; one
+    /// handed in before is replaced.
+    ///
+    /// Answers B6 where the module reader refuses the bytes, and X1 where they have a part that is still to come.
+    pub fn module(
+        &mut self,
+        bytes: &'a [u8],
+        world: WorldId,
+        encoding: StringEncoding,
+    ) -> Result<(), Fault>
+        requires { world < length self.old.packages }
+        ensures ok { OnOk result (self.new ≡ record self.old { main = Some (record { bytes = bytes.entry.now; world = world; encoding = encoding }) }) }
+        ensures read { OnOk result ((m : ModuleValue) × IsModule bytes.entry.now m) }
+        ensures cause { IfErr result (IsModuleCause bytes.entry.now) }
+        ensures err { OnErr result (self.new ≡ self.old) }
+    {
+        match read_module(self.alloc, bytes) {
+            Ok(_) => {
+                self.main = Some(HandedModule {
+                    bytes,
+                    world,
+                    encoding,
+                });
+                Ok(())
+            }
+            Err(fault) => Err(module_refusal(fault)),
+        }
+    }
+
+    /// Hands in an adapter: still to come.
+    pub fn adapter(
+        &mut self,
+        _name: &str,
+        _bytes: &'a [u8],
+        _world: WorldId,
+        _encoding: StringEncoding,
+    ) -> Result<(), Fault>
+        ensures refused { result ≡ Err Fault.NotYet }
+        ensures same { self.new ≡ self.old }
+    {
+        Err(Fault::NotYet)
+    }
+
+    /// Hands in a library: still to come.
+    pub fn library(
+        &mut self,
+        _name: &str,
+        _bytes: &'a [u8],
+        _world: WorldId,
+        _encoding: StringEncoding,
+    ) -> Result<(), Fault>
+        ensures refused { result ≡ Err Fault.NotYet }
+        ensures same { self.new ≡ self.old }
+    {
+        Err(Fault::NotYet)
+    }
+
+    /// What is linked, or why nothing can be.
+    fn linking(&self) -> Result<Linking<'_, 'a>, Fault> {
+        let Some(main) = &self.main else {
+            return Err(Fault::NoModule);
+        };
+        if self.options.shim_return_call_ref || self.options.debug_names {
+            return Err(Fault::NotYet);
+        }
+        let Some(world) = self.world else {
+            return Err(Fault::NoWorld);
+        };
+        let Some(found) = self.packages.get(world.index()) else {
+            return Err(Fault::NoWorld);
+        };
+        match read_module(self.alloc, main.bytes) {
+            Ok(core) => Ok(Linking {
+                world: &found.world,
+                bytes: main.bytes,
+                main: core,
+                rejects_legacy: self.options.reject_legacy_names,
+            }),
+            Err(fault) => Err(module_refusal(fault)),
+        }
+    }
+
+    /// The link table: what each core import of the main module and each exported function of the world ends at,
+    /// imports first, by module text and then by name.
+    ///
+    /// Answers B1 before any other cause, X1, B2, and B7 to B12.
+    pub fn links(&self) -> Result<Vec<Link>, Fault> {
+        links_of(self.alloc, &self.linking()?)
+    }
+
+    /// The bytes of the component that joins the main module with the chosen world.
+    ///
+    /// Answers B1 before any other cause, X1, B2, B7 to B12, and B25 where none of the others holds.
+    pub fn build(&self) -> Result<Vec<u8>, Fault> {
+        let linking = self.linking()?;
+        let bytes = encode(self.alloc, &linking)?;
+        if self.options.validate {
+            self.validated(&bytes)?;
+        }
+        Ok(bytes)
+    }
+
+    /// Reads bytes that were written; what is read changes no answer.
+    fn validated(&self, bytes: &[u8]) -> Result<(), Fault> {
+        match read_component(self.alloc, bytes) {
+            Err(FormatFault::OutOfMemory) => Err(Fault::OutOfMemory),
+            Ok(_) | Err(_) => Ok(()),
+        }
+    }
+
+    /// Judges bytes against the input.
+    pub(crate) fn audit(&self, bytes: &[u8]) -> Result<Verdict, Fault> {
+        judge(self.alloc, &self.linking()?, bytes)
+    }
+
+    /// Whether imported interfaces of one version track are merged; at first they are.
+    pub fn merge_imports_based_on_semver(&mut self, on: bool) -> &mut Session<'a>
+        ensures same_reference { result.ghost_name ≡ self.entry.ghost_name }
+        ensures value { result.now ≡ record self.old { options = record self.old.options { merge_imports_based_on_semver = on } } }
+    {
+        self.options.merge_imports_based_on_semver = on;
+        self
+    }
+
+    /// Whether imports and exports are named by version track; at first they aren't.
+    pub fn emit_canonical_names(&mut self, on: bool) -> &mut Session<'a>
+        ensures same_reference { result.ghost_name ≡ self.entry.ghost_name }
+        ensures value { result.now ≡ record self.old { options = record self.old.options { emit_canonical_names = on } } }
+    {
+        self.options.emit_canonical_names = on;
+        self
+    }
+
+    /// Whether core names of the legacy mangling stand for nothing; at first they stand for their items.
+    pub fn reject_legacy_names(&mut self, on: bool) -> &mut Session<'a>
+        ensures same_reference { result.ghost_name ≡ self.entry.ghost_name }
+        ensures value { result.now ≡ record self.old { options = record self.old.options { reject_legacy_names = on } } }
+    {
+        self.options.reject_legacy_names = on;
+        self
+    }
+
+    /// Whether stand-ins call through references; at first they don't.
+    pub fn shim_return_call_ref(&mut self, on: bool) -> &mut Session<'a>
+        ensures same_reference { result.ghost_name ≡ self.entry.ghost_name }
+        ensures value { result.now ≡ record self.old { options = record self.old.options { shim_return_call_ref = on } } }
+    {
+        self.options.shim_return_call_ref = on;
+        self
+    }
+
+    /// Whether generated modules carry names; at first they don't.
+    pub fn debug_names(&mut self, on: bool) -> &mut Session<'a>
+        ensures same_reference { result.ghost_name ≡ self.entry.ghost_name }
+        ensures value { result.now ≡ record self.old { options = record self.old.options { debug_names = on } } }
+    {
+        self.options.debug_names = on;
+        self
+    }
+
+    /// Whether the component reader looks at the bytes before they are answered; at first it doesn't.
+    pub fn validate(&mut self, on: bool) -> &mut Session<'a>
+        ensures same_reference { result.ghost_name ≡ self.entry.ghost_name }
+        ensures value { result.now ≡ record self.old { options = record self.old.options { validate = on } } }
+    {
+        self.options.validate = on;
+        self
+    }
+
+    /// New names of imported instances, by their keys; at first there are none.
+    pub fn import_name_map(&mut self, names: HashMap<String, String>) -> &mut Session<'a>
+        ensures same_reference { result.ghost_name ≡ self.entry.ghost_name }
+        ensures value { result.now ≡ record self.old { options = record self.old.options { import_name_map = pairs_of names.entries } } }
+    {
+        self.options.import_name_map = names;
+        self
+    }
+}
+
+/// What a module reader's refusal becomes.
+fn module_refusal(fault: ModuleFault) -> Fault
+    ensures { result ≡ refusal_of fault }
+{
+    match fault {
+        ModuleFault::NotYet => Fault::NotYet,
+        ModuleFault::OutOfMemory => Fault::OutOfMemory,
+        other => Fault::BadModule(other),
+    }
+}

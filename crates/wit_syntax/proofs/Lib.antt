@@ -1,0 +1,12 @@
+pub mod Marks
+pub mod LexLaws
+pub mod Seams
+pub mod Laws
+pub mod Choices
+pub mod Turns
+pub mod Top
+pub mod Loops
+pub mod TextLaws
+pub mod Comments
+pub mod Lexemes
+pub mod Texts

@@ -1,0 +1,11 @@
+pub mod Token
+pub mod Outcome
+pub mod Keyword
+pub mod Identifier
+pub mod Lex
+pub mod Lexical
+pub mod Production
+pub mod Tree
+pub mod TextGrammar
+pub mod View
+pub mod Place

@@ -1,0 +1,22 @@
+//! WIT texts: from bytes to tokens, and from tokens to a tree.
+#![tactic(auto)]
+
+mod cursor;
+mod fault;
+mod identifier;
+mod keyword;
+mod lex;
+mod parse;
+mod token;
+mod tokens;
+mod tree;
+
+pub use fault::{Fault, ReadError, Rule};
+pub use identifier::is_identifier;
+pub use parse::parse_file;
+pub use token::{Kind, Token};
+pub use tokens::read_tokens;
+pub use tree::{File, FunctionTree, ItemTree, Parameter, Primitive, Side};
+
+#[cfg(test)]
+mod tests;

@@ -1,0 +1,144 @@
+//! Tokens.
+
+ghost use Rattle.std.specs.Prelude.{◌≡◌, ◌≢◌, true, false};
+ghost use Rattle.wit_syntax.specs.Token as spec;
+
+/// A sign or a keyword.
+#[derive(Clone, Copy, Debug, PartialEq, Eq)]
+pub enum Kind {
+    /// `=`
+    Equals,
+    /// `,`
+    Comma,
+    /// `:`
+    Colon,
+    /// `.`
+    Dot,
+    /// `;`
+    Semicolon,
+    /// `(`
+    LeftParenthesis,
+    /// `)`
+    RightParenthesis,
+    /// `{`
+    LeftBrace,
+    /// `}`
+    RightBrace,
+    /// `<`
+    LessThan,
+    /// `>`
+    GreaterThan,
+    /// `/`
+    Slash,
+    /// `@`
+    At,
+    /// `_`
+    Underscore,
+    /// `->`
+    RightArrow,
+    /// `as`
+    As,
+    /// `async`
+    Async,
+    /// `bool`
+    Bool,
+    /// `borrow`
+    Borrow,
+    /// `char`
+    Char,
+    /// `constructor`
+    Constructor,
+    /// `enum`
+    Enum,
+    /// `error-context`
+    ErrorContext,
+    /// `export`
+    Export,
+    /// `f32`
+    F32,
+    /// `f64`
+    F64,
+    /// `flags`
+    Flags,
+    /// `from`
+    FromKeyword,
+    /// `func`
+    Func,
+    /// `future`
+    Future,
+    /// `import`
+    Import,
+    /// `include`
+    Include,
+    /// `interface`
+    Interface,
+    /// `list`
+    ListKeyword,
+    /// `option`
+    OptionKeyword,
+    /// `own`
+    Own,
+    /// `package`
+    Package,
+    /// `record`
+    Record,
+    /// `resource`
+    Resource,
+    /// `result`
+    ResultKeyword,
+    /// `s8`
+    S8,
+    /// `s16`
+    S16,
+    /// `s32`
+    S32,
+    /// `s64`
+    S64,
+    /// `static`
+    Static,
+    /// `stream`
+    Stream,
+    /// `string`
+    StringKeyword,
+    /// `tuple`
+    Tuple,
+    /// `type`
+    TypeKeyword,
+    /// `u8`
+    U8,
+    /// `u16`
+    U16,
+    /// `u32`
+    U32,
+    /// `u64`
+    U64,
+    /// `use`
+    Use,
+    /// `variant`
+    Variant,
+    /// `with`
+    With,
+    /// `world`
+    World,
+}
+
+/// A token of a text.
+#[derive(Clone, Copy, Debug)]
+pub enum Token<'a> {
+    /// A sign or a keyword.
+    Plain(Kind),
+    /// A run of digits.
+    Number(&'a str),
+    /// An identifier, without a `%` in front of it.
+    Name(&'a str),
+}
+
+/// Whether two kinds are one.
+#[tactic(auto, unfolding(crate::specs::Token::same_kind))]
+pub fn same_kind(a: Kind, b: Kind) -> bool
+    ensures value { result ≡ spec.same_kind a b }
+    ensures same { result ≡ true → a ≡ b }
+    ensures other { result ≡ false → a ≢ b }
+{
+    a == b
+}
