@@ -8,3 +8,4 @@ pub mod Counting
 pub mod GrammarLaws
 pub mod Sections
 pub mod Loops
+pub mod OneList

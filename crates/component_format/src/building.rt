@@ -71,6 +71,7 @@ impl<'a> ComponentBuilder<'a> {
         ensures counts { OnOk result (counts_in self.new ≡ with_count (counts_in self.old) (kind_value kind.entry)) }
         ensures names { OnOk result (names_in self.new ≡ with_name (names_in self.old) (kind_value kind.entry)) }
         ensures index { IfOk result (λ i. i ≡ index_behind self.old (kind_value kind.entry)) }
+        ensures small { OnOk result ((fits (index_behind self.old (kind_value kind.entry)) && definition_fits (kind_value kind.entry)) ≡ true) }
         ensures err { OnErr result (self.new ≡ self.old) }
         ensures large { result ≡ Err BuildFault.TooLarge → (fits (index_behind self.old (kind_value kind.entry)) && definition_fits (kind_value kind.entry)) ≡ false }
     {
@@ -91,6 +92,7 @@ impl<'a> ComponentBuilder<'a> {
         ensures names { OnOk result (names_in self.new ≡ with_name (names_in self.old) (core_module_of bytes.entry.now)) }
         ensures index { IfOk result (λ i. i ≡ core_modules_in self.old) }
         ensures err { OnErr result (self.new ≡ self.old) }
+        ensures small { OnOk result (fits (core_modules_in self.old) ≡ true) }
         ensures large { result ≡ Err BuildFault.TooLarge → fits (core_modules_in self.old) ≡ false }
     {
         self.add(DefinitionKind::CoreModule(bytes))
@@ -110,6 +112,7 @@ impl<'a> ComponentBuilder<'a> {
         ensures names { OnOk result (names_in self.new ≡ with_name (names_in self.old) (instantiation_of core_module (map argument_value args.entry.items))) }
         ensures index { IfOk result (λ i. i ≡ core_instances_in self.old) }
         ensures err { OnErr result (self.new ≡ self.old) }
+        ensures small { OnOk result ((fits (core_instances_in self.old) && definition_fits (instantiation_of core_module (map argument_value args.entry.items))) ≡ true) }
         ensures large { result ≡ Err BuildFault.TooLarge → (fits (core_instances_in self.old) && definition_fits (instantiation_of core_module (map argument_value args.entry.items))) ≡ false }
     {
         self.add(DefinitionKind::CoreInstance {
@@ -130,6 +133,7 @@ impl<'a> ComponentBuilder<'a> {
         ensures names { OnOk result (names_in self.new ≡ with_name (names_in self.old) (inline_of (map inline_export_value exports.entry.items))) }
         ensures index { IfOk result (λ i. i ≡ core_instances_in self.old) }
         ensures err { OnErr result (self.new ≡ self.old) }
+        ensures small { OnOk result ((fits (core_instances_in self.old) && definition_fits (inline_of (map inline_export_value exports.entry.items))) ≡ true) }
         ensures large { result ≡ Err BuildFault.TooLarge → (fits (core_instances_in self.old) && definition_fits (inline_of (map inline_export_value exports.entry.items))) ≡ false }
     {
         self.add(DefinitionKind::InlineInstance(exports))
@@ -143,6 +147,7 @@ impl<'a> ComponentBuilder<'a> {
         ensures names { OnOk result (names_in self.new ≡ with_name (names_in self.old) (alias_of instance name.entry.now)) }
         ensures index { IfOk result (λ i. i ≡ core_functions_in self.old) }
         ensures err { OnErr result (self.new ≡ self.old) }
+        ensures small { OnOk result ((fits (core_functions_in self.old) && definition_fits (alias_of instance name.entry.now)) ≡ true) }
         ensures large { result ≡ Err BuildFault.TooLarge → (fits (core_functions_in self.old) && definition_fits (alias_of instance name.entry.now)) ≡ false }
     {
         self.add(DefinitionKind::CoreAlias { instance, name })
@@ -156,6 +161,7 @@ impl<'a> ComponentBuilder<'a> {
         ensures names { OnOk result (names_in self.new ≡ with_name (names_in self.old) (type_of (function_type_value ty.entry))) }
         ensures index { IfOk result (λ i. i ≡ types_in self.old) }
         ensures err { OnErr result (self.new ≡ self.old) }
+        ensures small { OnOk result ((fits (types_in self.old) && definition_fits (type_of (function_type_value ty.entry))) ≡ true) }
         ensures large { result ≡ Err BuildFault.TooLarge → (fits (types_in self.old) && definition_fits (type_of (function_type_value ty.entry))) ≡ false }
     {
         self.add(DefinitionKind::FunctionType(ty))
@@ -170,6 +176,7 @@ impl<'a> ComponentBuilder<'a> {
         ensures names { OnOk result (names_in self.new ≡ with_name (names_in self.old) (lift_of core_func ty)) }
         ensures index { IfOk result (λ i. i ≡ functions_in self.old) }
         ensures err { OnErr result (self.new ≡ self.old) }
+        ensures small { OnOk result (fits (functions_in self.old) ≡ true) }
         ensures large { result ≡ Err BuildFault.TooLarge → fits (functions_in self.old) ≡ false }
     {
         self.add(DefinitionKind::Lift { core_func, ty })
@@ -183,6 +190,7 @@ impl<'a> ComponentBuilder<'a> {
         ensures names { OnOk result (names_in self.new ≡ with_name (names_in self.old) (lower_of func)) }
         ensures index { IfOk result (λ i. i ≡ core_functions_in self.old) }
         ensures err { OnErr result (self.new ≡ self.old) }
+        ensures small { OnOk result (fits (core_functions_in self.old) ≡ true) }
         ensures large { result ≡ Err BuildFault.TooLarge → fits (core_functions_in self.old) ≡ false }
     {
         self.add(DefinitionKind::Lower { func })
@@ -197,6 +205,7 @@ impl<'a> ComponentBuilder<'a> {
         ensures names { OnOk result (names_in self.new ≡ with_name (names_in self.old) (import_of name.entry.now ty)) }
         ensures index { IfOk result (λ i. i ≡ functions_in self.old) }
         ensures err { OnErr result (self.new ≡ self.old) }
+        ensures small { OnOk result ((fits (functions_in self.old) && definition_fits (import_of name.entry.now ty)) ≡ true) }
         ensures large { result ≡ Err BuildFault.TooLarge → (fits (functions_in self.old) && definition_fits (import_of name.entry.now ty)) ≡ false }
     {
         self.add(DefinitionKind::Import { name, ty })
@@ -213,6 +222,7 @@ impl<'a> ComponentBuilder<'a> {
         ensures names { OnOk result (names_in self.new ≡ with_name (names_in self.old) (export_of name.entry.now func ty)) }
         ensures index { IfOk result (λ i. i ≡ functions_in self.old) }
         ensures err { OnErr result (self.new ≡ self.old) }
+        ensures small { OnOk result ((fits (functions_in self.old) && definition_fits (export_of name.entry.now func ty)) ≡ true) }
         ensures large { result ≡ Err BuildFault.TooLarge → (fits (functions_in self.old) && definition_fits (export_of name.entry.now func ty)) ≡ false }
     {
         self.add(DefinitionKind::Export { name, func, ty })
@@ -225,6 +235,7 @@ impl<'a> ComponentBuilder<'a> {
         ensures found { IfOk result (λ v. IsComponent v.items self.now) }
         ensures bytes { IfOk result (λ v. v.items ≡ component_bytes self.now) }
         // A component is too large only where 32 bits can't say the size of a section.
+        ensures small { OnOk result (sections_fit self.now ≡ true) }
         ensures large { result ≡ Err BuildFault.TooLarge → sections_fit self.now ≡ false }
     {
         write_component(alloc, &self.found.list)

@@ -6,6 +6,7 @@ mod component;
 mod definition;
 mod fault;
 mod found;
+mod laws;
 mod names;
 mod reading;
 mod section_writing;
@@ -18,6 +19,7 @@ pub use definition::{
     PrimitiveType, SectionId,
 };
 pub use fault::{BuildFault, FormatFault};
+pub use laws::{law_one_list, law_reading_what_was_built};
 pub use names::Names;
 
 #[cfg(test)]

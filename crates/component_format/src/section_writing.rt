@@ -102,6 +102,7 @@ pub fn write_component(alloc: Global, definitions: &[Definition]) -> Result<Vec<
     requires { AllCanWrite [] (definition_values definitions.now) }
     ensures bytes { IfOk result (λ v. v.items ≡ component_bytes (definition_values definitions.now)) }
     ensures found { IfOk result (λ v. IsComponent v.items (definition_values definitions.now)) }
+    ensures small { OnOk result (sections_fit (definition_values definitions.now) ≡ true) }
     ensures large { result ≡ Err BuildFault.TooLarge → sections_fit (definition_values definitions.now) ≡ false }
 {
     let mut content = Vec::new(alloc);

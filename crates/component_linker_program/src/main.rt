@@ -1,6 +1,8 @@
 //! The program `component_linker`: its words, files and streams.
 #![tactic(auto)]
 
+ghost use Rattle.std.specs.Prelude.{◌<◌};
+
 use component_linker::{Input, Line, LineFault, example, read_line, run};
 use std::alloc::Global;
 use std::io::{ErrorKind, Write};
@@ -90,7 +92,9 @@ fn run_to_file<R: Files + AllocGlobal, E: Write>(
     files: &[(&str, &[u8])],
     path: &str,
     err: &mut E,
-) -> u8 {
+) -> u8
+    ensures status { result < 4 }
+{
     let mut out = OutFile {
         rt,
         path,

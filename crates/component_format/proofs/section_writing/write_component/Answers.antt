@@ -57,3 +57,8 @@ returns-clause-found c =
     let ds = c.args.definitions.now in
     let all = runs_done (definition_values ds) c.loop-at.out.items c.loop-at.at c.loop-at.invariant (omega (arith, length-map ds definition_value)) in
     subst (λ s. IsComponent s (definition_values ds)) (sym all.bytes) (component_spelled (definition_values ds) c.requires all.typed all.small)
+
+pub returns-clause-small : goal.returns-clause-small
+returns-clause-small c =
+    let all = runs_done (definition_values c.args.definitions.now) c.loop-at.out.items c.loop-at.at c.loop-at.invariant (omega (arith, length-map c.args.definitions.now definition_value)) in
+    all.small

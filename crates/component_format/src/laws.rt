@@ -1,0 +1,29 @@
+//! Laws of the public calls.
+
+ghost use Rattle.std.specs.Prelude.{◌≡◌, ℕ, List, MatchResult};
+ghost use Rattle.component_format.specs.Grammar.{IsComponent};
+ghost use Rattle.component_format.specs.Definition.{DefinitionValue, definition_values};
+
+use crate::building::ComponentBuilder;
+use crate::component::{Component, read_component};
+use crate::fault::FormatFault;
+use std::alloc::Global;
+
+/// Bytes have at most one list of definitions.
+pub fn law_one_list()
+    ensures { (bytes : List ℕ) (ds es : List DefinitionValue) → IsComponent bytes ds → IsComponent bytes es → ds ≡ es }
+{}
+
+/// Reading what was built gives what was added, want of memory aside: `ComponentBuilder::finish` answers bytes that
+/// meet the `requires`.
+pub fn law_reading_what_was_built<'b>(
+    alloc: Global,
+    builder: &ComponentBuilder,
+    bytes: &'b [u8],
+) -> Result<Component<'b>, FormatFault>
+    requires { IsComponent bytes.now builder.now }
+    ensures { MatchResult result (λ c. definition_values c.definitions.items ≡ builder.now) (λ e. e ≡ FormatFault.OutOfMemory) }
+{
+    let _builder = builder;
+    read_component(alloc, bytes)
+}
