@@ -1,13 +1,14 @@
--- Why a component isn't built: each a fact of the input.
+-- Why links aren't answered, and a component isn't built: each a fact of the input. B25, which speaks of the bytes to
+-- be written, isn't defined yet: links are never refused for it.
 use Rattle.std.specs.Prelude.{◌≡◌, ◌<◌, ◌⊎◌, List, [], ◌∷◌, length, Some, None, Bool, true, ◌&&◌, ◌||◌, Any, bytes_eq}
 use Rattle.std.specs.List.{list_any}
-use Rattle.wasm_format.specs.Grammar.{IsModuleFault}
 use Rattle.component_linker.specs.declared.fault.Fault.{Fault}
 use Rattle.component_linker.specs.declared.fault.Fault.TheVariants as faults
 use Rattle.component_linker.specs.World.{FunctionItem}
 use Rattle.component_linker.specs.Flat.{flat}
 use Rattle.component_linker.specs.CoreNames.{is_legacy_import, is_memory_name, is_initialize_name, is_post_return_name, is_hook_name, is_outer_memory}
 use Rattle.component_linker.specs.Input.{Input, ModuleInput}
+use Rattle.component_linker.specs.ModuleCause.{IsModuleCause}
 use Rattle.component_linker.specs.Linking.{CoreImport, CoreExport, Linking, Links}
 use Rattle.component_linker.specs.Table.{imported_by, exported_by}
 
@@ -48,7 +49,7 @@ AsksBeyond input = (input.options.shim_return_call_ref ≡ true) ⊎ (input.opti
 abbrev pub IsCause : Input → Fault → Type 0
 IsCause input faults.NoModule = input.main ≡ None
 IsCause input faults.NoWorld = input.world ≡ None
-IsCause input (faults.BadModule m) = (handed : ModuleInput) × (input.main ≡ Some handed) × IsModuleFault handed.bytes m
+IsCause input (faults.BadModule m) = (handed : ModuleInput) × (input.main ≡ Some handed) × IsModuleCause handed.bytes (faults.BadModule m)
 IsCause input faults.NotYet = AsksBeyond input ⊎ ((l : Linking) × Links input l × IsStillToCome l)
 IsCause input faults.DuplicateImport = (l : Linking) × Links input l × RepeatsPair l.main.imports
 IsCause input faults.OutOfMemory = Unit {0}

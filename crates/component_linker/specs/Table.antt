@@ -1,9 +1,9 @@
 -- The link table: what each core import and each exported function ends at.
-use Rattle.std.specs.Prelude.{◌≡◌, List, [], ◌∷◌, filter, Some, Bool}
+use Rattle.std.specs.Prelude.{◌≡◌, List, [], ◌∷◌, filter, Some, Bool, false}
 use Rattle.std.specs.List.{AllByRecursion as Each, list_any}
 use Rattle.component_linker.specs.World.{FunctionItem}
 use Rattle.component_linker.specs.Flat.{flat}
-use Rattle.component_linker.specs.CoreNames.{is_import_name, is_export_name}
+use Rattle.component_linker.specs.CoreNames.{is_import_name, is_export_name, is_memory_name}
 use Rattle.component_linker.specs.Linking.{CoreImport, CoreExport, Linking}
 
 -- the functions that a core import may stand for
@@ -19,9 +19,10 @@ pub record ImportLink (l : Linking) (i : CoreImport) (f : FunctionItem) : Type 0
   pub only : imported_by l i ≡ f ∷ []
   pub matches : i.ty ≡ Some (flat f.ty)
 
--- this exported function is linked to this core export
+-- this exported function is linked to this core export, whose text isn't the memory's too
 pub record ExportLink (l : Linking) (f : FunctionItem) (e : CoreExport) : Type 0 where
   pub only : exported_by l f ≡ e ∷ []
+  pub one_meaning : is_memory_name l.rejects_legacy e.name ≡ false
   pub matches : e.ty ≡ Some (flat f.ty)
 
 -- each has its link
