@@ -178,6 +178,15 @@ index_behind so_far (lower_of func) = core_functions_in so_far
 index_behind so_far (import_of name ty) = functions_in so_far
 index_behind so_far (export_of name func ty) = functions_in so_far
 
+-- each takes an index of 32 bits, behind those before it, and says its own counts and names in 32 bits
+abbrev pub all_fit : List DefinitionValue → List DefinitionValue → Bool
+all_fit so_far [] = true
+all_fit so_far (d ∷ ds) = (fits (index_behind so_far d) && definition_fits d) && all_fit (so_far ++ d ∷ []) ds
+
+-- 32 bits can say every index, count and size of the component
+unfoldable pub component_fits : List DefinitionValue → Bool
+component_fits ds = all_fit [] ds && sections_fit ds
+
 abbrev pub IsText : List ℕ → Type 0
 IsText name = is_utf8 name ≡ true
 

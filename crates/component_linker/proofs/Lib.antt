@@ -1,3 +1,5 @@
 pub mod Naming
 pub mod Results
 pub mod Simple
+pub mod Choice
+pub mod Shape

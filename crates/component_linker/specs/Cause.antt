@@ -1,6 +1,5 @@
--- Why links aren't answered, and a component isn't built: each a fact of the input. B25, which speaks of the bytes to
--- be written, isn't defined yet: links are never refused for it.
-use Rattle.std.specs.Prelude.{◌≡◌, ◌<◌, ◌⊎◌, List, [], ◌∷◌, length, Some, None, Bool, true, ◌&&◌, ◌||◌, Any, bytes_eq}
+-- Why links aren't answered, and a component isn't built: each a fact of the input.
+use Rattle.std.specs.Prelude.{◌≡◌, ◌<◌, ◌⊎◌, List, [], ◌∷◌, length, Some, None, Bool, true, false, ◌&&◌, ◌||◌, Any, bytes_eq}
 use Rattle.std.specs.List.{list_any}
 use Rattle.component_linker.specs.declared.fault.Fault.{Fault}
 use Rattle.component_linker.specs.declared.fault.Fault.TheVariants as faults
@@ -10,7 +9,9 @@ use Rattle.component_linker.specs.CoreNames.{is_legacy_import, is_memory_name, i
 use Rattle.component_linker.specs.Input.{Input, ModuleInput}
 use Rattle.component_linker.specs.ModuleCause.{IsModuleCause}
 use Rattle.component_linker.specs.Linking.{CoreImport, CoreExport, Linking, Links}
-use Rattle.component_linker.specs.Table.{imported_by, exported_by}
+use Rattle.component_format.specs.Spelling.{component_fits}
+use Rattle.component_linker.specs.Table.{imported_by, exported_by, IsLinked}
+use Rattle.component_linker.specs.Component.{component_of}
 
 -- two imports of one pair of texts
 abbrev pub same_pair : CoreImport → CoreImport → Bool
@@ -56,3 +57,18 @@ IsCause input faults.OutOfMemory = Unit {0}
 IsCause input faults.WorldNotFound = ⊥
 IsCause input faults.TooLarge = ⊥
 IsCause input fault = (l : Linking) × Links input l × (Any (IsImportCause l fault) l.main.imports ⊎ Any (IsExportCause l fault) l.world.exports)
+
+-- ---- why a component isn't built: what links are refused for, or its size where nothing else is in the way
+
+-- every link is there, and nothing is asked for that is still to come
+pub record IsBuildable (input : Input) (l : Linking) : Type 0 where
+  pub links_input : Links input l
+  pub plain_options : ¬ AsksBeyond input
+  pub plain_names : ¬ IsStillToCome l
+  pub distinct : ¬ RepeatsPair l.main.imports
+  pub linked : IsLinked l
+
+-- TooLarge: an index, a count or a size of the component that is to be written has more than 32 bits
+abbrev pub IsBuildCause : Input → Fault → Type 0
+IsBuildCause input faults.TooLarge = (l : Linking) × IsBuildable input l × (component_fits (component_of l) ≡ false)
+IsBuildCause input fault = IsCause input fault

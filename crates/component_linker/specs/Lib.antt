@@ -1,6 +1,7 @@
 pub mod World
 pub mod Input
 pub mod Names
+pub mod Choice
 pub mod Handed
 pub mod Pushed
 pub mod ModuleCause
@@ -8,6 +9,7 @@ pub mod Flat
 pub mod CoreNames
 pub mod Linking
 pub mod Table
+pub mod Component
 pub mod Cause
 pub mod Meaning
 pub mod Right

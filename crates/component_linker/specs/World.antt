@@ -1,7 +1,7 @@
 -- The world meaning of a text: what the chosen world imports and exports, and each function's type
 -- (WIT, Packages, Worlds).
-use Rattle.std.specs.Prelude.{◌≡◌, ℕ, ◌≤◌, Bool, true, false, List, [], map, filter, length, option_map, string_bytes}
-use Rattle.std.specs.List.{AllByRecursion as Each}
+use Rattle.std.specs.Prelude.{ℕ, nat_le, Bool, true, false, ◌&&◌, List, [], map, filter, length, option_map, string_bytes}
+use Rattle.std.specs.List.{list_all}
 use Rattle.std.specs.Char.{to_ascii_lowercase}
 use Rattle.component_format.specs.declared.definition.PrimitiveType.{PrimitiveType}
 use Rattle.component_format.specs.declared.definition.PrimitiveType.TheVariants as primitives
@@ -92,15 +92,21 @@ package_of d = record { namespace = d.namespace; name = d.name; world = world_of
 abbrev pub name_key : List ℕ → List ℕ
 name_key name = map to_ascii_lowercase name
 
-abbrev pub AreDistinct : List (List ℕ) → Type 0
-AreDistinct names = all_new [] (map name_key names) ≡ true
+-- each name's key, of functions
+abbrev pub function_keys : List FunctionItem → List (List ℕ)
+function_keys fs = map (λ f. name_key f.name) fs
 
-abbrev pub FunctionFits : FunctionItem → Type 0
-FunctionFits f = (length f.ty.params ≤ 16) × AreDistinct (map (λ p. p.name) f.ty.params)
+-- and of parameters
+abbrev pub parameter_keys : List ParameterValue → List (List ℕ)
+parameter_keys ps = map (λ p. name_key p.name) ps
 
--- at most 16 parameters a function, and no two names of a scope alike
-pub record WorldFits (w : WorldMeaning) : Type 0 where
-  pub imports : Each FunctionFits w.imports
-  pub exports : Each FunctionFits w.exports
-  pub import_names : AreDistinct (map (λ f. f.name) w.imports)
-  pub export_names : AreDistinct (map (λ f. f.name) w.exports)
+-- at most 16 parameters, no two alike
+abbrev pub function_fits : FunctionItem → Bool
+function_fits f = nat_le (length f.ty.params) 16 && all_new [] (parameter_keys f.ty.params)
+
+abbrev pub functions_fit : List FunctionItem → Bool
+functions_fit fs = list_all function_fits fs && all_new [] (function_keys fs)
+
+-- at most 16 parameters a function, and no two names of a scope alike: imports, exports, parameters
+abbrev pub world_fits : WorldMeaning → Bool
+world_fits w = functions_fit w.imports && functions_fit w.exports

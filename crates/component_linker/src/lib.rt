@@ -11,7 +11,6 @@ mod linking;
 mod links;
 mod options;
 mod output;
-mod path;
 mod program;
 mod sample;
 mod session;

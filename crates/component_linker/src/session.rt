@@ -1,6 +1,10 @@
 //! A session: texts, a chosen world, modules and options.
 
-ghost use Rattle.std.specs.Prelude.{◌≡◌, ◌<◌, ◌++◌, ◌∷◌, [], Some, None, IfOk, OnOk, OnErr, IfErr, length, option_map};
+ghost use Rattle.std.specs.Prelude.{◌≡◌, ℕ, ◌<◌, ◌⊎◌, ◌++◌, ◌∷◌, [], Some, None, IfOk, OnOk, OnErr, IfErr, IfSome, MatchResult, length, option_map};
+ghost use Rattle.std.specs.List.{position_from};
+ghost use Rattle.component_linker.specs.Choice as choice;
+ghost use Rattle.component_linker.specs.Choice.{NamesWorld};
+ghost use Rattle.wit_syntax.specs.View as tree;
 ghost use Rattle.component_linker.specs.Names.{pairs_of};
 ghost use Rattle.component_linker.specs.ModuleCause.{refusal_of, IsModuleCause};
 ghost use Rattle.wasm_format.specs.Module.{ModuleValue};
@@ -14,15 +18,14 @@ use crate::link::Link;
 use crate::linking::Linking;
 use crate::links::links_of;
 use crate::options::{Options, StringEncoding};
-use crate::path::{WorldPath, read_path};
 use crate::verdict::Verdict;
-use crate::world::{Package, package_of, world_fits};
+use crate::world::{Package, read_package};
 use component_format::{FormatFault, read_component};
 use std::alloc::Global;
 use std::collections::HashMap;
 use std::marker::Model;
 use wasm_format::{ModuleFault, read_module};
-use wit_syntax::{ReadError, parse_file};
+use wit_syntax::{ReadError, UsePath, parse_use_path};
 
 /// A text that was pushed.
 #[derive(Drop)]
@@ -74,7 +77,8 @@ impl<'a> Session<'a> {
     ghost use Rattle.component_linker.specs.Handed.{source_text, module_input};
     ghost use Rattle.component_linker.specs.World.{package_meaning};
     ghost use Rattle.component_linker.specs.Input.{empty_input};
-    ghost use Rattle.component_linker.specs.Pushed.{Pushed};
+    ghost use Rattle.component_linker.specs.Pushed.{CanPush, Pushed};
+    ghost use Rattle.wit_syntax.specs.Tree.{FileTree};
 
     /// A session without texts, world and modules, with the options of `Options::new`.
     pub fn new(alloc: Global) -> Session<'a>
@@ -123,20 +127,14 @@ impl<'a> Session<'a> {
     /// Answers X1 for a text that lies outside the shape, and for a second package.
     pub fn push_source(&mut self, path: &str, contents: &str) -> Result<PackageId, Fault>
         ensures ok { IfOk result (λ id. Pushed self.old path.now contents.now id self.new) }
+        ensures only { (tree : FileTree) → CanPush self.old contents.now tree → MatchResult result (λ id. id ≡ 0) (λ e. e ≡ Fault.OutOfMemory) }
+        ensures cause { IfErr result (λ e. (e ≡ Fault.OutOfMemory) ⊎ (e ≡ Fault.NotYet)) }
         ensures err { OnErr result (self.new ≡ self.old) }
     {
         if !self.packages.is_empty() {
             return Err(Fault::NotYet);
         }
-        let file = match parse_file(self.alloc, contents) {
-            Ok(file) => file,
-            Err(ReadError::Memory) => return Err(Fault::OutOfMemory),
-            Err(ReadError::Malformed(_)) => return Err(Fault::NotYet),
-        };
-        let package = package_of(self.alloc, &file)?;
-        if !world_fits(self.alloc, &package.world)? {
-            return Err(Fault::NotYet);
-        }
+        let package = read_package(self.alloc, contents)?;
         let source = Source {
             path: String::from_str(self.alloc, path)?,
             contents: String::from_str(self.alloc, contents)?,
@@ -147,6 +145,7 @@ impl<'a> Session<'a> {
     /// Adds a text and its package; the room for both is made before.
     fn keep(&mut self, source: Source, found: Package) -> Result<PackageId, Fault>
         ensures place { IfOk result (λ id. id ≡ length self.old.packages) }
+        ensures memory { IfErr result (λ e. e ≡ Fault.OutOfMemory) }
         ensures added { OnOk result (self.new ≡ record self.old { sources = self.old.sources ++ source_text source ∷ []; packages = self.old.packages ++ package_meaning found ∷ [] }) }
         ensures err { OnErr result (self.new ≡ self.old) }
     {
@@ -161,13 +160,16 @@ impl<'a> Session<'a> {
     /// Chooses the world of the component, and answers it.
     ///
     /// No text needs one main package; a plain name needs exactly one main package, which has a world of that
-    /// name; a full path names a world without main packages too. Answers G8 where no single world is named.
+    /// name; a full path names a world without main packages too. Answers G8 where none is named.
     pub fn select_world(
         &mut self,
         main_packages: &[PackageId],
         text: Option<&str>,
     ) -> Result<WorldId, Fault>
         ensures ok { IfOk result (λ id. self.new ≡ record self.old { world = Some id }) }
+        ensures named { IfOk result (NamesWorld self.old main_packages.now (option_map (λ t. t.now) text.entry)) }
+        ensures only { (k : ℕ) → NamesWorld self.old main_packages.now (option_map (λ t. t.now) text.entry) k → MatchResult result (λ id. id ≡ k) (λ e. e ≡ Fault.OutOfMemory) }
+        ensures cause { IfErr result (λ e. (e ≡ Fault.OutOfMemory) ⊎ (e ≡ Fault.WorldNotFound)) }
         ensures there { IfOk result (λ id. id < length self.old.packages) }
         ensures err { OnErr result (self.new ≡ self.old) }
     {
@@ -177,63 +179,90 @@ impl<'a> Session<'a> {
     }
 
     /// The world that a text or list names; the choice stays.
+    ///
+    /// Answers G8 where none is named.
+    #[tactic(auto, using(crate::proofs::Choice::world_there))]
     pub fn world_named(
         &self,
         main_packages: &[PackageId],
         text: Option<&str>,
     ) -> Result<WorldId, Fault>
+        ensures named { IfOk result (NamesWorld self.now main_packages.now (option_map (λ t. t.now) text.entry)) }
+        ensures only { (k : ℕ) → NamesWorld self.now main_packages.now (option_map (λ t. t.now) text.entry) k → MatchResult result (λ id. id ≡ k) (λ e. e ≡ Fault.OutOfMemory) }
+        ensures cause { IfErr result (λ e. (e ≡ Fault.OutOfMemory) ⊎ (e ≡ Fault.WorldNotFound)) }
         ensures there { IfOk result (λ id. id < length self.now.packages) }
     {
+        match self.named(main_packages, text)? {
+            Some(id) => Ok(id),
+            None => Err(Fault::WorldNotFound),
+        }
+    }
+
+    /// The world that a text or list names, if one is.
+    fn named(
+        &self,
+        main_packages: &[PackageId],
+        text: Option<&str>,
+    ) -> Result<Option<WorldId>, Fault>
+        ensures named { IfOk result (λ o. IfSome o (NamesWorld self.now main_packages.now (option_map (λ t. t.now) text.entry))) }
+        ensures only { (k : ℕ) → NamesWorld self.now main_packages.now (option_map (λ t. t.now) text.entry) k → IfOk result (λ o. o ≡ Some k) }
+        ensures memory { IfErr result (λ e. e ≡ Fault.OutOfMemory) }
+    {
         let Some(text) = text else {
-            return self.only_world(main_packages);
+            return Ok(self.main_world(main_packages));
         };
-        match read_path(self.alloc, text)? {
-            WorldPath::Plain(name) => {
-                let id = self.only_world(main_packages)?;
-                self.checked(id, name)
-            }
-            WorldPath::Full {
+        match parse_use_path(self.alloc, text) {
+            Ok(path) => Ok(self.world_of_path(main_packages, path)),
+            Err(ReadError::Memory) => Err(Fault::OutOfMemory),
+            Err(ReadError::Malformed(_)) => Ok(None),
+        }
+    }
+
+    /// The world that a path names.
+    fn world_of_path(&self, main_packages: &[PackageId], path: UsePath) -> Option<WorldId>
+        ensures { result ≡ choice.world_of_path self.now main_packages.now (tree.use_path path.entry) }
+    {
+        match path {
+            UsePath::Id(name) => self.if_named(name, self.main_world(main_packages)?),
+            UsePath::Package {
                 namespace,
                 package,
-                world,
-            } => {
-                let id = self.package_named(namespace, package)?;
-                self.checked(id, world)
-            }
+                name,
+            } => self.if_named(name, self.package_named(namespace, package)?),
         }
     }
 
     /// The world of the one main package.
-    fn only_world(&self, main_packages: &[PackageId]) -> Result<WorldId, Fault>
-        ensures { IfOk result (λ id. id < length self.now.packages) }
+    fn main_world(&self, main_packages: &[PackageId]) -> Option<WorldId>
+        ensures { result ≡ choice.main_world self.now main_packages.now }
     {
         match main_packages {
-            [only] if only.index() < self.packages.len() => Ok(WorldId::from_index(only.index())),
-            _ => Err(Fault::WorldNotFound),
+            [only] if only.index() < self.packages.len() => Some(WorldId::from_index(only.index())),
+            _ => None,
         }
     }
 
-    /// The world of the package of this namespace and name.
-    fn package_named(&self, namespace: &str, name: &str) -> Result<WorldId, Fault>
-        ensures { IfOk result (λ id. id < length self.now.packages) }
+    /// The world of the first package of this namespace and name.
+    fn package_named(&self, namespace: &str, name: &str) -> Option<WorldId>
+        ensures { result ≡ position_from (choice.is_package namespace.now name.now) 0 self.now.packages }
     {
         for (index, package) in self.packages.iter().enumerate() {
             if package.name.namespace.as_str() == namespace && package.name.name.as_str() == name {
-                return Ok(WorldId::from_index(index));
+                return Some(WorldId::from_index(index));
             }
         }
-        Err(Fault::WorldNotFound)
+        None
     }
 
-    /// The world at this place, if it has this name.
-    fn checked(&self, id: WorldId, name: &str) -> Result<WorldId, Fault>
-        requires { id < length self.now.packages }
-        ensures { IfOk result (λ found. found ≡ id) }
+    /// The world at a place, if it has this name.
+    fn if_named(&self, name: &str, id: WorldId) -> Option<WorldId>
+        ensures { result ≡ choice.if_named self.now name.now id }
     {
-        if self.packages[id.index()].world.name.as_str() != name {
-            return Err(Fault::WorldNotFound);
+        let package = self.packages.get(id.index())?;
+        if package.world.name.as_str() != name {
+            return None;
         }
-        Ok(id)
+        Some(id)
     }
 
     /// Hands in the main module, with the world whose exports it supplies and the encoding of its strings; one

@@ -1,13 +1,17 @@
 //! Packages and their worlds.
 
-ghost use Rattle.std.specs.Prelude.{◌≡◌, ◌≤◌, map, filter_map, string_bytes, IfOk, OnOk, option_map, length};
+ghost use Rattle.std.specs.Prelude.{◌≡◌, ◌⊎◌, [], map, string_bytes, IfOk, IfErr, MatchResult, option_map};
+ghost use Rattle.component_linker.specs.Pushed.{IsInShape};
+ghost use Rattle.wit_syntax.specs.Tree.{FileTree};
+ghost use Rattle.std.specs.List.{list_all};
+ghost use Rattle.component_format.specs.Names.{all_new};
 ghost use Rattle.component_linker.specs.World as spec;
 ghost use Rattle.wit_syntax.specs.View as tree;
 
-use component_format::PrimitiveType;
-use indexmap::IndexSet;
+use crate::fault::Fault;
+use component_format::{Names, PrimitiveType};
 use std::alloc::{AllocError, Global};
-use wit_syntax::{File, FunctionTree, ItemTree, Parameter, Primitive, Side};
+use wit_syntax::{File, FunctionTree, ItemTree, Parameter, Primitive, ReadError, Side, parse_file};
 
 /// A parameter of a function.
 #[derive(Debug, Drop)]
@@ -139,40 +143,57 @@ pub fn package_of(alloc: Global, file: &File) -> Result<Package, AllocError>
 /// The most parameters that a function of this stage has.
 const MOST_PARAMETERS: usize = 16;
 
-/// Names that differ in the case of their letters alone have one key.
-fn name_key(alloc: Global, name: &str) -> Result<String, AllocError> {
-    let mut key = String::new(alloc);
-    for character in name.chars() {
-        key.push(character.to_ascii_lowercase())?;
-    }
-    Ok(key)
-}
-
-/// Adds a name's key, and answers whether it is new.
-fn add_key(alloc: Global, keys: &mut IndexSet<String>, name: &str) -> Result<bool, AllocError> {
-    let key = name_key(alloc, name)?;
-    match keys.insert(key) {
-        Ok(is_new) => Ok(is_new),
-        Err(_) => Err(AllocError),
-    }
-}
-
-fn function_fits(alloc: Global, function: &Function) -> Result<bool, AllocError> {
-    let mut keys = IndexSet::new(alloc);
-    for param in &function.params {
-        if !add_key(alloc, &mut keys, &param.name)? {
+/// Whether no two keys are equal.
+fn are_distinct(alloc: Global, keys: &[String]) -> Result<bool, AllocError>
+    ensures { IfOk result (λ b. b ≡ all_new [] (map string_bytes keys.now)) }
+{
+    let mut seen = Names::new(alloc);
+    for key in keys {
+        let name = key.as_str();
+        if !seen.is_new(name) {
             return Ok(false);
         }
+        seen.add(name)?;
     }
-    Ok(function.params.len() <= MOST_PARAMETERS)
+    Ok(true)
 }
 
-fn functions_fit(alloc: Global, functions: &[Function]) -> Result<bool, AllocError> {
-    let mut keys = IndexSet::new(alloc);
+/// The keys of parameters' names: names that differ in the case of their letters alone have one key.
+fn parameter_keys(alloc: Global, params: &[Param]) -> Result<Vec<String>, AllocError>
+    ensures { IfOk result (λ v. map string_bytes v.items ≡ spec.parameter_keys (map spec.param_item params.now)) }
+{
+    let mut keys = Vec::new(alloc);
+    for param in params {
+        keys.push(param.name.to_ascii_lowercase(alloc)?)?;
+    }
+    Ok(keys)
+}
+
+/// The keys of functions' names.
+fn function_keys(alloc: Global, functions: &[Function]) -> Result<Vec<String>, AllocError>
+    ensures { IfOk result (λ v. map string_bytes v.items ≡ spec.function_keys (map spec.function_item functions.now)) }
+{
+    let mut keys = Vec::new(alloc);
     for function in functions {
-        if !add_key(alloc, &mut keys, &function.name)? {
-            return Ok(false);
-        }
+        keys.push(function.name.to_ascii_lowercase(alloc)?)?;
+    }
+    Ok(keys)
+}
+
+fn function_fits(alloc: Global, function: &Function) -> Result<bool, AllocError>
+    ensures { IfOk result (λ b. b ≡ spec.function_fits (spec.function_item function.now)) }
+{
+    if function.params.len() > MOST_PARAMETERS {
+        return Ok(false);
+    }
+    are_distinct(alloc, &parameter_keys(alloc, &function.params)?)
+}
+
+/// Whether each function fits by itself.
+fn each_fits(alloc: Global, functions: &[Function]) -> Result<bool, AllocError>
+    ensures { IfOk result (λ b. b ≡ list_all spec.function_fits (map spec.function_item functions.now)) }
+{
+    for function in functions {
         if !function_fits(alloc, function)? {
             return Ok(false);
         }
@@ -180,7 +201,39 @@ fn functions_fit(alloc: Global, functions: &[Function]) -> Result<bool, AllocErr
     Ok(true)
 }
 
+fn functions_fit(alloc: Global, functions: &[Function]) -> Result<bool, AllocError>
+    ensures { IfOk result (λ b. b ≡ spec.functions_fit (map spec.function_item functions.now)) }
+{
+    if !each_fits(alloc, functions)? {
+        return Ok(false);
+    }
+    are_distinct(alloc, &function_keys(alloc, functions)?)
+}
+
 /// Whether no function has more than 16 parameters, and no two names of one scope have equal letters.
-pub fn world_fits(alloc: Global, world: &World) -> Result<bool, AllocError> {
-    Ok(functions_fit(alloc, &world.imports)? && functions_fit(alloc, &world.exports)?)
+pub fn world_fits(alloc: Global, world: &World) -> Result<bool, AllocError>
+    ensures { IfOk result (λ b. b ≡ spec.world_fits (spec.world_meaning world.now)) }
+{
+    if !functions_fit(alloc, &world.imports)? {
+        return Ok(false);
+    }
+    functions_fit(alloc, &world.exports)
+}
+
+/// The package of a text that lies within the shape; any other is X1.
+pub fn read_package(alloc: Global, contents: &str) -> Result<Package, Fault>
+    ensures found { IfOk result (λ p. (d : FileTree) × IsInShape contents.now d × (spec.package_meaning p ≡ spec.package_of d)) }
+    ensures only { (d : FileTree) → IsInShape contents.now d → MatchResult result (λ p. spec.package_meaning p ≡ spec.package_of d) (λ e. e ≡ Fault.OutOfMemory) }
+    ensures cause { IfErr result (λ e. (e ≡ Fault.OutOfMemory) ⊎ (e ≡ Fault.NotYet)) }
+{
+    let file = match parse_file(alloc, contents) {
+        Ok(file) => file,
+        Err(ReadError::Memory) => return Err(Fault::OutOfMemory),
+        Err(ReadError::Malformed(_)) => return Err(Fault::NotYet),
+    };
+    let package = package_of(alloc, &file)?;
+    if !world_fits(alloc, &package.world)? {
+        return Err(Fault::NotYet);
+    }
+    Ok(package)
 }

@@ -6,9 +6,9 @@ use Rattle.wit_syntax.specs.declared.fault.Fault.{Fault}
 use Rattle.wit_syntax.specs.declared.fault.Rule.{Rule}
 use Rattle.wit_syntax.specs.declared.fault.Rule.TheVariants as rule
 use Rattle.wit_syntax.specs.declared.token.Kind.{Kind}
-use Rattle.wit_syntax.specs.Token.{Tok, plain, number, ident, same_kind}
-use Rattle.wit_syntax.specs.Production.{Outcome, Production, ◌>>=◌, yield, sees, sign, one, branch, Next, none, goes, next_at, next_front, by_at, by, Chosen, turns, repeat}
-use Rattle.wit_syntax.proofs.Laws.{Clear, Moves, Stuck, Suffix, Law, Avoids, err_is, ahead_is, ahead_none, NextLaw, same_is}
+use Rattle.wit_syntax.specs.Token.{What, Tok, plain, number, version, ident, same_kind}
+use Rattle.wit_syntax.specs.Production.{Outcome, Production, ◌>>=◌, yield, is_kind, sees, sign, one, branch, Next, none, goes, next_at, next_front, by_at, by, Chosen, turns, repeat}
+use Rattle.wit_syntax.proofs.Laws.{Clear, Moves, Stuck, Suffix, Law, Avoids, err_is, ahead_is, ahead_none, NextLaw, same_is, kind_is}
 
 next_found : {X : Type 0} (ends : List Kind) (whole : List Tok) (n : Next X) → NextLaw ends n → (ts : List Tok) (x : X) (rest : List Tok) → next_at whole n ts ≡ Ok (x, rest) → next_front n x ts rest
 next_found ends whole none l ts x rest e = absurd cc
@@ -26,7 +26,7 @@ next_steady : {X : Type 0} (ends : List Kind) (t : Tok) (n : Next X) → NextLaw
 next_steady ends t none l ts x rest e = absurd cc
 next_steady ends t (goes p) l ts x rest e = l.steady ts x rest e
 
-next_stuck : {X : Type 0} (ends : List Kind) (t : Tok) (n : Next X) (read : List Tok → Outcome X) → ((us : List Tok) → read (t ∷ us) ≡ next_at (t ∷ us) n us) → NextLaw ends n
+next_stuck : {X : Type 0} (ends : List Kind) (t : Tok) (n : Next X) (read : List Tok → Outcome X) → ((u : Tok) (us : List Tok) → u.what ≡ t.what → read (u ∷ us) ≡ next_at (u ∷ us) n us) → NextLaw ends n
     → (ts : List Tok) (e : Fault) → next_at (t ∷ ts) n ts ≡ Err e → Stuck read (t ∷ ts) e
 next_stuck {X = X} ends t none read agrees l ts e h =
     let w = err_is {A = X} (record { rule = rule.Unexpected; left = length (t ∷ ts) }) e h in
@@ -39,34 +39,34 @@ next_stuck {X = X} ends t none read agrees l ts e h =
         ever = λ next same.
             let a = ahead_is t ts next same in
             let q : rule.Unexpected ≡ e.rule = ap (λ (f : Fault). f.rule) w in
-            rw (a.1, agrees a.0, q) refl;
+            rw (a.2, agrees a.0 a.1 a.3, q) refl;
       };
     }
 next_stuck ends t (goes p) read agrees l ts e h =
     let s = l.stuck ts e h in
-    record { place = s.place; left = s.left; moves = record { taken = t ∷ s.moves.taken; parts = ap (λ (us : List Tok). t ∷ us) s.moves.parts; ever = λ next same. agrees (s.moves.taken ++ next) ∙ s.moves.ever next same } }
+    record { place = s.place; left = s.left; moves = record { taken = t ∷ s.moves.taken; parts = ap (λ (us : List Tok). t ∷ us) s.moves.parts; ever = λ next same. agrees t (s.moves.taken ++ next) refl ∙ s.moves.ever next same } }
 
-by_found : {X : Type 0} (ends : List Kind) (table : Tok → Next X) → ((t : Tok) → NextLaw ends (table t)) → (ts : List Tok) (x : X) (rest : List Tok) → by_at table ts ≡ Ok (x, rest) → Chosen table x ts rest
+by_found : {X : Type 0} (ends : List Kind) (table : What → Next X) → ((t : What) → NextLaw ends (table t)) → (ts : List Tok) (x : X) (rest : List Tok) → by_at table ts ≡ Ok (x, rest) → Chosen table x ts rest
 by_found ends table l [] x rest e = absurd cc
-by_found ends table l (t ∷ ts) x rest e = record { token = t; mid = ts; first = refl; second = next_found ends (t ∷ ts) (table t) (l t) ts x rest e }
+by_found ends table l (t ∷ ts) x rest e = record { token = t; mid = ts; first = refl; second = next_found ends (t ∷ ts) (table t.what) (l t.what) ts x rest e }
 
-by_steady : {X : Type 0} (ends : List Kind) (table : Tok → Next X) → ((t : Tok) → NextLaw ends (table t)) → (ts : List Tok) (x : X) (rest : List Tok) → by_at table ts ≡ Ok (x, rest) → Moves ts rest (λ us next. by_at table us ≡ Ok (x, next))
+by_steady : {X : Type 0} (ends : List Kind) (table : What → Next X) → ((t : What) → NextLaw ends (table t)) → (ts : List Tok) (x : X) (rest : List Tok) → by_at table ts ≡ Ok (x, rest) → Moves ts rest (λ us next. by_at table us ≡ Ok (x, next))
 by_steady ends table l [] x rest e = absurd cc
 by_steady ends table l (t ∷ ts) x rest e =
-    let m = next_steady ends t (table t) (l t) ts x rest e in
+    let m = next_steady ends t (table t.what) (l t.what) ts x rest e in
     record { taken = t ∷ m.taken; parts = ap (λ (us : List Tok). t ∷ us) m.parts; ever = λ next same. m.ever next same }
 
-by_stuck : {X : Type 0} (ends : List Kind) (table : Tok → Next X) → ((t : Tok) → NextLaw ends (table t)) → (ts : List Tok) (e : Fault) → by_at table ts ≡ Err e → Stuck (by_at table) ts e
+by_stuck : {X : Type 0} (ends : List Kind) (table : What → Next X) → ((t : What) → NextLaw ends (table t)) → (ts : List Tok) (e : Fault) → by_at table ts ≡ Err e → Stuck (by_at table) ts e
 by_stuck {X = X} ends table l [] e h =
     let w = err_is {A = X} (record { rule = rule.Unexpected; left = 0 }) e h in
     record { place = []; left = ap (λ (f : Fault). f.left) w; moves = record { taken = []; parts = refl; ever = λ next same. let q : rule.Unexpected ≡ e.rule = ap (λ (f : Fault). f.rule) w in rw (ahead_none next same, ← q) refl } }
-by_stuck ends table l (t ∷ ts) e h = next_stuck ends t (table t) (by_at table) (λ us. refl) (l t) ts e h
+by_stuck ends table l (t ∷ ts) e h = next_stuck ends t (table t.what) (by_at table) (λ u us same. rw same refl) (l t.what) ts e h
 
-pub by_law : {X : Type 0} (ends : List Kind) (table : Tok → Next X) → ((t : Tok) → NextLaw ends (table t)) → Law ends (by table)
+pub by_law : {X : Type 0} (ends : List Kind) (table : What → Next X) → ((t : What) → NextLaw ends (table t)) → Law ends (by table)
 by_law ends table l = record {
   found = by_found ends table l;
-  again = λ ts x rest h clear. rw (h.first) (next_again ends (h.token ∷ h.mid) (table h.token) (l h.token) h.mid x rest h.second clear);
-  suffix = λ ts x rest h. let s = next_suffix ends (table h.token) (l h.token) h.mid x rest h.second in record { taken = h.token ∷ s.taken; parts = h.first ∙ ap (λ (us : List Tok). h.token ∷ us) s.parts };
+  again = λ ts x rest h clear. rw (h.first) (next_again ends (h.token ∷ h.mid) (table h.token.what) (l h.token.what) h.mid x rest h.second clear);
+  suffix = λ ts x rest h. let s = next_suffix ends (table h.token.what) (l h.token.what) h.mid x rest h.second in record { taken = h.token ∷ s.taken; parts = h.first ∙ ap (λ (us : List Tok). h.token ∷ us) s.parts };
   steady = by_steady ends table l;
   stuck = by_stuck ends table l;
 }
@@ -81,16 +81,16 @@ abbrev pub is_within : List Kind → List Kind → Bool
 is_within [] js = true
 is_within (k ∷ ks) js = cond (is_outside k js) false (is_within ks js)
 
-abbrev pub leads_nowhere : {X : Type 0} → List Kind → (Tok → Next X) → Type 1
+abbrev pub leads_nowhere : {X : Type 0} → List Kind → (What → Next X) → Type 1
 leads_nowhere [] table = Unit {1}
 leads_nowhere (k ∷ ks) table = (table (plain k) ≡ none) × leads_nowhere ks table
 
-outside_clear : (k : Kind) (ks : List Kind) (ts : List Tok) → is_outside k ks ≡ true → Clear ks (plain k ∷ ts)
+outside_clear : (k : Kind) (ks : List Kind) (t : Tok) (ts : List Tok) → t.what ≡ plain k → is_outside k ks ≡ true → Clear ks (t ∷ ts)
 unfolding sees
-outside_clear k [] ts e = tt
-outside_clear k (j ∷ js) ts e = elim (cases_Bool (same_kind k j)) [
+outside_clear k [] t ts is e = tt
+outside_clear k (j ∷ js) t ts is e = elim (cases_Bool (same_kind k j)) [
   | inl same ↦ absurd (let bad = rw same at e in cc)
-  | inr other ↦ (other, outside_clear k js ts (rw other at e))
+  | inr other ↦ (rw is other, outside_clear k js t ts is (rw other at e))
 ]
 
 missing_clear : (k : Kind) (js : List Kind) (ts : List Tok) → is_outside k js ≡ false → Clear js ts → sees k ts ≡ false
@@ -113,17 +113,22 @@ avoid_yield ends begins x e = record { clear = λ ts y rest h c. rw (h.0) (withi
 
 pub avoid_sign : (ends begins : List Kind) (k : Kind) → is_outside k begins ≡ true → Avoids ends begins (sign k)
 unfolding sign
-avoid_sign ends begins k e = record { clear = λ ts u rest h c. rw h (outside_clear k begins rest e) }
+avoid_sign ends begins k e = record { clear = λ ts u rest h c. rw (h.first) (outside_clear k begins h.token rest h.is e) }
 
-clear_of_other : {X : Type 0} (judge : Tok → Result X Rule) (r : Rule) → ((k : Kind) → judge (plain k) ≡ Err r) → (ks : List Kind) (t : Tok) (x : X) (rest : List Tok) → judge t ≡ Ok x → Clear ks (t ∷ rest)
+-- a token that is no sign or keyword
+other_kind : {X : Type 0} (judge : What → Result X Rule) (r : Rule) → ((k : Kind) → judge (plain k) ≡ Err r) → (k : Kind) (w : What) (x : X) → judge w ≡ Ok x → is_kind k w ≡ false
+other_kind judge r nowhere k (plain j) x e = absurd (let bad = nowhere j in cc)
+other_kind judge r nowhere k (number s) x e = refl
+other_kind judge r nowhere k (version s) x e = refl
+other_kind judge r nowhere k (ident s) x e = refl
+
+clear_of_other : {X : Type 0} (judge : What → Result X Rule) (r : Rule) → ((k : Kind) → judge (plain k) ≡ Err r) → (ks : List Kind) (t : Tok) (x : X) (rest : List Tok) → judge t.what ≡ Ok x → Clear ks (t ∷ rest)
 unfolding sees
 clear_of_other judge r nowhere [] t x rest e = tt
-clear_of_other judge r nowhere (k ∷ ks) (plain j) x rest e = absurd (let bad = nowhere j in cc)
-clear_of_other judge r nowhere (k ∷ ks) (number s) x rest e = (refl, clear_of_other judge r nowhere ks (number s) x rest e)
-clear_of_other judge r nowhere (k ∷ ks) (ident s) x rest e = (refl, clear_of_other judge r nowhere ks (ident s) x rest e)
+clear_of_other judge r nowhere (k ∷ ks) t x rest e = (other_kind judge r nowhere k t.what x e, clear_of_other judge r nowhere ks t x rest e)
 
 -- what takes no sign or keyword
-pub avoid_one : {X : Type 0} (ends begins : List Kind) (judge : Tok → Result X Rule) (r : Rule) → ((k : Kind) → judge (plain k) ≡ Err r) → Avoids ends begins (one judge)
+pub avoid_one : {X : Type 0} (ends begins : List Kind) (judge : What → Result X Rule) (r : Rule) → ((k : Kind) → judge (plain k) ≡ Err r) → Avoids ends begins (one judge)
 avoid_one ends begins judge r nowhere = record { clear = λ ts x rest h c. rw (h.first) (clear_of_other judge r nowhere begins h.token x rest h.good) }
 
 pub avoid_first : {A B : Type 0} (ends begins : List Kind) (f : Production A) (g : A → Production B) → Avoids [] begins f → Avoids ends begins (f >>= g)
@@ -136,7 +141,7 @@ pub avoid_branch : {X : Type 0} (ends begins : List Kind) (k : Kind) (p q : Prod
 unfolding branch
 avoid_branch ends begins k p q e av = record {
   clear = λ ts x rest h c. elim (h.way) [
-    | inl g ↦ rw (g.1) (outside_clear k begins g.0 e)
+    | inl g ↦ rw (g.1.first) (outside_clear k begins g.1.token g.0 g.1.is e)
     | inr g ↦ av.clear ts x rest g c
   ];
 }
@@ -144,17 +149,15 @@ avoid_branch ends begins k p q e av = record {
 next_none : {X : Type 0} (n : Next X) (x : X) (ts rest : List Tok) → n ≡ none → next_front n x ts rest → ⊥
 next_none n x ts rest e h = rw e at h
 
-clear_of_table : {X : Type 0} (table : Tok → Next X) (ks : List Kind) → leads_nowhere ks table → (t : Tok) (x : X) (mid rest : List Tok) → next_front (table t) x mid rest → Clear ks (t ∷ mid)
+clear_of_table : {X : Type 0} (table : What → Next X) (ks : List Kind) → leads_nowhere ks table → (t : Tok) (x : X) (mid rest : List Tok) → next_front (table t.what) x mid rest → Clear ks (t ∷ mid)
 unfolding sees
 clear_of_table table [] nowhere t x mid rest h = tt
-clear_of_table table (k ∷ ks) nowhere (plain j) x mid rest h = elim (cases_Bool (same_kind j k)) [
-  | inl same ↦ absurd (next_none (table (plain j)) x mid rest (rw (same_is j k same) (nowhere.0)) h)
-  | inr other ↦ (other, clear_of_table table ks nowhere.1 (plain j) x mid rest h)
+clear_of_table table (k ∷ ks) nowhere t x mid rest h = elim (cases_Bool (is_kind k t.what)) [
+  | inl same ↦ absurd (next_none (table t.what) x mid rest (rw (kind_is k t.what same) (nowhere.0)) h)
+  | inr other ↦ (other, clear_of_table table ks nowhere.1 t x mid rest h)
 ]
-clear_of_table table (k ∷ ks) nowhere (number s) x mid rest h = (refl, clear_of_table table ks nowhere.1 (number s) x mid rest h)
-clear_of_table table (k ∷ ks) nowhere (ident s) x mid rest h = (refl, clear_of_table table ks nowhere.1 (ident s) x mid rest h)
 
-pub avoid_by : {X : Type 0} (ends begins : List Kind) (table : Tok → Next X) → leads_nowhere begins table → Avoids ends begins (by table)
+pub avoid_by : {X : Type 0} (ends begins : List Kind) (table : What → Next X) → leads_nowhere begins table → Avoids ends begins (by table)
 avoid_by ends begins table nowhere = record { clear = λ ts x rest h c. rw (h.first) (clear_of_table table begins nowhere h.token x h.mid rest h.second) }
 
 pub avoid_turns : {X : Type 0} (ends begins : List Kind) (step : Production X → Production X) → ((p : Production X) → Avoids ends begins (step p)) → Avoids ends begins (repeat step)
@@ -175,9 +178,9 @@ suffix_length ts rest s = let l : length ts ≡ length (s.taken ++ rest) = ap le
 
 pub goes_sign : (ends : List Kind) (k : Kind) → Goes ends (sign k)
 unfolding sign
-goes_sign ends k = record { shorter = λ ts x rest h. let l : length ts ≡ suc (length rest) = rw h refl in omega arith }
+goes_sign ends k = record { shorter = λ ts x rest h. let l : length ts ≡ suc (length rest) = rw (h.first) refl in omega arith }
 
-pub goes_one : {X : Type 0} (ends : List Kind) (judge : Tok → Result X Rule) → Goes ends (one judge)
+pub goes_one : {X : Type 0} (ends : List Kind) (judge : What → Result X Rule) → Goes ends (one judge)
 goes_one ends judge = record { shorter = λ ts x rest h. let l : length ts ≡ suc (length rest) = rw (h.first) refl in omega arith }
 
 pub goes_first : {A B : Type 0} (ends : List Kind) (f : Production A) (g : A → Production B) → Goes [] f → ((a : A) → Law ends (g a)) → Goes ends (f >>= g)
@@ -190,14 +193,14 @@ pub goes_branch : {X : Type 0} (ends : List Kind) (k : Kind) (p q : Production X
 unfolding branch
 goes_branch ends k p q lp gq = record {
   shorter = λ ts x rest h. elim (h.way) [
-    | inl g ↦ let l : length ts ≡ suc (length g.0) = rw (g.1) refl in omega (arith, suffix_length g.0 rest (lp.suffix g.0 x rest g.2))
+    | inl g ↦ let l : length ts ≡ suc (length g.0) = rw (g.1.first) refl in omega (arith, suffix_length g.0 rest (lp.suffix g.0 x rest g.2))
     | inr g ↦ gq.shorter ts x rest g
   ];
 }
 
-pub goes_by : {X : Type 0} (ends : List Kind) (table : Tok → Next X) → ((t : Tok) → NextLaw ends (table t)) → Goes ends (by table)
+pub goes_by : {X : Type 0} (ends : List Kind) (table : What → Next X) → ((t : What) → NextLaw ends (table t)) → Goes ends (by table)
 goes_by ends table l = record {
   shorter = λ ts x rest h.
       let m : length ts ≡ suc (length h.mid) = rw (h.first) refl in
-      omega (arith, suffix_length h.mid rest (next_suffix ends (table h.token) (l h.token) h.mid x rest h.second));
+      omega (arith, suffix_length h.mid rest (next_suffix ends (table h.token.what) (l h.token.what) h.mid x rest h.second));
 }

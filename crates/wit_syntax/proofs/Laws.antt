@@ -1,5 +1,5 @@
 -- A production whose reading finds what its front says, and nothing else.
-use Rattle.std.proofs.Common.{◌≡◌, ◌⊎◌, Bool, true, false, cond, List, [], ◌∷◌, ◌++◌, length, Option, Some, None, Result, Ok, Err, refl, sym, ap, ◌∙◌, inl, inr, rules, append_assoc}
+use Rattle.std.proofs.Common.{◌≡◌, ◌⊎◌, Bool, true, false, cond, List, [], ◌∷◌, ◌++◌, length, Option, Some, None, Result, Ok, Err, refl, sym, ap, subst, ◌∙◌, inl, inr, rules, append_assoc}
 use Rattle.std.proofs.lemmas.Bool.{cases_Bool}
 use denote.Enum.Bare.{same_true, true_same}
 use Rattle.wit_syntax.specs.contracts.token.Kind.{the_type}
@@ -7,8 +7,8 @@ use Rattle.wit_syntax.specs.declared.fault.Fault.{Fault}
 use Rattle.wit_syntax.specs.declared.fault.Rule.{Rule}
 use Rattle.wit_syntax.specs.declared.fault.Rule.TheVariants as rule
 use Rattle.wit_syntax.specs.declared.token.Kind.{Kind}
-use Rattle.wit_syntax.specs.Token.{Tok, plain, number, ident, same_kind}
-use Rattle.wit_syntax.specs.Production.{Outcome, Production, wrong, and_then, ◌>>=◌, yield, refuse, sees, after, sign, judged, one_at, one, branch, Next, none, goes, next_at, next_front}
+use Rattle.wit_syntax.specs.Token.{What, Tok, plain, number, version, ident, same_kind}
+use Rattle.wit_syntax.specs.Production.{Outcome, Production, wrong, and_then, ◌>>=◌, yield, refuse, is_kind, sees, after, Stands, sign, judged, one_at, one, branch, Next, none, goes, next_at, next_front}
 use Rattle.wit_syntax.specs.Place.{ahead}
 
 -- ---- what stands next
@@ -86,42 +86,44 @@ pub ahead_more : (f rest next : List Tok) → ahead rest ≡ ahead next → ahea
 ahead_more [] rest next e = e
 ahead_more (t ∷ f) rest next e = refl
 
-seen_in : Kind → Option Tok → Bool
+seen_in : Kind → Option What → Bool
 seen_in k None = false
-seen_in k (Some (plain j)) = same_kind j k
-seen_in k (Some t) = false
+seen_in k (Some w) = is_kind k w
 
 sees_in : (k : Kind) (ts : List Tok) → sees k ts ≡ seen_in k (ahead ts)
 unfolding sees seen_in
 sees_in k [] = refl
-sees_in k (plain j ∷ ts) = refl
-sees_in k (number s ∷ ts) = refl
-sees_in k (ident s ∷ ts) = refl
+sees_in k (t ∷ ts) = refl
+
+pub kind_is : (k : Kind) (w : What) → is_kind k w ≡ true → w ≡ plain k
+kind_is k (plain j) e = ap (λ i. plain i) (same_is j k e)
+kind_is k (number s) e = absurd cc
+kind_is k (version s) e = absurd cc
+kind_is k (ident s) e = absurd cc
 
 pub sees_ahead : (k : Kind) (ts us : List Tok) → ahead ts ≡ ahead us → sees k ts ≡ sees k us
 sees_ahead k ts us e = sees_in k ts ∙ ap (seen_in k) e ∙ sym (sees_in k us)
 
-pub sees_is : (k : Kind) (ts : List Tok) → sees k ts ≡ true → ts ≡ plain k ∷ after k ts
+pub sees_is : (k : Kind) (ts : List Tok) → sees k ts ≡ true → Stands k ts (after k ts)
 unfolding sees after
 sees_is k [] e = absurd cc
-sees_is k (plain j ∷ ts) e = rw (e, same_is j k e) refl
-sees_is k (number s ∷ ts) e = absurd cc
-sees_is k (ident s ∷ ts) e = absurd cc
+sees_is k (t ∷ ts) e = record { token = t; first = rw e refl; is = kind_is k t.what e }
 
-pub sees_sign : (k : Kind) (ts : List Tok) → sees k (plain k ∷ ts) ≡ true
+kind_self : (k : Kind) (w : What) → w ≡ plain k → is_kind k w ≡ true
+kind_self k w e = rw e (same_self k)
+
+pub sees_sign : (k : Kind) (t : Tok) (ts : List Tok) → t.what ≡ plain k → sees k (t ∷ ts) ≡ true
 unfolding sees
-sees_sign k ts = same_self k
+sees_sign k t ts e = kind_self k t.what e
 
-pub after_sign : (k : Kind) (ts : List Tok) → after k (plain k ∷ ts) ≡ ts
+pub after_sign : (k : Kind) (t : Tok) (ts : List Tok) → t.what ≡ plain k → after k (t ∷ ts) ≡ ts
 unfolding after
-after_sign k ts = rw same_self refl
+after_sign k t ts e = rw (kind_self k t.what e) refl
 
 pub after_unseen : (k : Kind) (ts : List Tok) → sees k ts ≡ false → after k ts ≡ ts
 unfolding sees after
 after_unseen k [] e = refl
-after_unseen k (plain j ∷ ts) e = rw e refl
-after_unseen k (number s ∷ ts) e = refl
-after_unseen k (ident s ∷ ts) e = refl
+after_unseen k (t ∷ ts) e = rw e refl
 
 -- ---- then
 
@@ -191,9 +193,9 @@ refuse_law {X = X} ends r = record {
       record { place = ts; left = ap (λ (f : Fault). f.left) k; moves = record { taken = []; parts = refl; ever = λ next same. let q : r ≡ e.rule = ap (λ (f : Fault). f.rule) k in rw q refl } };
 }
 
-sign_found : (k : Kind) (ts : List Tok) (u : Unit {0}) (rest : List Tok) → cond (sees k ts) (both tt (after k ts)) (wrong rule.Unexpected (after k ts)) ≡ Ok (u, rest) → ts ≡ plain k ∷ rest
+sign_found : (k : Kind) (ts : List Tok) (u : Unit {0}) (rest : List Tok) → cond (sees k ts) (both tt (after k ts)) (wrong rule.Unexpected (after k ts)) ≡ Ok (u, rest) → Stands k ts rest
 sign_found k ts u rest e = elim (cases_Bool (sees k ts)) [
-  | inl seen ↦ let q = ok_parts tt u (after k ts) rest (rw seen at e) in rw (← q.1) (sees_is k ts seen)
+  | inl seen ↦ let q = ok_parts tt u (after k ts) rest (rw seen at e) in subst (λ (us : List Tok). Stands k ts us) q.1 (sees_is k ts seen)
   | inr unseen ↦ absurd (let bad = rw unseen at e in cc)
 ]
 
@@ -201,9 +203,11 @@ pub sign_law : (ends : List Kind) (k : Kind) → Law ends (sign k)
 unfolding sign
 sign_law ends k = record {
   found = sign_found k;
-  again = λ ts u rest h clear. rw (h, sees_sign, after_sign) refl;
-  suffix = λ ts u rest h. record { taken = plain k ∷ []; parts = h };
-  steady = λ ts u rest e. record { taken = plain k ∷ []; parts = sign_found k ts u rest e; ever = λ next same. rw (sees_sign, after_sign) refl };
+  again = λ ts u rest h clear. rw (h.first, sees_sign k h.token rest h.is, after_sign k h.token rest h.is) refl;
+  suffix = λ ts u rest h. record { taken = h.token ∷ []; parts = h.first };
+  steady = λ ts u rest e.
+      let h = sign_found k ts u rest e in
+      record { taken = h.token ∷ []; parts = h.first; ever = λ next same. rw (sees_sign k h.token next h.is, after_sign k h.token next h.is) refl };
   stuck = λ ts e h. elim (cases_Bool (sees k ts)) [
     | inl seen ↦ absurd (let bad = rw seen at h in cc)
     | inr unseen ↦
@@ -231,27 +235,27 @@ judged_err : {X : Type 0} (whole : List Tok) (r : Result X Rule) (ts : List Tok)
 judged_err whole (Ok y) ts e h = absurd cc
 judged_err {X = X} whole (Err r) ts e h = let q = err_is {A = X} (record { rule = r; left = length whole }) e h in (ap (λ (f : Fault). Err f.rule) q, ap (λ (f : Fault). f.left) q)
 
-pub ahead_is : (t : Tok) (ts next : List Tok) → ahead (t ∷ ts) ≡ ahead next → (us : List Tok) × (next ≡ t ∷ us)
+pub ahead_is : (t : Tok) (ts next : List Tok) → ahead (t ∷ ts) ≡ ahead next → (u : Tok) × (us : List Tok) × (next ≡ u ∷ us) × (u.what ≡ t.what)
 ahead_is t ts [] e = absurd cc
-ahead_is t ts (u ∷ us) e = let q : u ≡ t = cc in (us, rw q refl)
+ahead_is t ts (u ∷ us) e = (u, us, refl, cc)
 
 pub ahead_none : (next : List Tok) → ahead [] ≡ ahead next → next ≡ []
 ahead_none [] e = refl
 ahead_none (u ∷ us) e = absurd cc
 
-one_found : {X : Type 0} (judge : Tok → Result X Rule) (ts : List Tok) (x : X) (rest : List Tok) → one_at judge ts ≡ Ok (x, rest) → (one judge).front x ts rest
+one_found : {X : Type 0} (judge : What → Result X Rule) (ts : List Tok) (x : X) (rest : List Tok) → one_at judge ts ≡ Ok (x, rest) → (one judge).front x ts rest
 one_found judge [] x rest e = absurd cc
-one_found judge (t ∷ ts) x rest e = let q = judged_ok (t ∷ ts) (judge t) ts x rest e in record { token = t; first = ap (λ (us : List Tok). t ∷ us) q.1; good = q.0 }
+one_found judge (t ∷ ts) x rest e = let q = judged_ok (t ∷ ts) (judge t.what) ts x rest e in record { token = t; first = ap (λ (us : List Tok). t ∷ us) q.1; good = q.0 }
 
-one_stuck : {X : Type 0} (judge : Tok → Result X Rule) (ts : List Tok) (e : Fault) → one_at judge ts ≡ Err e → Stuck (one_at judge) ts e
+one_stuck : {X : Type 0} (judge : What → Result X Rule) (ts : List Tok) (e : Fault) → one_at judge ts ≡ Err e → Stuck (one_at judge) ts e
 one_stuck {X = X} judge [] e h =
     let w = err_is {A = X} (record { rule = rule.Unexpected; left = 0 }) e h in
     record { place = []; left = ap (λ (f : Fault). f.left) w; moves = record { taken = []; parts = refl; ever = λ next same. let q : rule.Unexpected ≡ e.rule = ap (λ (f : Fault). f.rule) w in rw (ahead_none next same, ← q) refl } }
 one_stuck judge (t ∷ ts) e h =
-    let w = judged_err (t ∷ ts) (judge t) ts e h in
-    record { place = t ∷ ts; left = w.1; moves = record { taken = []; parts = refl; ever = λ next same. let a = ahead_is t ts next same in rw (a.1, w.0) refl } }
+    let w = judged_err (t ∷ ts) (judge t.what) ts e h in
+    record { place = t ∷ ts; left = w.1; moves = record { taken = []; parts = refl; ever = λ next same. let a = ahead_is t ts next same in rw (a.2, a.3, w.0) refl } }
 
-pub one_law : {X : Type 0} (ends : List Kind) (judge : Tok → Result X Rule) → Law ends (one judge)
+pub one_law : {X : Type 0} (ends : List Kind) (judge : What → Result X Rule) → Law ends (one judge)
 one_law ends judge = record {
   found = one_found judge;
   again = λ ts x rest h clear. rw (h.first, h.good) refl;
@@ -270,17 +274,18 @@ branch_law ends k p q lp lq av = record {
     | inr unseen ↦ record { way = inr (lq.found ts x rest (rw unseen at e)) }
   ];
   again = λ ts x rest h clear. elim (h.way) [
-    | inl g ↦ rw (g.1, sees_sign, after_sign) (lp.again g.0 x rest g.2 clear)
+    | inl g ↦ rw (g.1.first, sees_sign k g.1.token g.0 g.1.is, after_sign k g.1.token g.0 g.1.is) (lp.again g.0 x rest g.2 clear)
     | inr g ↦ rw ((av.clear ts x rest g clear).0) (lq.again ts x rest g clear)
   ];
   suffix = λ ts x rest h. elim (h.way) [
-    | inl g ↦ let s = lp.suffix g.0 x rest g.2 in record { taken = plain k ∷ s.taken; parts = g.1 ∙ ap (λ (t : List Tok). plain k ∷ t) s.parts }
+    | inl g ↦ let s = lp.suffix g.0 x rest g.2 in record { taken = g.1.token ∷ s.taken; parts = g.1.first ∙ ap (λ (t : List Tok). g.1.token ∷ t) s.parts }
     | inr g ↦ lq.suffix ts x rest g
   ];
   steady = λ ts x rest e. elim (cases_Bool (sees k ts)) [
     | inl seen ↦
         let m = lp.steady (after k ts) x rest (rw seen at e) in
-        record { taken = plain k ∷ m.taken; parts = sees_is k ts seen ∙ ap (λ (t : List Tok). plain k ∷ t) m.parts; ever = λ next same. rw (sees_sign, after_sign) (m.ever next same) }
+        let s = sees_is k ts seen in
+        record { taken = s.token ∷ m.taken; parts = s.first ∙ ap (λ (t : List Tok). s.token ∷ t) m.parts; ever = λ next same. rw (sees_sign k s.token (m.taken ++ next) s.is, after_sign k s.token (m.taken ++ next) s.is) (m.ever next same) }
     | inr unseen ↦
         let m = lq.steady ts x rest (rw unseen at e) in
         record {
@@ -294,7 +299,16 @@ branch_law ends k p q lp lq av = record {
   stuck = λ ts e h. elim (cases_Bool (sees k ts)) [
     | inl seen ↦
         let s = lp.stuck (after k ts) e (rw seen at h) in
-        record { place = s.place; left = s.left; moves = record { taken = plain k ∷ s.moves.taken; parts = sees_is k ts seen ∙ ap (λ (t : List Tok). plain k ∷ t) s.moves.parts; ever = λ next same. rw (sees_sign, after_sign) (s.moves.ever next same) } }
+        let f = sees_is k ts seen in
+        record {
+          place = s.place;
+          left = s.left;
+          moves = record {
+            taken = f.token ∷ s.moves.taken;
+            parts = f.first ∙ ap (λ (t : List Tok). f.token ∷ t) s.moves.parts;
+            ever = λ next same. rw (sees_sign k f.token (s.moves.taken ++ next) f.is, after_sign k f.token (s.moves.taken ++ next) f.is) (s.moves.ever next same);
+          };
+        }
     | inr unseen ↦
         let s = lq.stuck ts e (rw unseen at h) in
         record {
@@ -314,7 +328,3 @@ branch_law ends k p q lp lq av = record {
 abbrev pub NextLaw : {X : Type 0} → List Kind → Next X → Type 0
 NextLaw ends none = Unit {0}
 NextLaw ends (goes p) = Law ends p
-
-next_found : {X : Type 0} (ends : List Kind) (whole : List Tok) (t : Tok) (table : Tok → Next X) (n : Next X) → table t ≡ n → NextLaw ends n → (ts : List Tok) (x : X) (rest : List Tok) → next_at whole n ts ≡ Ok (x, rest) → next_front n x ts rest
-next_found ends whole t table none i l ts x rest e = absurd cc
-next_found ends whole t table (goes p) i l ts x rest e = l.found ts x rest e

@@ -17,10 +17,12 @@ use Rattle.wit_syntax.specs.declared.fault.ReadError.{ReadError}
 use Rattle.wit_syntax.specs.declared.fault.ReadError.TheVariants as errors
 use Rattle.wit_syntax.specs.Outcome.{Gives, Answers}
 use Rattle.wit_syntax.specs.Token.{Tok}
-use Rattle.wit_syntax.specs.Lex.{Text, Cut, is_in, comment_from, closed, slash, minus, percent, sign, lexeme_at, token_of, placed, lex_token, lex_step, lex_from, lex_bare, lex}
+use Rattle.wit_syntax.specs.Lex.{Text, Cut, is_in, comment_from, closed, slash, minus, percent, sign, digits, version_or_number, lexeme_at, Piece, piece_of, put, placed, lex_token, lex_step, lex_from, lex_bare, lex}
+use Rattle.wit_syntax.specs.Version.{IsVersion, IsVersionFront, HasNoVersion, version_len}
+use Rattle.wit_syntax.proofs.Versions.{version_found, version_only, no_version_found, no_version_only, version_digit}
 use Rattle.wit_syntax.proofs.Comments.{comment_scanned, comment_inside}
 use Rattle.wit_syntax.proofs.LexLaws.{lex_from-drop, drop-cons}
-use Rattle.wit_syntax.specs.Lexical.{IsRun, IsSign, IsBlank, IsLexeme, AddsToken, Lexes, LexesText, ends, goes}
+use Rattle.wit_syntax.specs.Lexical.{IsRun, IsSign, IsBlank, IsLexeme, IsLineComment, IsComment, Adds, Lexes, LexesText, ends, goes}
 
 abbrev given : List Tok → Result (List Tok) Fault
 given ts = Ok ts
@@ -78,19 +80,37 @@ sign_only kind.Underscore x rest h = rw h refl
 sign_only kind.RightArrow x rest h = rw h refl
 sign_only _ x rest h = absurd h
 
-blank_only : (x rest : Text) → IsBlank x rest → lexeme_at (x ++ rest) ≡ Ok (lexeme.Blank, length x)
+comment_lexeme : (x rest : Text) → IsLexeme lexeme.Comment x rest → lexeme_at (x ++ rest) ≡ Ok (lexeme.Comment, length x)
 unfolding lexeme_at
-blank_only x rest (inl (b, is, blank)) = rw (is, blank) refl
-blank_only x rest (inr (inl (y, is, run))) = rw (is, run_only class.Line y rest run) (ap (cut lexeme.Blank) (omega arith))
-blank_only x rest (inr (inr (y, is, whole))) = rw (is, comment_only 1 0 0 y rest (length y) (comment_scanned y whole)) (ap (cut lexeme.Blank) (omega arith))
+comment_lexeme x rest (inl (y, is, run)) = rw (is, run_only class.Line y rest run) (ap (cut lexeme.Comment) (omega arith))
+comment_lexeme x rest (inr (y, is, whole)) = rw (is, comment_only 1 0 0 y rest (length y) (comment_scanned y whole)) (ap (cut lexeme.Comment) (omega arith))
+
+-- a run of digits that no version begins is cut as a number, and a version as one
+number_only : (x rest : Text) → IsRun class.Digit x rest → HasNoVersion (x ++ rest) → digits (x ++ rest) ≡ Ok (lexeme.Number, length x)
+number_only x rest r none = rw (no_version_only (x ++ rest) none, run_only class.Digit x rest r) refl
+
+version_cut : (x rest : Text) → IsVersionFront x rest → digits (x ++ rest) ≡ Ok (lexeme.Version, length x)
+version_cut x rest h = rw (version_only x rest h) refl
+
+version_first : (b : ℕ) (x : Text) → IsVersion (b ∷ x) → is_in class.Digit b ≡ true
+version_first b x h = let (c, y, is, digit) = version_digit (b ∷ x) h in let same : b ≡ c = cc in rw same digit
+
+no_empty_version : (rest : Text) → IsVersionFront [] rest → ⊥
+no_empty_version rest h = let (c, y, is, digit) = version_digit [] h.version in absurd cc
 
 pub lexeme_only : (l : Lexeme) (x rest : Text) → IsLexeme l x rest → lexeme_at (x ++ rest) ≡ Ok (l, length x)
 unfolding lexeme_at
-lexeme_only lexeme.Blank x rest h = blank_only x rest h
+lexeme_only lexeme.Blank x rest ((b, is, blank)) = rw (is, blank) refl
+lexeme_only lexeme.Comment x rest h = comment_lexeme x rest h
 lexeme_only (lexeme.Plain k) x rest h = sign_only k x rest h
-lexeme_only lexeme.Number [] rest h = absurd h
+lexeme_only lexeme.Number [] rest h = absurd h.0
 lexeme_only lexeme.Number (b ∷ x) rest h =
-    rw (digit_blank b h.0, digit_letter b h.0, h.0, run_only class.Digit x rest h.1) (ap (cut lexeme.Number) (omega arith))
+    let d = h.0.0 in
+    rw (digit_blank b d, digit_letter b d, d) (number_only (b ∷ x) rest ((d, h.0.1.0), h.0.1.1) h.1)
+lexeme_only lexeme.Version [] rest h = absurd (no_empty_version rest h)
+lexeme_only lexeme.Version (b ∷ x) rest h =
+    let d = version_first b x h.version in
+    rw (digit_blank b d, digit_letter b d, d) (version_cut (b ∷ x) rest h)
 lexeme_only lexeme.Word [] rest h = absurd h
 lexeme_only lexeme.Word (b ∷ x) rest h =
     rw (letter_blank b h.0, h.0, run_only class.Word x rest h.1) (ap (cut lexeme.Word) (omega arith))
@@ -119,34 +139,35 @@ sign_some kind.RightArrow x rest h = rw h (omega arith)
 sign_some _ x rest h = absurd h
 
 lexeme_some : (l : Lexeme) (x rest : Text) → IsLexeme l x rest → 1 ≤ length x
-lexeme_some lexeme.Blank x rest (inl (b, is, blank)) = rw is (omega arith)
-lexeme_some lexeme.Blank x rest (inr (inl (y, is, run))) = rw is (omega arith)
-lexeme_some lexeme.Blank x rest (inr (inr (y, is, whole))) = rw is (omega arith)
+lexeme_some lexeme.Blank x rest ((b, is, blank)) = rw is (omega arith)
+lexeme_some lexeme.Comment x rest (inl (y, is, run)) = rw is (omega arith)
+lexeme_some lexeme.Comment x rest (inr (y, is, whole)) = rw is (omega arith)
 lexeme_some (lexeme.Plain k) x rest h = sign_some k x rest h
-lexeme_some lexeme.Number [] rest h = absurd h
+lexeme_some lexeme.Number [] rest h = absurd h.0
 lexeme_some lexeme.Number (b ∷ x) rest h = omega arith
+lexeme_some lexeme.Version [] rest h = absurd (no_empty_version rest h)
+lexeme_some lexeme.Version (b ∷ x) rest h = omega arith
 lexeme_some lexeme.Word [] rest h = absurd h
 lexeme_some lexeme.Word (b ∷ x) rest h = omega arith
 lexeme_some lexeme.Marked x rest (y, is, h) = rw is (omega arith)
 
-pub lex_at : (z : Text) (l : Lexeme) (n : ℕ) → 1 ≤ length z → lexeme_at z ≡ Ok (l, n) → 1 ≤ n → lex_bare z ≡ lex_token (lex_bare (drop n z)) (placed z (token_of l (take n z)))
+pub lex_at : (z : Text) (l : Lexeme) (n : ℕ) → 1 ≤ length z → lexeme_at z ≡ Ok (l, n) → 1 ≤ n → lex_bare z ≡ lex_token (lex_bare (drop n z)) (placed z (piece_of l (take n z)))
 unfolding lex_bare
 lex_at [] l n long e some = absurd (omega arith)
 lex_at (b ∷ z) l n long e some = rw (e, lex_from-drop (n - 1) z, drop-cons n b z some) refl
 
-token_adds : (z : Text) (o : Result (Option Tok) Rule) (ts us : List Tok) → AddsToken o ts us → lex_token (given ts) (placed z o) ≡ given us
-token_adds z (Ok None) ts us h = rw h refl
-token_adds z (Ok (Some t)) ts us h = rw h refl
-token_adds z (Err rule) ts us h = absurd h
+piece_adds : (z : Text) (o : Result Piece Rule) (ts us : List Tok) → Adds o ts us → lex_token (given ts) (placed z o) ≡ given us
+piece_adds z (Ok p) ts us h = ap given (sym h)
+piece_adds z (Err rule) ts us h = absurd h
 
 pub lexes_only : {text : Text} {us : List Tok} → Lexes text us → lex_bare text ≡ Ok us
 unfolding lex_bare
 lexes_only ends = refl
 lexes_only (goes l x rest text ts us is h more adds) =
     let some = lexeme_some l x rest h in
-    let one : lex_bare text ≡ lex_token (lex_bare rest) (placed (x ++ rest) (token_of l x)) =
+    let one : lex_bare text ≡ lex_token (lex_bare rest) (placed (x ++ rest) (piece_of l x)) =
     rw is (lex_at (x ++ rest) l (length x) (omega (arith, length-append x rest)) (lexeme_only l x rest h) some ∙ rw (take_at x rest (length x) refl, drop_at x rest (length x) refl) refl) in
-    one ∙ rw (lexes_only more) (token_adds (x ++ rest) (token_of l x) ts us adds)
+    one ∙ rw (lexes_only more) (piece_adds (x ++ rest) (piece_of l x) ts us adds)
 
 -- ---- what is cut stands for a lexeme
 
@@ -259,9 +280,9 @@ slash_found b [] l n is e = at_cut (lexeme.Plain kind.Slash) 1 l n (b ∷ []) e 
 slash_found b (c ∷ y) l n is e = elim (cases_Bool (eqb c 47)) [
   | inl line ↦
       let k : 2 + prefix_len (is_in class.Line) y ≡ suc (suc (prefix_len (is_in class.Line) y)) = omega arith in
-      let f : cut lexeme.Blank (2 + prefix_len (is_in class.Line) y) ≡ Ok (l, n) = rw line at e in
-      at_cut lexeme.Blank (suc (suc (prefix_len (is_in class.Line) y))) l n (b ∷ c ∷ y) (rw k at f)
-      (inr (inl (take (prefix_len (is_in class.Line) y) y, rw (is, eqb-true c 47 line) refl, run_found class.Line y)))
+      let f : cut lexeme.Comment (2 + prefix_len (is_in class.Line) y) ≡ Ok (l, n) = rw line at e in
+      at_cut lexeme.Comment (suc (suc (prefix_len (is_in class.Line) y))) l n (b ∷ c ∷ y) (rw k at f)
+      (inl (take (prefix_len (is_in class.Line) y) y, rw (is, eqb-true c 47 line) refl, run_found class.Line y))
   | inr other ↦ elim (cases_Bool (eqb c 42)) [
     | inl opening ↦ go (comment_from 1 0 0 y) refl (eqb-true c 42 opening) (rw (other, opening) at e)
     | inr off ↦ at_cut (lexeme.Plain kind.Slash) 1 l n (b ∷ c ∷ y) (rw (other, off) at e) (ap (λ c. c ∷ []) is, (other, off))
@@ -274,18 +295,25 @@ slash_found b (c ∷ y) l n is e = elim (cases_Bool (eqb c 47)) [
         let r = comment_found 1 0 0 y m o-is in
         let k : 2 + m ≡ suc (suc r.0) = omega arith in
         let len : m ≡ length (take r.0 y) = omega (arith, length-take r.0 y) in
-        let f : cut lexeme.Blank (2 + m) ≡ Ok (l, n) = e in
-        at_cut lexeme.Blank (suc (suc r.0)) l n (b ∷ c ∷ y) (rw k at f) (inr (inr (take r.0 y, rw (is, star) refl, comment_inside (take r.0 y) (r.3 ∙ ap (λ i. Some i) len))))
+        let f : cut lexeme.Comment (2 + m) ≡ Ok (l, n) = e in
+        at_cut lexeme.Comment (suc (suc r.0)) l n (b ∷ c ∷ y) (rw k at f) (inr (take r.0 y, rw (is, star) refl, comment_inside (take r.0 y) (r.3 ∙ ap (λ i. Some i) len)))
+
+digits_found : (b : ℕ) (z : Text) (l : Lexeme) (n : ℕ) → is_in class.Digit b ≡ true → (o : Option ℕ) → version_len (b ∷ z) ≡ o → version_or_number o (b ∷ z) ≡ Ok (l, n) → IsLexeme l (take n (b ∷ z)) (drop n (b ∷ z))
+digits_found b z l n digit (Some m) is e = at_cut lexeme.Version m l n (b ∷ z) e (version_found (b ∷ z) m is)
+digits_found b z l n digit None is e =
+    let k : prefix_len (is_in class.Digit) (b ∷ z) ≡ suc (prefix_len (is_in class.Digit) z) = rw digit (omega arith) in
+    at_cut lexeme.Number (suc (prefix_len (is_in class.Digit) z)) l n (b ∷ z) (rw k at e)
+    ((digit, run_found class.Digit z), rw (take-append-drop (prefix_len (is_in class.Digit) z) z) (no_version_found (b ∷ z) is))
 
 pub lexeme_found : (z : Text) (l : Lexeme) (n : ℕ) → lexeme_at z ≡ Ok (l, n) → IsLexeme l (take n z) (drop n z)
 unfolding lexeme_at
 lexeme_found [] l n e = absurd cc
 lexeme_found (b ∷ z) l n e = elim (cases_Bool (is_in class.Blank b)) [
-  | inl blank ↦ at_cut lexeme.Blank 1 l n (b ∷ z) (rw blank at e) (inl (b, refl, blank))
+  | inl blank ↦ at_cut lexeme.Blank 1 l n (b ∷ z) (rw blank at e) (b, refl, blank)
   | inr a ↦ elim (cases_Bool (is_in class.Letter b)) [
     | inl letter ↦ starts_found lexeme.Word class.Word l n b z (rw (a, letter) at e) (letter, run_found class.Word z)
     | inr c ↦ elim (cases_Bool (is_in class.Digit b)) [
-      | inl digit ↦ starts_found lexeme.Number class.Digit l n b z (rw (a, c, digit) at e) (digit, run_found class.Digit z)
+      | inl digit ↦ digits_found b z l n digit (version_len (b ∷ z)) refl (rw (a, c, digit) at e)
       | inr d ↦ elim (cases_Bool (eqb b 47)) [
         | inl is ↦ slash_found b z l n (eqb-true b 47 is) (rw (a, c, d, is) at e)
         | inr f ↦ elim (cases_Bool (eqb b 45)) [
@@ -300,16 +328,17 @@ lexeme_found (b ∷ z) l n e = elim (cases_Bool (is_in class.Blank b)) [
   ]
 ]
 
-abbrev Added : Result (Option Tok) Rule → Result (List Tok) Fault → List Tok → Type 0
-Added o next us = (ts : List Tok) × (next ≡ Ok ts) × AddsToken o ts us
+abbrev Added : Result Piece Rule → Result (List Tok) Fault → List Tok → Type 0
+Added o next us = (ts : List Tok) × (next ≡ Ok ts) × Adds o ts us
 
-token_added : (z : Text) (o : Result (Option Tok) Rule) (next : Result (List Tok) Fault) (us : List Tok) → lex_token next (placed z o) ≡ given us → Added o next us
-token_added z (Ok None) (Ok ts) us e = (ts, refl, cc)
-token_added z (Ok (Some t)) (Ok ts) us e = (ts, refl, cc)
-token_added z (Ok None) (Err f) us e = absurd cc
-token_added z (Ok (Some t)) (Err f) us e = absurd cc
-token_added z (Err rule) (Ok ts) us e = absurd cc
-token_added z (Err rule) (Err f) us e = absurd cc
+same_tokens : (ts us : List Tok) → given ts ≡ given us → us ≡ ts
+same_tokens ts us e = cc
+
+piece_added : (z : Text) (o : Result Piece Rule) (next : Result (List Tok) Fault) (us : List Tok) → lex_token next (placed z o) ≡ given us → Added o next us
+piece_added z (Ok p) (Ok ts) us e = (ts, refl, same_tokens (put p ts) us e)
+piece_added z (Ok p) (Err f) us e = absurd cc
+piece_added z (Err rule) (Ok ts) us e = absurd cc
+piece_added z (Err rule) (Err f) us e = absurd cc
 
 pair_of : (c : Cut) (us : List Tok) (z : Text) (next : ℕ → Result (List Tok) Fault) → lex_step z next (placed z c) ≡ Ok us → (l : Lexeme) × (m : ℕ) × (c ≡ Ok (l, m))
 pair_of (Ok x) us z next e = (x.0, x.1, refl)
@@ -324,7 +353,7 @@ lexes_found (suc n) (b ∷ z) us fits e =
     let c = pair_of (lexeme_at (b ∷ z)) us (b ∷ z) (λ m. lex_from (m - 1) z) e in
     let h = lexeme_found (b ∷ z) c.0 c.1 c.2 in
     let some : 1 ≤ c.1 = omega (arith, lexeme_some c.0 (take c.1 (b ∷ z)) (drop c.1 (b ∷ z)) h, length-take c.1 (b ∷ z)) in
-    let p = token_added (b ∷ z) (token_of c.0 (take c.1 (b ∷ z))) (lex_bare (drop c.1 (b ∷ z))) us (sym (lex_at (b ∷ z) c.0 c.1 (omega arith) c.2 some) ∙ e) in
+    let p = piece_added (b ∷ z) (piece_of c.0 (take c.1 (b ∷ z))) (lex_bare (drop c.1 (b ∷ z))) us (sym (lex_at (b ∷ z) c.0 c.1 (omega arith) c.2 some) ∙ e) in
     goes c.0 (take c.1 (b ∷ z)) (drop c.1 (b ∷ z)) (b ∷ z) p.0 us (sym (take-append-drop c.1 (b ∷ z))) h
     (lexes_found n (drop c.1 (b ∷ z)) p.0 (omega (arith, length-drop c.1 (b ∷ z))) p.1) p.2
 

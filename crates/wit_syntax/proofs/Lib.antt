@@ -10,3 +10,4 @@ pub mod TextLaws
 pub mod Comments
 pub mod Lexemes
 pub mod Texts
+pub mod Versions

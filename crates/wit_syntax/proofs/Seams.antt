@@ -1,17 +1,20 @@
 -- A text may be cut behind each lexeme.
-use Rattle.std.proofs.Common.{◌≡◌, ℕ, zero, suc, ◌+◌, ◌-◌, ◌<◌, ◌≤◌, Bool, true, false, eqb, ◌&&◌, add-one, [], ◌∷◌, length, get_or, Option, Some, None, Ok, Err, refl, sym, ap, subst, arith, inl, inr}
+use Rattle.std.proofs.Common.{◌≡◌, ℕ, zero, suc, ◌+◌, ◌-◌, ◌<◌, ◌≤◌, Bool, true, false, eqb, ◌&&◌, add-one, [], ◌∷◌, length, take, get_or, Option, Some, None, Ok, Err, refl, sym, ap, subst, arith, inl, inr}
 use Rattle.std.specs.Prelude.{◌⊎◌}
 use Rattle.std.specs.List.{prefix_len}
 use Rattle.std.specs.Str.{IsUtf8, IsCharBoundary}
 use Rattle.std.proofs.lemmas.Bool.{cases_Bool, cases_lt, eqb-true}
 use Rattle.std.proofs.lemmas.Bool.Decides.{nat_tests}
+use Rattle.std.proofs.lemmas.List.{get_or-take}
 use Rattle.std.proofs.lemmas.Str.{IsCharBoundary-end, IsCharBoundary-before_ascii, IsCharBoundary-after_ascii}
 use Rattle.wit_syntax.specs.declared.lex.Class.{Class}
 use Rattle.wit_syntax.specs.declared.lex.Class.TheVariants as class
 use Rattle.wit_syntax.specs.declared.lex.Lexeme.{Lexeme}
 use Rattle.wit_syntax.specs.declared.lex.Lexeme.TheVariants as lexeme
 use Rattle.wit_syntax.specs.declared.token.Kind.TheVariants as kind
-use Rattle.wit_syntax.specs.Lex.{Text, Cut, is_in, comment_from, closed, slash, minus, percent, sign, lexeme_at}
+use Rattle.wit_syntax.specs.Lex.{Text, Cut, is_in, comment_from, closed, slash, minus, percent, sign, version_or_number, lexeme_at}
+use Rattle.wit_syntax.specs.Version.{version_len}
+use Rattle.wit_syntax.proofs.Versions.{version_found, version_within, version_ascii}
 
 -- the byte before a place, and prev at the front
 abbrev before : ℕ → ℕ → Text → ℕ
@@ -113,7 +116,7 @@ slash_cut : (b : ℕ) (z : Text) (x : Lexeme × ℕ) → b < 128 → IsUtf8 (b �
 slash_cut b [] x first utf8 e = one_cut (lexeme.Plain kind.Slash) b [] x first utf8 e
 slash_cut b (c ∷ y) x first utf8 e = elim (cases_Bool (eqb c 47)) [
   | inl line ↦
-      let n : 2 + prefix_len (is_in class.Line) y ≡ x.1 = cut_is (lexeme.Blank, 2 + prefix_len (is_in class.Line) y) x (rw line at e) in
+      let n : 2 + prefix_len (is_in class.Line) y ≡ x.1 = cut_is (lexeme.Comment, 2 + prefix_len (is_in class.Line) y) x (rw line at e) in
       elim (run_stops (is_in class.Line) y) [
         | inl all ↦ let k : x.1 ≡ length (b ∷ c ∷ y) = omega arith in rw k (IsCharBoundary-end (b ∷ c ∷ y))
         | inr some ↦
@@ -130,7 +133,7 @@ slash_cut b (c ∷ y) x first utf8 e = elim (cases_Bool (eqb c 47)) [
     comment_cut None is e = absurd cc
     comment_cut (Some n) is e =
         let (k, n-is, some, fits, last) = comment_ends 1 0 0 y n c is in
-        let m : 2 + n ≡ x.1 = cut_is (lexeme.Blank, 2 + n) x e in
+        let m : 2 + n ≡ x.1 = cut_is (lexeme.Comment, 2 + n) x e in
         let l : x.1 ≡ suc (suc k) = omega arith in
         rw l (after_ascii b (c ∷ y) (suc k) utf8 (omega arith) (omega (arith, last)))
 
@@ -163,6 +166,20 @@ sign_cut b z x one utf8 e = elim (cases_lt b 128) [
 sign_one : (b : ℕ) (x : Lexeme × ℕ) → sign b ≡ Ok x → x.1 ≡ 1
 sign_one b x e = grind (arith, nat_tests)
 
+version_boundary : (z : Text) (n : ℕ) → IsUtf8 z → version_len z ≡ Some n → IsCharBoundary z n
+version_boundary z zero utf8 e = absurd (let w = version_within z 0 e in omega (arith, w.0))
+version_boundary z (suc m) utf8 e =
+    let w = version_within z (suc m) e in
+    let ascii = version_ascii (take (suc m) z) (version_found z (suc m) e).version in
+    subst (λ n. IsCharBoundary z n) (add-one m) (IsCharBoundary-after_ascii z m utf8 (omega (arith, w.1)) (omega (arith, get_or-take (suc m) z m 0 (omega arith), ascii m)))
+
+digits_cut : (b : ℕ) (z : Text) (x : Lexeme × ℕ) → IsUtf8 (b ∷ z) → is_in class.Digit b ≡ true → (o : Option ℕ) → version_len (b ∷ z) ≡ o → version_or_number o (b ∷ z) ≡ Ok x → IsCharBoundary (b ∷ z) x.1
+digits_cut b z x utf8 digit (Some n) is e =
+    let k : n ≡ x.1 = cut_is (lexeme.Version, n) x e in
+    rw (← k) (version_boundary (b ∷ z) n utf8 is)
+digits_cut b z x utf8 digit None is e =
+    run_cut class.Digit lexeme.Number b z x digit_ascii (digit_ascii b digit) utf8 (run_within (is_in class.Digit) z) (rw digit at e)
+
 pub front_cut : (z : Text) (x : Lexeme × ℕ) → IsUtf8 z → x.1 ≤ length z → lexeme_at z ≡ Ok x → IsCharBoundary z x.1
 unfolding lexeme_at
 front_cut [] x utf8 fits e = absurd cc
@@ -171,7 +188,7 @@ front_cut (b ∷ z) x utf8 fits e = elim (cases_Bool (is_in class.Blank b)) [
   | inr a ↦ elim (cases_Bool (is_in class.Letter b)) [
     | inl letter ↦ run_cut class.Word lexeme.Word b z x word_ascii (letter_ascii b letter) utf8 (run_within (is_in class.Word) z) (rw (a, letter) at e)
     | inr c ↦ elim (cases_Bool (is_in class.Digit b)) [
-      | inl digit ↦ run_cut class.Digit lexeme.Number b z x digit_ascii (digit_ascii b digit) utf8 (run_within (is_in class.Digit) z) (rw (a, c, digit) at e)
+      | inl digit ↦ digits_cut b z x utf8 digit (version_len (b ∷ z)) refl (rw (a, c, digit) at e)
       | inr d ↦ elim (cases_Bool (eqb b 47)) [
         | inl slash ↦ slash_cut b z x (let is = eqb-true b 47 slash in omega arith) utf8 (rw (a, c, d, slash) at e)
         | inr f ↦ elim (cases_Bool (eqb b 45)) [

@@ -1,16 +1,17 @@
 -- Each production of texts is read as it says.
-use Rattle.std.proofs.Common.{◌≡◌, List, [], ◌∷◌, refl, true, Some, None, Ok, length, ◌<◌}
+use Rattle.std.proofs.Common.{◌≡◌, ℕ, List, [], ◌∷◌, refl, true, Some, None, Ok, length, ◌<◌, inl, inr}
 use Rattle.wit_syntax.specs.declared.fault.Rule.TheVariants as rules
 use Rattle.wit_syntax.specs.declared.token.Kind.{Kind}
 use Rattle.wit_syntax.specs.declared.token.Kind.TheVariants as kind
 use Rattle.wit_syntax.specs.declared.tree.Side.{Side}
 use Rattle.wit_syntax.specs.declared.tree.Side.TheVariants.{Import, Export}
-use Rattle.wit_syntax.specs.Token.{Tok, plain, same_kind}
+use Rattle.wit_syntax.specs.Token.{What, Tok, plain, same_kind}
 use Rattle.wit_syntax.specs.Tree.{ParameterTree, WorldItem}
-use Rattle.wit_syntax.specs.Production.{Production, ◌>>=◌, yield, refuse, optional, commas, until, finish, comma_step, until_step}
-use Rattle.wit_syntax.specs.TextGrammar.{name_in, name, primitive_in, primitive, parameter, function, item_after, item_at, item, file}
-use Rattle.wit_syntax.proofs.Laws.{Law, Avoids, NextLaw, bind_law, bind_open, yield_law, refuse_law, sign_law, one_law, branch_law}
+use Rattle.wit_syntax.specs.Production.{Production, ◌>>=◌, yield, refuse, optional, sees, commas, until, finish, comma_step, until_step}
+use Rattle.wit_syntax.specs.TextGrammar.{name_in, name, primitive_in, primitive, parameter, function, item_after, item_at, item, file, package_path, use_path}
+use Rattle.wit_syntax.proofs.Laws.{Clear, Law, Avoids, NextLaw, bind_law, bind_open, yield_law, refuse_law, sign_law, one_law, branch_law}
 use Rattle.wit_syntax.proofs.Choices.{Goes, by_law, avoid_yield, avoid_sign, avoid_one, avoid_first, avoid_branch, avoid_by, goes_one, goes_first, goes_by, is_within}
+use Rattle.wit_syntax.proofs.Texts.{Whole, whole_finish, whole_bind, whole_branch}
 use Rattle.wit_syntax.proofs.Turns.{until_law, commas_law, at_end_law, comma_turn, until_turn}
 
 ruleset laws = (bind_law, yield_law, refuse_law, sign_law, branch_law, commas_law, until_law)
@@ -39,6 +40,14 @@ optional_law ends k p l e f = branch_law ends k (p >>= (λ x. yield (Some x))) (
 
 finish_law : {X : Type 0} (ends : List Kind) (x : X) → Law ends (finish x)
 finish_law ends x = at_end_law ends x (refuse rules.Unexpected) (refuse_law ends rules.Unexpected) (record { shorter = λ ts y rest h. absurd h })
+
+none_clear : (ks : List Kind) → Clear ks []
+unfolding sees
+none_clear [] = tt
+none_clear (k ∷ ks) = (refl, none_clear ks)
+
+finish_avoids : {X : Type 0} (ends begins : List Kind) (x : X) → Avoids ends begins (finish x)
+finish_avoids ends begins x = record { clear = λ ts y rest h c. elim h [ inl done ↦ rw (done.0) (none_clear begins) | inr no_way ↦ absurd no_way ] }
 
 -- ---- functions
 
@@ -75,7 +84,7 @@ item_after_law : (side : Side) → Law [] (item_after side)
 unfolding item_after same_kind
 item_after_law side = search (laws, bind_open, avoids, name_law, function_law)
 
-item_next : (t : Tok) → NextLaw [] (item_at t)
+item_next : (t : What) → NextLaw [] (item_at t)
 item_next (plain kind.Import) = item_after_law Import
 item_next (plain kind.Export) = item_after_law Export
 item_next _ = tt
@@ -112,3 +121,25 @@ item_shorter ts i rest e = item_goes.shorter ts i rest (item_law.found ts i rest
 
 pub items_turn : (ts : List Tok) → (until item kind.RightBrace).read ts ≡ (until_step item kind.RightBrace (until item kind.RightBrace)).read ts
 items_turn ts = until_turn [] item kind.RightBrace item_law item_goes ts
+
+pub file_whole : Whole file
+unfolding file
+file_whole = search (whole_bind, whole_finish) depth 14
+
+-- ---- paths
+
+package_path_law : (namespace : List ℕ) → Law [] (package_path namespace)
+unfolding package_path
+package_path_law namespace = search (laws, name_law, finish_law)
+
+package_path_whole : (namespace : List ℕ) → Whole (package_path namespace)
+unfolding package_path
+package_path_whole namespace = search (whole_bind, whole_finish) depth 8
+
+pub use_path_law : Law [] use_path
+unfolding use_path
+use_path_law = search (laws, name_law, package_path_law, finish_law, finish_avoids)
+
+pub use_path_whole : Whole use_path
+unfolding use_path
+use_path_whole = search (whole_bind, whole_branch, whole_finish, package_path_whole) depth 8

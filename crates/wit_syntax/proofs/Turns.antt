@@ -92,7 +92,7 @@ repeat_law {X = X} ends begins step a l s = record {
 -- ---- lists
 
 pub after_shorter : (k : Kind) (ts : List Tok) → sees k ts ≡ true → length (after k ts) < length ts
-after_shorter k ts e = let l : length ts ≡ suc (length (after k ts)) = ap length (sees_is k ts e) in omega arith
+after_shorter k ts e = let l : length ts ≡ suc (length (after k ts)) = ap length (sees_is k ts e).first in omega arith
 
 until_reads : {A : Type 0} (ends : List Kind) (item : Production A) (shut : Kind) → Law ends item → Goes ends item → (p q : Production (List A)) (ts : List Tok)
     → ((us : List Tok) → length us < length ts → p.read us ≡ q.read us) → (until_step item shut p).read ts ≡ (until_step item shut q).read ts
@@ -172,7 +172,7 @@ comma_fronts ends item shut g p q ts x rest h f = elim (f.way) [
   | inr more ↦ elim (more.second.way) [
     | inl c ↦
         let m = c.2 in
-        let l : length more.mid ≡ suc (length c.0) = rw (c.1) refl in
+        let l : length more.mid ≡ suc (length c.0) = rw (c.1.first) refl in
         let short : length c.0 < length ts = omega (arith, g.shorter ts more.value more.mid more.first) in
         record { way = inr (record { value = more.value; mid = more.mid; first = more.first; second = record { way = inl (c.0, c.1, record { value = m.value; mid = m.mid; first = h c.0 m.value m.mid short m.first; second = m.second }) } }) }
     | inr last ↦ record { way = inr (record { value = more.value; mid = more.mid; first = more.first; second = record { way = inr last } }) }
@@ -224,7 +224,7 @@ end_suffix ends x q l ts y rest (inl h) = record { taken = []; parts = h.0 ∙ s
 end_suffix ends x q l ts y rest (inr h) = l.suffix ts y rest h
 
 at_end_goes : {X : Type 0} (x : X) (read : List Tok → Outcome X) (t : Tok) (ts us : List Tok) → ahead (t ∷ ts) ≡ ahead us → at_end_at x read us ≡ read us
-at_end_goes x read t ts us e = let a = ahead_is t ts us e in rw (a.1) refl
+at_end_goes x read t ts us e = let a = ahead_is t ts us e in rw (a.2) refl
 
 end_steady : {X : Type 0} (ends : List Kind) (x : X) (q : Production X) → Law ends q → (ts : List Tok) (y : X) (rest : List Tok) → at_end_at x q.read ts ≡ Ok (y, rest) → Moves ts rest (λ us next. at_end_at x q.read us ≡ Ok (y, next))
 end_steady ends x q l [] y rest e =

@@ -1,5 +1,5 @@
 -- The lexeme at the front of a text, and the tokens that reading gives.
-use Rattle.std.specs.Prelude.{ℕ, zero, suc, take, drop, length, ◌+◌, ◌-◌, Bool, not, ◌&&◌, ◌||◌, if◌then◌else◌, ◌==◌, List, [], ◌∷◌, ◌++◌, Option, Some, None, Result, Ok, Err}
+use Rattle.std.specs.Prelude.{ℕ, zero, suc, take, drop, length, ◌+◌, ◌-◌, Bool, false, not, ◌&&◌, ◌||◌, if◌then◌else◌, ◌==◌, List, [], ◌∷◌, ◌++◌, Option, Some, None, Result, Ok, Err, bytes_eq, map}
 use Rattle.std.specs.Char.{is_ascii_digit, is_ascii_alphabetic, is_ascii_alphanumeric}
 use Rattle.std.specs.List.{prefix_len}
 use Rattle.wit_syntax.specs.declared.fault.Fault.{Fault}
@@ -11,12 +11,14 @@ use Rattle.wit_syntax.specs.declared.lex.Lexeme.{Lexeme}
 use Rattle.wit_syntax.specs.declared.lex.Lexeme.TheVariants as lexeme
 use Rattle.wit_syntax.specs.declared.token.Kind.{Kind}
 use Rattle.wit_syntax.specs.declared.token.Kind.TheVariants as kind
-use Rattle.wit_syntax.specs.Token.{Tok, plain, number, ident}
+use Rattle.wit_syntax.specs.declared.tokens.Found.{Found}
+use Rattle.wit_syntax.specs.declared.tokens.Kept.{Kept as KeptTokens}
+use Rattle.wit_syntax.specs.declared.tokens.Found.TheVariants as found
+use Rattle.wit_syntax.specs.Token.{What, Tok, plain, number, version, ident, what, toks}
+use Rattle.wit_syntax.specs.Version.{version_len}
 use Rattle.wit_syntax.specs.Keyword.{keyword}
+pub use Rattle.wit_syntax.specs.Version.{Text}
 use Rattle.wit_syntax.specs.Identifier.{is_identifier}
-
-abbrev pub Text : Type 0
-Text = List ℕ
 
 abbrev pub Cut : Type 0
 Cut = Result (Lexeme × ℕ) Rule
@@ -37,13 +39,13 @@ comment_from depth last at (b ∷ z) =
     else comment_from depth b (at + 1) z
 
 abbrev pub closed : Option ℕ → Cut
-closed (Some n) = Ok (lexeme.Blank, 2 + n)
+closed (Some n) = Ok (lexeme.Comment, 2 + n)
 closed None = Err OpenComment
 
 abbrev pub slash : Text → Cut
 slash [] = Ok (lexeme.Plain kind.Slash, 1)
 slash (b ∷ z) =
-    if b == 47 then Ok (lexeme.Blank, 2 + prefix_len (is_in class.Line) z)
+    if b == 47 then Ok (lexeme.Comment, 2 + prefix_len (is_in class.Line) z)
     else if b == 42 then closed (comment_from 1 0 0 z)
     else Ok (lexeme.Plain kind.Slash, 1)
 
@@ -66,24 +68,49 @@ sign b =
     else if b == 95 then Ok (lexeme.Plain kind.Underscore, 1)
     else Err BadCharacter
 
+-- the version at the front, or else the number
+abbrev pub version_or_number : Option ℕ → Text → Cut
+version_or_number (Some n) z = Ok (lexeme.Version, n)
+version_or_number None z = Ok (lexeme.Number, prefix_len (is_in class.Digit) z)
+
+abbrev pub digits : Text → Cut
+digits z = version_or_number (version_len z) z
+
+abbrev pub begins_with_digit : Text → Bool
+begins_with_digit [] = false
+begins_with_digit (b ∷ z) = is_in class.Digit b
+
 unfoldable pub lexeme_at : Text → Cut
 lexeme_at [] = Err BadCharacter
 lexeme_at (b ∷ z) =
     if is_in class.Blank b then Ok (lexeme.Blank, 1)
     else if is_in class.Letter b then Ok (lexeme.Word, 1 + prefix_len (is_in class.Word) z)
-    else if is_in class.Digit b then Ok (lexeme.Number, 1 + prefix_len (is_in class.Digit) z)
+    else if is_in class.Digit b then digits (b ∷ z)
     else if b == 47 then slash z
     else if b == 45 then minus z
     else if b == 37 then percent z
     else sign b
 
--- ---- the token that a lexeme is
+-- ---- what a lexeme is: nothing, docs of the token behind it, or a token
 
-abbrev pub name_token : Text → Result (Option Tok) Rule
-name_token x = if is_identifier x then Ok (Some (ident x)) else Err BadIdentifier
+pub data Piece : Type 0 where
+  nothing : Piece
+  doc : Text → Piece
+  token : What → Piece
 
-abbrev pub word_token : Option Kind → Text → Result (Option Tok) Rule
-word_token (Some k) x = Ok (Some (plain k))
+-- a comment that begins `///`, or `/**` and isn't `/**/`, is docs
+abbrev pub is_doc : Text → Bool
+is_doc (a ∷ b ∷ c ∷ z) = a == 47 && ((b == 47 && c == 47) || (b == 42 && (c == 42 && not (bytes_eq z (47 ∷ [])))))
+is_doc z = false
+
+abbrev pub comment_piece : Text → Piece
+comment_piece x = if is_doc x then doc x else nothing
+
+abbrev pub name_token : Text → Result Piece Rule
+name_token x = if is_identifier x then Ok (token (ident x)) else Err BadIdentifier
+
+abbrev pub word_token : Option Kind → Text → Result Piece Rule
+word_token (Some k) x = Ok (token (plain k))
 word_token None x = name_token x
 
 -- the text behind a first `%`
@@ -91,12 +118,14 @@ abbrev pub unmarked : Text → Text
 unmarked [] = []
 unmarked (b ∷ x) = if b == 37 then x else b ∷ x
 
-abbrev pub token_of : Lexeme → Text → Result (Option Tok) Rule
-token_of lexeme.Blank x = Ok None
-token_of (lexeme.Plain k) x = Ok (Some (plain k))
-token_of lexeme.Number x = Ok (Some (number x))
-token_of lexeme.Word x = word_token (keyword x) x
-token_of lexeme.Marked x = name_token (unmarked x)
+abbrev pub piece_of : Lexeme → Text → Result Piece Rule
+piece_of lexeme.Blank x = Ok nothing
+piece_of lexeme.Comment x = Ok (comment_piece x)
+piece_of (lexeme.Plain k) x = Ok (token (plain k))
+piece_of lexeme.Number x = Ok (token (number x))
+piece_of lexeme.Version x = Ok (token (version x))
+piece_of lexeme.Word x = word_token (keyword x) x
+piece_of lexeme.Marked x = name_token (unmarked x)
 
 -- ---- all tokens of a text
 
@@ -104,32 +133,42 @@ abbrev pub and_then : {A B E : Type 0} → Result A E → (A → Result B E) →
 and_then (Ok x) f = f x
 and_then (Err e) f = Err e
 
-abbrev pub behind : Text → ℕ → Option Tok → Result (Option Tok × Text) Rule
-behind z n t = Ok (t, drop n z)
+abbrev pub behind : Text → ℕ → Piece → Result (Piece × Text) Rule
+behind z n p = Ok (p, drop n z)
 
-abbrev pub piece_of : Text → Lexeme × ℕ → Result (Option Tok × Text) Rule
-piece_of z x = and_then (token_of x.0 (take x.1 z)) (behind z x.1)
+abbrev pub piece_at : Text → Lexeme × ℕ → Result (Piece × Text) Rule
+piece_at z x = and_then (piece_of x.0 (take x.1 z)) (behind z x.1)
 
--- the token at the front, or none for a blank, and the text behind it
-unfoldable pub piece : Text → Result (Option Tok × Text) Rule
-piece z = and_then (lexeme_at z) (piece_of z)
+-- what stands at the front, and the text behind it
+unfoldable pub piece : Text → Result (Piece × Text) Rule
+piece z = and_then (lexeme_at z) (piece_at z)
 
 -- a rule is broken where the text z is left
 abbrev pub placed : {A : Type 0} → Text → Result A Rule → Result A Fault
 placed z (Ok x) = Ok x
 placed z (Err rule) = Err (record { rule = rule; left = length z })
 
-abbrev pub prepend : Option Tok → Result (List Tok) Fault → Result (List Tok) Fault
-prepend (Some t) (Ok ts) = Ok (t ∷ ts)
-prepend None (Ok ts) = Ok ts
-prepend o (Err e) = Err e
+-- docs belong to the token behind them; those behind the last token to none
+abbrev pub with_doc : Text → List Tok → List Tok
+with_doc x [] = []
+with_doc x (t ∷ ts) = record { docs = x ∷ t.docs; what = t.what } ∷ ts
 
-abbrev pub lex_token : Result (List Tok) Fault → Result (Option Tok) Fault → Result (List Tok) Fault
-lex_token next (Ok t) = prepend t next
+-- the tokens, with something in front of them
+abbrev pub put : Piece → List Tok → List Tok
+put nothing ts = ts
+put (doc x) ts = with_doc x ts
+put (token w) ts = record { docs = []; what = w } ∷ ts
+
+abbrev pub prepend : Piece → Result (List Tok) Fault → Result (List Tok) Fault
+prepend p (Ok ts) = Ok (put p ts)
+prepend p (Err e) = Err e
+
+abbrev pub lex_token : Result (List Tok) Fault → Result Piece Fault → Result (List Tok) Fault
+lex_token next (Ok p) = prepend p next
 lex_token next (Err e) = Err e
 
 abbrev pub lex_step : Text → (ℕ → Result (List Tok) Fault) → Result (Lexeme × ℕ) Fault → Result (List Tok) Fault
-lex_step z next (Ok x) = lex_token (next x.1) (placed z (token_of x.0 (take x.1 z)))
+lex_step z next (Ok x) = lex_token (next x.1) (placed z (piece_of x.0 (take x.1 z)))
 lex_step z next (Err e) = Err e
 
 -- The number counts the bytes that are left of a lexeme.
@@ -154,10 +193,31 @@ without_mark z = z
 unfoldable pub lex : Text → Result (List Tok) Fault
 lex z = lex_bare (without_mark z)
 
-abbrev pub with_last : List Tok → Option Tok → List Tok
-with_last ts None = ts
-with_last ts (Some t) = ts ++ t ∷ []
+abbrev pub found_piece : Found → Piece
+found_piece found.Nothing = nothing
+found_piece (found.Docs x) = doc x.now
+found_piece (found.Token t) = token (what t)
 
-abbrev pub with_front : List Tok → Result (List Tok) Fault → Result (List Tok) Fault
-with_front front (Ok ts) = Ok (front ++ ts)
-with_front front (Err e) = Err e
+-- ---- what the loop keeps: the tokens found, and the docs behind them
+
+pub record Kept : Type 0 where
+  pub tokens : List Tok
+  pub docs : List Text
+
+abbrev pub kept : KeptTokens → Kept
+kept k = record { tokens = toks k.tokens.items; docs = map (λ d. d.now) k.docs.items }
+
+-- with something more behind them
+abbrev pub with_last : Kept → Piece → Kept
+with_last k nothing = k
+with_last k (doc x) = record k { docs = k.docs ++ x ∷ [] }
+with_last k (token w) = record { tokens = k.tokens ++ record { docs = k.docs; what = w } ∷ []; docs = [] }
+
+abbrev pub with_docs : List Text → List Tok → List Tok
+with_docs ds [] = []
+with_docs ds (t ∷ ts) = record { docs = ds ++ t.docs; what = t.what } ∷ ts
+
+-- the tokens of a text whose front these are
+abbrev pub with_front : Kept → Result (List Tok) Fault → Result (List Tok) Fault
+with_front k (Ok ts) = Ok (k.tokens ++ with_docs k.docs ts)
+with_front k (Err e) = Err e

@@ -8,7 +8,8 @@ use Rattle.wit_syntax.specs.declared.lex.Lexeme.TheVariants as lexeme
 use Rattle.wit_syntax.specs.declared.token.Kind.{Kind}
 use Rattle.wit_syntax.specs.declared.token.Kind.TheVariants as kind
 use Rattle.wit_syntax.specs.Token.{Tok}
-use Rattle.wit_syntax.specs.Lex.{Text, is_in, token_of, mark}
+use Rattle.wit_syntax.specs.Version.{IsVersionFront, HasNoVersion}
+use Rattle.wit_syntax.specs.Lex.{Text, is_in, Piece, piece_of, put, mark}
 
 abbrev pub AllIn : Class → Text → Type 0
 AllIn c [] = Unit {0}
@@ -70,26 +71,28 @@ pub data Inside : ℕ → Text → Type 0 where
 abbrev pub IsComment : Text → Type 0
 IsComment x = (y : Text) × (x ≡ 47 ∷ 42 ∷ y) × Inside 1 y
 
-abbrev pub IsBlank : Text → Text → Type 0
-IsBlank x rest = ((b : ℕ) × (x ≡ b ∷ []) × (is_in class.Blank b ≡ true)) ⊎ (IsLineComment x rest ⊎ IsComment x)
+abbrev pub IsBlank : Text → Type 0
+IsBlank x = (b : ℕ) × (x ≡ b ∷ []) × (is_in class.Blank b ≡ true)
 
 -- the bytes x, with rest behind them, are one lexeme
 abbrev pub IsLexeme : Lexeme → Text → Text → Type 0
-IsLexeme lexeme.Blank x rest = IsBlank x rest
+IsLexeme lexeme.Blank x rest = IsBlank x
+IsLexeme lexeme.Comment x rest = IsLineComment x rest ⊎ IsComment x
 IsLexeme (lexeme.Plain k) x rest = IsSign k x rest
-IsLexeme lexeme.Number x rest = Starts class.Digit class.Digit x rest
+IsLexeme lexeme.Number x rest = Starts class.Digit class.Digit x rest × HasNoVersion (x ++ rest)
+IsLexeme lexeme.Version x rest = IsVersionFront x rest
 IsLexeme lexeme.Word x rest = Starts class.Letter class.Word x rest
 IsLexeme lexeme.Marked x rest = (y : Text) × (x ≡ 37 ∷ y) × Starts class.Letter class.Word y rest
 
-abbrev pub AddsToken : Result (Option Tok) Rule → List Tok → List Tok → Type 0
-AddsToken (Ok None) ts us = us ≡ ts
-AddsToken (Ok (Some t)) ts us = us ≡ t ∷ ts
-AddsToken (Err rule) ts us = ⊥
+-- what a lexeme is, put in front of tokens; a broken rule is nothing
+abbrev pub Adds : Result Piece Rule → List Tok → List Tok → Type 0
+Adds (Ok p) ts us = us ≡ put p ts
+Adds (Err rule) ts us = ⊥
 
--- the text is these tokens, with blanks and comments between
+-- the text is these tokens, each with the docs in front of it, and blanks and other comments between
 pub data Lexes : Text → List Tok → Type 0 where
   ends : Lexes [] []
-  goes : (l : Lexeme) (x rest text : Text) (ts us : List Tok) → text ≡ x ++ rest → IsLexeme l x rest → Lexes rest ts → AddsToken (token_of l x) ts us → Lexes text us
+  goes : (l : Lexeme) (x rest text : Text) (ts us : List Tok) → text ≡ x ++ rest → IsLexeme l x rest → Lexes rest ts → Adds (piece_of l x) ts us → Lexes text us
 
 -- the same of a whole text, which may begin with a byte order mark
 abbrev pub LexesText : Text → List Tok → Type 0

@@ -9,3 +9,4 @@ pub mod Tree
 pub mod TextGrammar
 pub mod View
 pub mod Place
+pub mod Version

@@ -2,13 +2,13 @@
 use Rattle.std.specs.Prelude.{◌≡◌, ℕ, List, [], ◌∷◌, ◌++◌, length, Option, Some, None, Result, Ok, Err}
 use Rattle.wit_syntax.specs.declared.fault.ReadError.{ReadError}
 use Rattle.wit_syntax.specs.declared.fault.ReadError.TheVariants as errors
-use Rattle.wit_syntax.specs.Token.{Tok}
+use Rattle.wit_syntax.specs.Token.{What, Tok}
 use Rattle.wit_syntax.specs.Production.{Production}
 
--- the next token, if any
-abbrev pub ahead : List Tok → Option Tok
+-- the next token, if any, whatever docs are in front of it
+abbrev pub ahead : List Tok → Option What
 ahead [] = None
-ahead (t ∷ ts) = Some t
+ahead (t ∷ ts) = Some t.what
 
 -- nothing of the production begins with the tokens before this place and the one that stands there, or is those before it where none does
 pub record EndsHere {X : Type 0} (p : Production X) (ts : List Tok) (left : ℕ) : Type 0 where

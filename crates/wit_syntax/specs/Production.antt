@@ -7,7 +7,7 @@ use Rattle.wit_syntax.specs.declared.fault.ReadError.{ReadError}
 use Rattle.wit_syntax.specs.Outcome.{Fails}
 use Rattle.wit_syntax.specs.declared.token.Kind.{Kind}
 use Rattle.wit_syntax.specs.declared.token.Kind.TheVariants as kind
-use Rattle.wit_syntax.specs.Token.{Tok, plain, number, ident, same_kind}
+use Rattle.wit_syntax.specs.Token.{What, Tok, plain, number, version, ident, same_kind}
 
 abbrev pub Outcome : Type 0 → Type 0
 Outcome A = Result (A × List Tok) Fault
@@ -47,42 +47,50 @@ yield x = record { front = λ y ts rest. (ts ≡ rest) × (y ≡ x); read = λ t
 abbrev pub refuse : {X : Type 0} → Rule → Production X
 refuse rule = record { front = λ y ts rest. ⊥; read = λ ts. wrong rule ts }
 
+abbrev pub is_kind : Kind → What → Bool
+is_kind k (plain j) = same_kind j k
+is_kind k (number s) = false
+is_kind k (version s) = false
+is_kind k (ident s) = false
+
 unfoldable pub sees : Kind → List Tok → Bool
 sees k [] = false
-sees k (plain j ∷ ts) = same_kind j k
-sees k (number s ∷ ts) = false
-sees k (ident s ∷ ts) = false
+sees k (t ∷ ts) = is_kind k t.what
 
 unfoldable pub after : Kind → List Tok → List Tok
 after k [] = []
-after k (plain j ∷ ts) = if same_kind j k then ts else plain j ∷ ts
-after k (number s ∷ ts) = number s ∷ ts
-after k (ident s ∷ ts) = ident s ∷ ts
+after k (t ∷ ts) = if is_kind k t.what then ts else t ∷ ts
+
+-- a sign or keyword stands there, whatever docs are in front of it
+pub record Stands (k : Kind) (ts rest : List Tok) : Type 0 where
+  pub token : Tok
+  pub first : ts ≡ token ∷ rest
+  pub is : token.what ≡ plain k
 
 -- a sign or keyword
 unfoldable pub sign : Kind → Production (Unit {0})
-sign k = record { front = λ _ ts rest. ts ≡ plain k ∷ rest; read = λ ts. if sees k ts then Ok (tt, after k ts) else wrong rules.Unexpected (after k ts) }
+sign k = record { front = λ _ ts rest. Stands k ts rest; read = λ ts. if sees k ts then Ok (tt, after k ts) else wrong rules.Unexpected (after k ts) }
 
 -- a token that is judged by itself
 abbrev pub judged : {X : Type 0} → List Tok → Result X Rule → List Tok → Outcome X
 judged whole (Ok x) ts = Ok (x, ts)
 judged whole (Err rule) ts = wrong rule whole
 
-abbrev pub one_at : {X : Type 0} → (Tok → Result X Rule) → List Tok → Outcome X
+abbrev pub one_at : {X : Type 0} → (What → Result X Rule) → List Tok → Outcome X
 one_at judge [] = wrong rules.Unexpected []
-one_at judge (t ∷ ts) = judged (t ∷ ts) (judge t) ts
+one_at judge (t ∷ ts) = judged (t ∷ ts) (judge t.what) ts
 
-pub record Taken {X : Type 0} (judge : Tok → Result X Rule) (x : X) (ts rest : List Tok) : Type 0 where
+pub record Taken {X : Type 0} (judge : What → Result X Rule) (x : X) (ts rest : List Tok) : Type 0 where
   pub token : Tok
   pub first : ts ≡ token ∷ rest
-  pub good : judge token ≡ Ok x
+  pub good : judge token.what ≡ Ok x
 
-abbrev pub one : {X : Type 0} → (Tok → Result X Rule) → Production X
+abbrev pub one : {X : Type 0} → (What → Result X Rule) → Production X
 one judge = record { front = Taken judge; read = one_at judge }
 
 -- a sign or keyword and what comes after it, or else something that doesn't begin so
 pub record Branches {X : Type 0} (k : Kind) (p q : Production X) (x : X) (ts rest : List Tok) : Type 0 where
-  pub way : ((mid : List Tok) × (ts ≡ plain k ∷ mid) × p.front x mid rest) ⊎ q.front x ts rest
+  pub way : ((mid : List Tok) × Stands k ts mid × p.front x mid rest) ⊎ q.front x ts rest
 
 abbrev pub branch_at : {X : Type 0} → Kind → Production X → Production X → List Tok → Outcome X
 branch_at k p q ts = if sees k ts then p.read (after k ts) else q.read ts
@@ -109,17 +117,17 @@ abbrev pub next_at : {X : Type 0} → List Tok → Next X → List Tok → Outco
 next_at whole none ts = wrong rules.Unexpected whole
 next_at whole (goes p) ts = p.read ts
 
-abbrev pub by_at : {X : Type 0} → (Tok → Next X) → List Tok → Outcome X
+abbrev pub by_at : {X : Type 0} → (What → Next X) → List Tok → Outcome X
 by_at table [] = wrong rules.Unexpected []
-by_at table (t ∷ ts) = next_at (t ∷ ts) (table t) ts
+by_at table (t ∷ ts) = next_at (t ∷ ts) (table t.what) ts
 
-pub record Chosen {X : Type 0} (table : Tok → Next X) (x : X) (ts rest : List Tok) : Type 0 where
+pub record Chosen {X : Type 0} (table : What → Next X) (x : X) (ts rest : List Tok) : Type 0 where
   pub token : Tok
   pub mid : List Tok
   pub first : ts ≡ token ∷ mid
-  pub second : next_front (table token) x mid rest
+  pub second : next_front (table token.what) x mid rest
 
-abbrev pub by : {X : Type 0} → (Tok → Next X) → Production X
+abbrev pub by : {X : Type 0} → (What → Next X) → Production X
 by table = record { front = Chosen table; read = by_at table }
 
 -- so many turns, each of which says what the rest of them has to be

@@ -11,11 +11,11 @@ use Rattle.wit_syntax.specs.declared.tree.Side.{Side}
 use Rattle.wit_syntax.specs.declared.tree.Side.TheVariants.{Import, Export}
 use Rattle.wit_syntax.specs.Lex.{Text, lex, and_then}
 use Rattle.wit_syntax.specs.Lexical.{LexesText}
-use Rattle.wit_syntax.specs.Token.{Tok, plain, ident}
-use Rattle.wit_syntax.specs.Tree.{ParameterTree, FuncTree, WorldItem, FileTree}
-use Rattle.wit_syntax.specs.Production.{Production, ◌>>=◌, ◌>>◌, Outcome, yield, sign, one, optional, Next, none, goes, by, commas, until, finish}
+use Rattle.wit_syntax.specs.Token.{What, Tok, plain, ident}
+use Rattle.wit_syntax.specs.Tree.{ParameterTree, FuncTree, WorldItem, FileTree, UsePathTree, id, in_package}
+use Rattle.wit_syntax.specs.Production.{Production, ◌>>=◌, ◌>>◌, Outcome, yield, sign, one, branch, optional, Next, none, goes, by, commas, until, finish}
 
-abbrev pub name_in : Tok → Result (List ℕ) Rule
+abbrev pub name_in : What → Result (List ℕ) Rule
 name_in (ident s) = Ok s
 name_in _ = Err rules.Unexpected
 
@@ -34,7 +34,7 @@ primitive_of kind.S32 = Ok primitives.S32
 primitive_of kind.S64 = Ok primitives.S64
 primitive_of _ = Err rules.Unexpected
 
-abbrev pub primitive_in : Tok → Result Primitive Rule
+abbrev pub primitive_in : What → Result Primitive Rule
 primitive_in (plain k) = primitive_of k
 primitive_in _ = Err rules.Unexpected
 
@@ -64,7 +64,7 @@ item_after side = do
   sign kind.Semicolon
   yield (record { side = side; name = n; function = f })
 
-abbrev pub item_at : Tok → Next WorldItem
+abbrev pub item_at : What → Next WorldItem
 item_at (plain kind.Import) = goes (item_after Import)
 item_at (plain kind.Export) = goes (item_after Export)
 item_at _ = none
@@ -85,16 +85,38 @@ file = do
   is ← until item kind.RightBrace
   finish (record { namespace = n; name = t; world = w; items = is })
 
+-- ---- paths: id, or id:id/id
+
+unfoldable pub package_path : List ℕ → Production UsePathTree
+package_path namespace = do
+  p ← name
+  sign kind.Slash
+  n ← name
+  finish (in_package namespace p n)
+
+unfoldable pub use_path : Production UsePathTree
+use_path = do
+  n ← name
+  branch kind.Colon (package_path n) (finish (id n))
+
 -- ---- whole texts
 
 abbrev pub value_of : {X : Type 0} → Outcome X → Result X Fault
 value_of (Ok p) = Ok p.0
 value_of (Err e) = Err e
 
--- the tree that reading a text gives
-unfoldable pub file_at : Text → Result FileTree Fault
-file_at text = and_then (lex text) (λ ts. value_of (file.read ts))
+-- what reading the whole of a text by a production gives
+unfoldable pub text_at : {X : Type 0} → Production X → Text → Result X Fault
+text_at p text = and_then (lex text) (λ ts. value_of (p.read ts))
+
+-- the whole of the text is of the production, and this is its value
+abbrev pub IsTextOf : {X : Type 0} → Production X → Text → X → Type 0
+IsTextOf p text d = (ts : List Tok) × LexesText text ts × p.front d ts []
 
 -- the text is of the grammar, and this is its tree
 abbrev pub IsText : Text → FileTree → Type 0
-IsText text d = (ts : List Tok) × LexesText text ts × file.front d ts []
+IsText = IsTextOf file
+
+-- the text is a path, and this is its tree
+abbrev pub IsUsePath : Text → UsePathTree → Type 0
+IsUsePath = IsTextOf use_path

@@ -19,6 +19,11 @@ pub record WorldItem : Type 0 where
   pub name : List ℕ
   pub function : FuncTree
 
+-- a plain name, or the name of something in a package: namespace:package/name
+pub data UsePathTree : Type 0 where
+  id : List ℕ → UsePathTree
+  in_package : (namespace «package» name : List ℕ) → UsePathTree
+
 -- package namespace:name; world world { item .. }
 pub record FileTree : Type 0 where
   pub namespace : List ℕ

@@ -1,13 +1,13 @@
 //! A cursor over tokens.
 
-ghost use Rattle.std.specs.Prelude.{◌≡◌, ◌∷◌, [], false, length, MatchOption};
-ghost use Rattle.wit_syntax.specs.Token.{tok, toks};
+ghost use Rattle.std.specs.Prelude.{◌≡◌, ◌<◌, ◌∷◌, [], false, length, IfOk, IfErr, MatchOption};
+ghost use Rattle.wit_syntax.specs.Token.{Tok, what, toks};
 ghost use Rattle.wit_syntax.specs.Production as spec;
 ghost use Rattle.wit_syntax.specs.Production.{Reads};
 ghost use Rattle.wit_syntax.specs.TextGrammar.{name};
 
 use crate::fault::{Fault, ReadError, Rule};
-use crate::token::{Kind, Token, same_kind};
+use crate::token::{DocumentedToken, Kind, Token, same_kind};
 use std::marker::Model;
 
 /// The error of a broken rule where `left` tokens are left.
@@ -17,10 +17,20 @@ pub fn fault(rule: Rule, left: usize) -> ReadError
     ReadError::Malformed(Fault { rule, left })
 }
 
+/// Whether a token is this sign or keyword.
+fn is_kind(token: Token, kind: Kind) -> bool
+    ensures { result ≡ spec.is_kind kind (what token.entry) }
+{
+    match token {
+        Token::Plain(found) => same_kind(found, kind),
+        _ => false,
+    }
+}
+
 /// The tokens that are still to be read.
 #[derive(Drop)]
 pub struct Tokens<'t, 'a> {
-    rest: &'t [Token<'a>],
+    rest: &'t [DocumentedToken<'a>],
 }
 
 impl<'t, 'a> Model for Tokens<'t, 'a> {
@@ -34,7 +44,7 @@ impl<'t, 'a> Model for Tokens<'t, 'a> {
 
 impl<'t, 'a> Tokens<'t, 'a> {
     /// A cursor in front of the first of `rest`.
-    pub fn new(rest: &'t [Token<'a>]) -> Tokens<'t, 'a>
+    pub fn new(rest: &'t [DocumentedToken<'a>]) -> Tokens<'t, 'a>
         ensures { result ≡ toks rest.now }
     {
         Tokens { rest }
@@ -54,6 +64,17 @@ impl<'t, 'a> Tokens<'t, 'a> {
         fault(Rule::Unexpected, self.left())
     }
 
+    /// Refuses any token.
+    pub fn end(&self) -> Result<(), ReadError>
+        ensures ended { IfOk result (λ _. self.now ≡ []) }
+        ensures refused { IfErr result (λ e. (0 < length self.now) × (e ≡ ReadError.Malformed (record { rule = Rule.Unexpected; left = length self.now }))) }
+    {
+        if self.left() > 0 {
+            return Err(self.unexpected());
+        }
+        Ok(())
+    }
+
     /// Whether the next token is this sign or keyword, which is then taken.
     #[tactic(auto, unfolding(crate::specs::Production::sees, crate::specs::Production::after))]
     pub fn eat(&mut self, kind: Kind) -> bool
@@ -62,7 +83,7 @@ impl<'t, 'a> Tokens<'t, 'a> {
         ensures kept { result ≡ false → self.new ≡ self.old }
     {
         match self.rest {
-            [Token::Plain(first), rest @ ..] if same_kind(*first, kind) => {
+            [first, rest @ ..] if is_kind(first.token, kind) => {
                 self.rest = rest;
                 true
             }
@@ -88,9 +109,9 @@ impl<'t, 'a> Tokens<'t, 'a> {
         ensures { Reads (λ x. x.now) result self.new (name.read self.old) }
     {
         match self.rest {
-            [Token::Name(name), rest @ ..] => {
+            [first, rest @ ..] if let Token::Name(name) = first.token => {
                 self.rest = rest;
-                Ok(*name)
+                Ok(name)
             }
             _ => Err(self.unexpected()),
         }
@@ -98,13 +119,13 @@ impl<'t, 'a> Tokens<'t, 'a> {
 
     /// Takes the next token, if there is one.
     pub fn next(&mut self) -> Option<Token<'a>>
-        ensures { MatchOption result ((self.old ≡ []) × (self.new ≡ [])) (λ t. self.old ≡ tok t ∷ self.new) }
+        ensures { MatchOption result ((self.old ≡ []) × (self.new ≡ [])) (λ w. (t : Tok) × (self.old ≡ t ∷ self.new) × (t.what ≡ what w)) }
     {
         match self.rest {
             [] => None,
             [first, rest @ ..] => {
                 self.rest = rest;
-                Some(*first)
+                Some(first.token)
             }
         }
     }

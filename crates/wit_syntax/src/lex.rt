@@ -1,11 +1,12 @@
 //! The lexeme at the front of a text.
 
-ghost use Rattle.std.specs.Prelude.{◌≡◌, ◌+◌, ◌≤◌, length, IfOk, IfSome};
+ghost use Rattle.std.specs.Prelude.{◌≡◌, ◌+◌, ◌≤◌, Ok, true, length, IfOk, IfSome};
 ghost use Rattle.std.specs.List.{prefix_len};
 ghost use Rattle.wit_syntax.specs.Lex as spec;
 
 use crate::fault::Rule;
 use crate::token::Kind;
+use crate::version::version_len;
 
 /// A class of bytes.
 #[derive(Clone, Copy, Debug)]
@@ -25,12 +26,16 @@ pub enum Class {
 /// What stands in a text, as one.
 #[derive(Clone, Copy, Debug)]
 pub enum Lexeme {
-    /// A blank or a comment.
+    /// A blank.
     Blank,
+    /// A comment, which may be docs.
+    Comment,
     /// A sign.
     Plain(Kind),
-    /// A run of digits.
+    /// A run of digits that begins no version.
     Number,
+    /// A version.
+    Version,
     /// A keyword or an identifier.
     Word,
     /// A `%` and an identifier.
@@ -108,9 +113,9 @@ fn slash(rest: &[u8]) -> Result<(Lexeme, usize), Rule>
     ensures within { IfOk result (λ x. (1 ≤ x.1) × (x.1 ≤ length rest.now + 1)) }
 {
     match rest {
-        [b'/', line @ ..] => Ok((Lexeme::Blank, 2 + run(Class::Line, line))),
+        [b'/', line @ ..] => Ok((Lexeme::Comment, 2 + run(Class::Line, line))),
         [b'*', inside @ ..] => match comment_len(inside) {
-            Some(len) => Ok((Lexeme::Blank, 2 + len)),
+            Some(len) => Ok((Lexeme::Comment, 2 + len)),
             None => Err(Rule::OpenComment),
         },
         _ => Ok((Lexeme::Plain(Kind::Slash), 1)),
@@ -141,6 +146,18 @@ fn percent(rest: &[u8]) -> Result<(Lexeme, usize), Rule>
     }
 }
 
+/// The version at the front, or else the number.
+fn digits(text: &[u8]) -> (Lexeme, usize)
+    requires { spec.begins_with_digit text.now ≡ true }
+    ensures value { spec.digits text.now ≡ Ok result }
+    ensures within { (1 ≤ result.1) × (result.1 ≤ length text.now) }
+{
+    match version_len(text) {
+        Some(len) => (Lexeme::Version, len),
+        None => (Lexeme::Number, run(Class::Digit, text)),
+    }
+}
+
 /// The lexeme at the front, and how many bytes it has.
 #[tactic(auto, unfolding(crate::specs::Lex::lexeme_at))]
 pub fn front(text: &[u8]) -> Result<(Lexeme, usize), Rule>
@@ -153,7 +170,7 @@ pub fn front(text: &[u8]) -> Result<(Lexeme, usize), Rule>
     match *byte {
         first if is_in(Class::Blank, first) => Ok((Lexeme::Blank, 1)),
         first if is_in(Class::Letter, first) => Ok((Lexeme::Word, 1 + run(Class::Word, rest))),
-        first if is_in(Class::Digit, first) => Ok((Lexeme::Number, 1 + run(Class::Digit, rest))),
+        first if is_in(Class::Digit, first) => Ok(digits(text)),
         b'/' => slash(rest),
         b'-' => minus(rest),
         b'%' => percent(rest),

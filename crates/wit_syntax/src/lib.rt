@@ -10,13 +10,16 @@ mod parse;
 mod token;
 mod tokens;
 mod tree;
+mod version;
 
 pub use fault::{Fault, ReadError, Rule};
 pub use identifier::is_identifier;
-pub use parse::parse_file;
-pub use token::{Kind, Token};
+pub use parse::{parse_file, parse_use_path};
+pub use token::{DocumentedToken, Kind, Token};
 pub use tokens::read_tokens;
-pub use tree::{File, FunctionTree, ItemTree, Parameter, Primitive, Side};
+pub use tree::{File, FunctionTree, ItemTree, Parameter, Primitive, Side, UsePath};
 
 #[cfg(test)]
 mod tests;
+#[cfg(test)]
+mod tests_version;

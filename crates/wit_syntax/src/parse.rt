@@ -6,9 +6,9 @@ ghost use Rattle.wit_syntax.specs.Outcome.{Gives, Answers};
 ghost use Rattle.wit_syntax.specs.Place.{HasPlace};
 ghost use Rattle.wit_syntax.specs.Production.{Reads, commas, until, optional};
 ghost use Rattle.wit_syntax.specs.TextGrammar as spec;
-ghost use Rattle.wit_syntax.specs.TextGrammar.{IsText};
+ghost use Rattle.wit_syntax.specs.TextGrammar.{IsText, IsUsePath};
 ghost use Rattle.wit_syntax.specs.Token.{Tok};
-ghost use Rattle.wit_syntax.specs.Tree.{FileTree};
+ghost use Rattle.wit_syntax.specs.Tree.{FileTree, UsePathTree};
 ghost use Rattle.wit_syntax.specs.View as view;
 ghost use Rattle.wit_syntax.specs.declared.token.Kind.TheVariants as kind;
 
@@ -16,7 +16,7 @@ use crate::cursor::{Tokens, fault};
 use crate::fault::{ReadError, Rule};
 use crate::token::{Kind, Token};
 use crate::tokens::lex;
-use crate::tree::{File, FunctionTree, ItemTree, Parameter, Primitive, Side};
+use crate::tree::{File, FunctionTree, ItemTree, Parameter, Primitive, Side, UsePath};
 use std::alloc::Global;
 
 fn primitive_of(kind: Kind) -> Result<Primitive, Rule>
@@ -152,9 +152,7 @@ fn file<'a>(alloc: Global, tokens: &mut Tokens<'_, 'a>) -> Result<File<'a>, Read
     let world = tokens.name()?;
     tokens.expect(Kind::LeftBrace)?;
     let items = items(alloc, tokens)?;
-    if tokens.left() > 0 {
-        return Err(tokens.unexpected());
-    }
+    tokens.end()?;
     Ok(File {
         namespace,
         name,
@@ -163,9 +161,9 @@ fn file<'a>(alloc: Global, tokens: &mut Tokens<'_, 'a>) -> Result<File<'a>, Read
     })
 }
 
-#[tactic(auto, unfolding(crate::specs::TextGrammar::file_at))]
+#[tactic(auto, unfolding(crate::specs::TextGrammar::text_at))]
 fn whole_file<'a>(alloc: Global, text: &'a str) -> Result<File<'a>, ReadError>
-    ensures { Gives view.file result (spec.file_at text.now) }
+    ensures { Gives view.file result (spec.text_at spec.file text.now) }
 {
     let found = lex(alloc, text)?;
     let mut tokens = Tokens::new(&found);
@@ -175,11 +173,63 @@ fn whole_file<'a>(alloc: Global, text: &'a str) -> Result<File<'a>, ReadError>
 /// The tree of the whole of `text`: `package namespace:name; world name { item .. }`.
 /// A text that isn't of this form is `ReadError::Malformed`. Where it consists of tokens, no text of this form has, behind the tokens
 /// before the fault, the one at the fault, or, where the fault lies at the end, ends there.
-#[tactic(auto, using(crate::proofs::Texts::file_found, crate::proofs::Texts::file_only, crate::proofs::Texts::file_place))]
+#[tactic(auto, using(crate::proofs::Texts::text_answers, crate::proofs::Texts::text_place, crate::proofs::TextLaws::file_law, crate::proofs::TextLaws::file_whole))]
 pub fn parse_file<'a>(alloc: Global, text: &'a str) -> Result<File<'a>, ReadError>
     ensures found { IfOk result (λ f. IsText text.now (view.file f)) }
     ensures only { (d : FileTree) → IsText text.now d → Answers view.file result d }
     ensures place { (ts : List Tok) → LexesText text.now ts → HasPlace spec.file ts result }
 {
     whole_file(alloc, text)
+}
+
+/// What stands behind the namespace of a path.
+#[tactic(auto, unfolding(crate::specs::TextGrammar::package_path))]
+fn package_path<'a>(
+    namespace: &'a str,
+    tokens: &mut Tokens<'_, 'a>,
+) -> Result<UsePath<'a>, ReadError>
+    ensures { Reads view.use_path result tokens.new ((spec.package_path namespace.now).read tokens.old) }
+{
+    let package = tokens.name()?;
+    tokens.expect(Kind::Slash)?;
+    let name = tokens.name()?;
+    tokens.end()?;
+    Ok(UsePath::Package {
+        namespace,
+        package,
+        name,
+    })
+}
+
+#[tactic(auto, unfolding(crate::specs::TextGrammar::use_path, crate::specs::Production::branch))]
+fn use_path<'a>(tokens: &mut Tokens<'_, 'a>) -> Result<UsePath<'a>, ReadError>
+    ensures { Reads view.use_path result tokens.new (spec.use_path.read tokens.old) }
+{
+    let name = tokens.name()?;
+    if tokens.eat(Kind::Colon) {
+        return package_path(name, tokens);
+    }
+    tokens.end()?;
+    Ok(UsePath::Id(name))
+}
+
+#[tactic(auto, unfolding(crate::specs::TextGrammar::text_at))]
+fn whole_use_path(alloc: Global, text: &str) -> Result<UsePath<'_>, ReadError>
+    ensures { Gives view.use_path result (spec.text_at spec.use_path text.now) }
+{
+    let found = lex(alloc, text)?;
+    let mut tokens = Tokens::new(&found);
+    use_path(&mut tokens)
+}
+
+/// The path that the whole of `text` is: `name` or `namespace:package/name`.
+/// A text that isn't of this form is `ReadError::Malformed`. Where it consists of tokens, no path has, behind the tokens
+/// before the fault, the one at the fault, or, where the fault lies at the end, ends there.
+#[tactic(auto, using(crate::proofs::Texts::text_answers, crate::proofs::Texts::text_place, crate::proofs::TextLaws::use_path_law, crate::proofs::TextLaws::use_path_whole))]
+pub fn parse_use_path(alloc: Global, text: &str) -> Result<UsePath<'_>, ReadError>
+    ensures found { IfOk result (λ p. IsUsePath text.now (view.use_path p)) }
+    ensures only { (d : UsePathTree) → IsUsePath text.now d → Answers view.use_path result d }
+    ensures place { (ts : List Tok) → LexesText text.now ts → HasPlace spec.use_path ts result }
+{
+    whole_use_path(alloc, text)
 }

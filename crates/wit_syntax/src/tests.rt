@@ -2,8 +2,10 @@
 
 use crate::fault::{ReadError, Rule};
 use crate::identifier::is_identifier;
-use crate::parse::parse_file;
-use crate::tree::{Primitive, Side};
+use crate::parse::{parse_file, parse_use_path};
+use crate::token::{DocumentedToken, Kind, Token};
+use crate::tokens::read_tokens;
+use crate::tree::{Primitive, Side, UsePath};
 use std::alloc::Global;
 
 fn refusal(alloc: Global, text: &str) -> Option<Rule> {
@@ -100,5 +102,80 @@ fn tells_identifiers(rt: HostRuntime) {
         "", "1a", "aB", "Ab", "a--b", "-a", "a-", "a_b", "a-1bC", "\u{e9}",
     ] {
         assert!(rt; !is_identifier(text), "{text}");
+    }
+}
+
+#[test]
+fn keeps_docs(rt: HostRuntime) {
+    let text = "/// a\n/** b */ package // c\n x /* d */ /**/ : /***/ y /// end";
+    let Ok(tokens) = read_tokens(rt.alloc(), text) else {
+        return assert!(rt; false, "it was refused");
+    };
+    let [package, x, colon, y] = tokens.as_slice() else {
+        return assert!(rt; false, "it had other tokens");
+    };
+    assert_eq!(rt; package.docs.as_slice(), ["/// a", "/** b */"].as_slice());
+    assert_eq!(rt; x.docs.len(), 0);
+    assert_eq!(rt; colon.docs.len(), 0);
+    assert_eq!(rt; y.docs.as_slice(), ["/***/"].as_slice());
+    assert!(rt; matches!(y.token, Token::Name("y")));
+}
+
+#[test]
+fn reads_versions_and_numbers(rt: HostRuntime) {
+    let text = "@1.0.0-01 12 1.2 a-1";
+    let Ok(tokens) = read_tokens(rt.alloc(), text) else {
+        return assert!(rt; false, "it was refused");
+    };
+    let mut found = Vec::new(rt.alloc());
+    for DocumentedToken { token, .. } in &tokens {
+        match token {
+            Token::Version(text) => assert!(rt; found.push(('v', *text)).is_ok()),
+            Token::Number(text) => assert!(rt; found.push(('n', *text)).is_ok()),
+            Token::Name(text) => assert!(rt; found.push(('i', *text)).is_ok()),
+            Token::Plain(_) => {}
+        }
+    }
+    let expected = [
+        ('v', "1.0.0-0"),
+        ('n', "1"),
+        ('n', "12"),
+        ('n', "1"),
+        ('n', "2"),
+        ('i', "a-1"),
+    ];
+    assert_eq!(rt; found.as_slice(), expected.as_slice());
+    assert!(rt; matches!(tokens[0].token, Token::Plain(Kind::At)));
+}
+
+#[test]
+fn reads_paths(rt: HostRuntime) {
+    assert!(rt; matches!(parse_use_path(rt.alloc(), "w"), Ok(UsePath::Id("w"))));
+    let full = UsePath::Package {
+        namespace: "a",
+        package: "b",
+        name: "w",
+    };
+    match parse_use_path(rt.alloc(), " a:b / /* */ %w") {
+        Ok(
+            UsePath::Package {
+                namespace,
+                package,
+                name,
+            },
+        ) => assert_eq!(rt; (namespace, package, name), ("a", "b", "w"), "{full:?}"),
+        _ => assert!(rt; false, "it was refused"),
+    }
+    for text in [
+        "",
+        "world",
+        "a:b",
+        "a:b/",
+        "a:b/w x",
+        "a/b",
+        "a:b/w@1.0.0",
+        "aB",
+    ] {
+        assert!(rt; parse_use_path(rt.alloc(), text).is_err(), "{text}");
     }
 }

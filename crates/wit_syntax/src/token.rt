@@ -127,10 +127,20 @@ pub enum Kind {
 pub enum Token<'a> {
     /// A sign or a keyword.
     Plain(Kind),
-    /// A run of digits.
+    /// A run of digits that begins no version.
     Number(&'a str),
+    /// A version of SemVer 2.0.
+    Version(&'a str),
     /// An identifier, without a `%` in front of it.
     Name(&'a str),
+}
+
+/// A token, and the docs that stand in front of it.
+#[derive(Debug, Drop)]
+pub struct DocumentedToken<'a> {
+    /// The comments that are docs, in order, as they stand in the text: `/// ..` and `/** .. */`.
+    pub docs: Vec<&'a str>,
+    pub token: Token<'a>,
 }
 
 /// Whether two kinds are one.

@@ -73,3 +73,16 @@ pub struct File<'a> {
     /// The world's items in their order.
     pub items: Vec<ItemTree<'a>>,
 }
+
+/// What a path names (WIT, Package and Interface Names).
+#[derive(Clone, Copy, Debug)]
+pub enum UsePath<'a> {
+    /// Something of the own package: `name`.
+    Id(&'a str),
+    /// Something of a package: `namespace:package/name`.
+    Package {
+        namespace: &'a str,
+        package: &'a str,
+        name: &'a str,
+    },
+}
