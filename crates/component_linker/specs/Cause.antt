@@ -42,6 +42,18 @@ IsExportCause l faults.Ambiguous f = (1 < length (exported_by l f)) ⊎ Any (λ 
 IsExportCause l faults.WrongCoreType f = (e : CoreExport) × (exported_by l f ≡ e ∷ []) × ¬ (e.ty ≡ Some (flat f.ty))
 IsExportCause l _ f = ⊥
 
+-- why there is no link table
+abbrev pub IsLinkCause : Linking → Fault → Type 0
+IsLinkCause l faults.NoModule = ⊥
+IsLinkCause l faults.NoWorld = ⊥
+IsLinkCause l faults.WorldNotFound = ⊥
+IsLinkCause l (faults.BadModule m) = ⊥
+IsLinkCause l faults.TooLarge = ⊥
+IsLinkCause l faults.OutOfMemory = Unit {0}
+IsLinkCause l faults.NotYet = IsStillToCome l
+IsLinkCause l faults.DuplicateImport = RepeatsPair l.main.imports
+IsLinkCause l fault = Any (IsImportCause l fault) l.main.imports ⊎ Any (IsExportCause l fault) l.world.exports
+
 -- the options ask for what is still to come
 abbrev pub AsksBeyond : Input → Type 0
 AsksBeyond input = (input.options.shim_return_call_ref ≡ true) ⊎ (input.options.debug_names ≡ true)
@@ -52,23 +64,21 @@ IsCause input faults.NoModule = input.main ≡ None
 IsCause input faults.NoWorld = input.world ≡ None
 IsCause input (faults.BadModule m) = (handed : ModuleInput) × (input.main ≡ Some handed) × IsModuleCause handed.bytes (faults.BadModule m)
 IsCause input faults.NotYet = AsksBeyond input ⊎ ((l : Linking) × Links input l × IsStillToCome l)
-IsCause input faults.DuplicateImport = (l : Linking) × Links input l × RepeatsPair l.main.imports
 IsCause input faults.OutOfMemory = Unit {0}
-IsCause input faults.WorldNotFound = ⊥
-IsCause input faults.TooLarge = ⊥
-IsCause input fault = (l : Linking) × Links input l × (Any (IsImportCause l fault) l.main.imports ⊎ Any (IsExportCause l fault) l.world.exports)
+IsCause input fault = (l : Linking) × Links input l × IsLinkCause l fault
 
 -- ---- why a component isn't built: what links are refused for, or its size where nothing else is in the way
 
 -- every link is there, and nothing is asked for that is still to come
-pub record IsBuildable (input : Input) (l : Linking) : Type 0 where
-  pub links_input : Links input l
-  pub plain_options : ¬ AsksBeyond input
-  pub plain_names : ¬ IsStillToCome l
-  pub distinct : ¬ RepeatsPair l.main.imports
+pub record IsLinkable (l : Linking) : Type 0 where
+  pub plain : IsStillToCome l → ⊥
+  pub distinct : RepeatsPair l.main.imports → ⊥
   pub linked : IsLinked l
 
--- TooLarge: an index, a count or a size of the component that is to be written has more than 32 bits
+-- an index, a count or a size of the component that is to be written has more than 32 bits
+abbrev pub IsTooLarge : Linking → Type 0
+IsTooLarge l = component_fits (component_of l) ≡ false
+
 abbrev pub IsBuildCause : Input → Fault → Type 0
-IsBuildCause input faults.TooLarge = (l : Linking) × IsBuildable input l × (component_fits (component_of l) ≡ false)
+IsBuildCause input faults.TooLarge = (l : Linking) × Links input l × (AsksBeyond input → ⊥) × IsLinkable l × IsTooLarge l
 IsBuildCause input fault = IsCause input fault

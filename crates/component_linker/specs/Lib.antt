@@ -10,6 +10,8 @@ pub mod CoreNames
 pub mod Linking
 pub mod Table
 pub mod Component
+pub mod Places
+pub mod View
 pub mod Cause
 pub mod Meaning
 pub mod Right
