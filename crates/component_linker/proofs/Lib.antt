@@ -3,3 +3,4 @@ pub mod Results
 pub mod Simple
 pub mod Choice
 pub mod Shape
+pub mod Linked

@@ -2,6 +2,7 @@ pub mod World
 pub mod Input
 pub mod Names
 pub mod Choice
+pub mod Kept
 pub mod Handed
 pub mod Pushed
 pub mod ModuleCause

@@ -1,8 +1,13 @@
 //! A session: texts, a chosen world, modules and options.
 
-ghost use Rattle.std.specs.Prelude.{◌≡◌, ℕ, ◌<◌, ◌⊎◌, ◌++◌, ◌∷◌, [], Some, None, IfOk, OnOk, OnErr, IfErr, IfSome, MatchResult, length, option_map};
+ghost use Rattle.std.specs.Prelude.{◌≡◌, ℕ, ◌<◌, ◌⊎◌, ◌++◌, ◌∷◌, [], true, Some, None, Err, IfOk, OnOk, OnErr, IfErr, IfSome, MatchResult, length, option_map};
 ghost use Rattle.std.specs.List.{position_from};
+ghost use Rattle.component_linker.specs.Cause.{AsksBeyond, IsCause};
 ghost use Rattle.component_linker.specs.Choice as choice;
+ghost use Rattle.component_linker.specs.Input.{world_at};
+ghost use Rattle.component_linker.specs.Linking.{Links};
+ghost use Rattle.component_linker.specs.View as view;
+ghost use Rattle.component_linker.specs.World as spec;
 ghost use Rattle.component_linker.specs.Choice.{NamesWorld};
 ghost use Rattle.wit_syntax.specs.View as tree;
 ghost use Rattle.component_linker.specs.Names.{pairs_of};
@@ -19,7 +24,7 @@ use crate::linking::Linking;
 use crate::links::links_of;
 use crate::options::{Options, StringEncoding};
 use crate::verdict::Verdict;
-use crate::world::{Package, read_package};
+use crate::world::{Package, World, read_package};
 use component_format::{FormatFault, read_component};
 use std::alloc::Global;
 use std::collections::HashMap;
@@ -58,6 +63,7 @@ impl<'a> Model for Session<'a> {
     ghost use Rattle.std.specs.Prelude.{map, option_map};
     ghost use Rattle.component_linker.specs.Input.{Input};
     ghost use Rattle.component_linker.specs.Handed.{source_text, module_input};
+    ghost use Rattle.component_linker.specs.Kept.{WellKept};
     ghost use Rattle.component_linker.specs.World.{package_meaning};
 
     ghost Value = { Input };
@@ -69,6 +75,8 @@ impl<'a> Model for Session<'a> {
       main = option_map module_input s.main;
       options = s.options;
     } };
+
+    ghost invariant = { λ s. WellKept (map package_meaning s.packages.items) s.world (option_map module_input s.main) };
 }
 
 impl<'a> Session<'a> {
@@ -144,6 +152,7 @@ impl<'a> Session<'a> {
 
     /// Adds a text and its package; the room for both is made before.
     fn keep(&mut self, source: Source, found: Package) -> Result<PackageId, Fault>
+        requires { spec.world_fits (spec.world_meaning found.world) ≡ true }
         ensures place { IfOk result (λ id. id ≡ length self.old.packages) }
         ensures memory { IfErr result (λ e. e ≡ Fault.OutOfMemory) }
         ensures added { OnOk result (self.new ≡ record self.old { sources = self.old.sources ++ source_text source ∷ []; packages = self.old.packages ++ package_meaning found ∷ [] }) }
@@ -322,8 +331,26 @@ impl<'a> Session<'a> {
         Err(Fault::NotYet)
     }
 
+    /// The world at a place.
+    #[tactic(auto, using(crate::proofs::Linked::world_at_fits))]
+    fn world_at(&self, id: WorldId) -> Option<&World>
+        ensures value { option_map (λ w. spec.world_meaning w.now) result ≡ world_at self.now id }
+        ensures fits { IfSome result (λ w. spec.world_fits (spec.world_meaning w.now) ≡ true) }
+    {
+        match self.packages.get(id.index()) {
+            Some(package) => Some(&package.world),
+            None => None,
+        }
+    }
+
     /// What is linked, or why nothing can be.
-    fn linking(&self) -> Result<Linking<'_, 'a>, Fault> {
+    fn linking(&self) -> Result<Linking<'_, 'a>, Fault>
+        ensures found { IfOk result (λ l. Links self.now (view.linking l)) }
+        ensures fits { IfOk result (λ l. spec.world_fits (view.linking l).world ≡ true) }
+        ensures plain { IfOk result (λ l. AsksBeyond self.now → ⊥) }
+        ensures cause { IfErr result (IsCause self.now) }
+        ensures first { self.now.main ≡ None → result ≡ Err Fault.NoModule }
+    {
         let Some(main) = &self.main else {
             return Err(Fault::NoModule);
         };
@@ -333,12 +360,12 @@ impl<'a> Session<'a> {
         let Some(world) = self.world else {
             return Err(Fault::NoWorld);
         };
-        let Some(found) = self.packages.get(world.index()) else {
+        let Some(world) = self.world_at(world) else {
             return Err(Fault::NoWorld);
         };
         match read_module(self.alloc, main.bytes) {
             Ok(core) => Ok(Linking {
-                world: &found.world,
+                world,
                 bytes: main.bytes,
                 main: core,
                 rejects_legacy: self.options.reject_legacy_names,
