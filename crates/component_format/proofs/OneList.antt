@@ -1,9 +1,15 @@
--- Bytes have at most one list of definitions.
+-- Bytes have at most one list of definitions, or break one rule at one place.
 use Rattle.std.proofs.Common.{◌≡◌, ℕ, List, sym, ◌∙◌}
+use Rattle.wasm_format.specs.declared.fault.Fault.{Fault}
 use Rattle.component_format.specs.Definition.{DefinitionValue}
-use Rattle.component_format.specs.Grammar.{IsComponent}
+use Rattle.component_format.specs.Grammar.{IsComponent, BreaksComponent}
 use Rattle.wasm_format.proofs.Laws.{ok_is}
-use Rattle.component_format.proofs.Sections.{component_again}
+use Rattle.component_format.proofs.Sections.{component_again, component_broken}
 
 pub one_list : (bytes : List ℕ) (ds es : List DefinitionValue) → IsComponent bytes ds → IsComponent bytes es → ds ≡ es
 one_list bytes ds es h k = ok_is ds es (sym (component_again bytes ds h) ∙ component_again bytes es k)
+
+pub one_break : (bytes : List ℕ) (e : Fault) → BreaksComponent bytes e → ((ds : List DefinitionValue) → IsComponent bytes ds → ⊥) × ((d : Fault) → BreaksComponent bytes d → d ≡ e)
+one_break bytes e h =
+    let one = component_broken bytes e h in
+    ((λ ds k. let two = component_again bytes ds k in cc), (λ d k. let two = component_broken bytes d k in cc))

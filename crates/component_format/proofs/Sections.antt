@@ -1,19 +1,23 @@
 -- The sections of a component, and all of it.
-use Rattle.std.proofs.Common.{◌≡◌, ℕ, zero, suc, ◌+◌, ◌≤◌, ◌<◌, ◌^◌, ◌⊎◌, Bool, true, false, cond, eqb, List, [], ◌∷◌, ◌++◌, length, Result, Ok, Err, refl, sym, ap, ◌∙◌, append_assoc, arith, inl, inr}
+use Rattle.std.proofs.Common.{◌≡◌, ℕ, zero, suc, ◌+◌, ◌≤◌, ◌<◌, ◌^◌, ◌⊎◌, Bool, true, false, cond, eqb, List, [], ◌∷◌, ◌++◌, length, Result, Ok, Err, refl, sym, ap, subst, ◌∙◌, append_assoc, arith, inl, inr}
 use Rattle.std.specs.List.{flat_map}
-use Rattle.std.proofs.lemmas.Bool.{eqb-true, eq-eqb}
+use Rattle.std.proofs.lemmas.Bool.{eqb-true}
 use Rattle.std.proofs.lemmas.Slice.Eq.{bytes_eq-Decides}
 use Rattle.std.proofs.lemmas.List.{append-nil, nil_from_length, length-append}
 use Rattle.wasm_format.specs.declared.fault.Fault.{Fault}
+use Rattle.wasm_format.specs.declared.fault.Rule.{Rule}
 use Rattle.wasm_format.specs.declared.fault.Rule.TheVariants as rules
 use Rattle.wasm_format.specs.declared.fault.ReadError.{ReadError}
 use Rattle.wasm_format.specs.declared.fault.ReadError.TheVariants as errors
 use Rattle.component_format.specs.declared.definition.SectionId.{SectionId}
 use Rattle.wasm_format.specs.Format.{and_then, wrong, CanMove, onto}
 use Rattle.wasm_format.specs.Fault.{Fails}
+use Rattle.component_format.specs.declared.fault.FormatFault.{FormatFault}
+use Rattle.component_format.specs.declared.fault.FormatFault.TheVariants.{OutOfMemory, Malformed, NotYet}
 use Rattle.component_format.specs.Definition.{DefinitionValue}
-use Rattle.component_format.specs.Grammar.{content, section, section_start, AreSections, IsComponent, header, sections_at, start, component_at, onto_all}
-use Rattle.wasm_format.proofs.Laws.{bind_ok, bind_err, ok_is}
+use Rattle.component_format.specs.Fault.{IsCalled, IsFormatFault}
+use Rattle.component_format.specs.Grammar.{content, section, section_start, AreSections, IsComponent, header, SectionsBreak, here, later, BreaksComponent, sections_at, start, component_at, onto_all}
+use Rattle.wasm_format.proofs.Laws.{bind_ok, bind_err, ok_is, refused, some_left, not_empty}
 use Rattle.component_format.proofs.GrammarLaws.{content_law, section_law, start_law}
 
 abbrev all_of : List (List DefinitionValue) → List DefinitionValue
@@ -65,51 +69,89 @@ sections_again (suc fuel) so_far bytes (ds ∷ dss) h le =
     let one : (section so_far).read bytes ≡ Ok (ds, h.back) = ap (section so_far).read h.parts ∙ (section_law so_far).again h.front ds h.back h.first in
     rw (more, one) (sections_again fuel (so_far ++ ds) h.back dss h.second (omega arith) ∙ ap (λ (t : List DefinitionValue). Ok t) (append_assoc so_far ds (all_of dss)))
 
-refused : {A : Type 0} (b : Bool) (x : A) (r : Result A Fault) (d : Fault) → cond b (Ok x) r ≡ Err d → r ≡ Err d
-refused true x r d e = absurd cc
-refused false x r d e = e
-
-sections_within : (fuel : ℕ) (so_far : List DefinitionValue) (bytes : List ℕ) (d : Fault) → sections_at fuel so_far bytes ≡ Err d → d.left ≤ length bytes
+sections_break : (fuel : ℕ) (so_far : List DefinitionValue) (bytes : List ℕ) (e : Fault) → length bytes ≤ fuel → sections_at fuel so_far bytes ≡ Err e → SectionsBreak so_far bytes e
 unfolding sections_at
-sections_within zero so_far bytes d e =
-    let h = refused (eqb (length bytes) 0) so_far (wrong rules.Short bytes) d e in
-    let k : length bytes ≡ d.left = cc in omega arith
-sections_within (suc fuel) so_far bytes d e =
-    elim (bind_err ((section so_far).read bytes) (λ ds. sections_at fuel (so_far ++ ds.0) ds.1) d (refused (eqb (length bytes) 0) so_far (and_then ((section so_far).read bytes) (λ ds. sections_at fuel (so_far ++ ds.0) ds.1)) d e)) [
-      | inl first ↦ (section_law so_far).within bytes d first
-      | inr p ↦
-          let one = (section_law so_far).found bytes p.0.0 p.0.1 p.1 in
-          let two = sections_within fuel (so_far ++ p.0.0) p.0.1 d p.2 in
-          omega (arith, ap length one.parts, length-append one.front p.0.1)
+sections_break zero so_far bytes e le h =
+    let p = refused (eqb (length bytes) 0) so_far (wrong rules.Short bytes) e h in
+    absurd (omega (arith, some_left bytes p.0))
+sections_break (suc fuel) so_far bytes e le h =
+    let p = refused (eqb (length bytes) 0) so_far (and_then ((section so_far).read bytes) (λ ds. sections_at fuel (so_far ++ ds.0) ds.1)) e h in
+    elim (bind_err ((section so_far).read bytes) (λ ds. sections_at fuel (so_far ++ ds.0) ds.1) e p.1) [
+      | inl first ↦ here so_far bytes e (some_left bytes p.0) ((section_law so_far).stops bytes e first)
+      | inr q ↦
+          let one = (section_law so_far).found bytes q.0.0 q.0.1 q.1 in
+          let long = section_nonempty so_far one.front q.0.0 one.formed in
+          let shorter : length q.0.1 ≤ fuel = omega (arith, ap length one.parts, length-append one.front q.0.1) in
+          later so_far q.0.0 bytes one.front q.0.1 e one.parts one.formed (sections_break fuel (so_far ++ q.0.0) q.0.1 e shorter q.2)
     ]
+
+sections_broken : (fuel : ℕ) (so_far : List DefinitionValue) (bytes : List ℕ) (e : Fault) → SectionsBreak so_far bytes e → length bytes ≤ fuel → sections_at fuel so_far bytes ≡ Err e
+unfolding sections_at
+sections_broken zero so_far bytes e (here _ _ _ some breaks) le = absurd (omega arith)
+sections_broken (suc fuel) so_far bytes e (here _ _ _ some breaks) le = rw (not_empty bytes some, (section_law so_far).broken bytes e breaks) refl
+sections_broken zero so_far bytes e (later _ ds _ front back _ parts first second) le =
+    absurd (omega (arith, section_nonempty so_far front ds first, ap length parts, length-append front back))
+sections_broken (suc fuel) so_far bytes e (later _ ds _ front back _ parts first second) le =
+    let long = section_nonempty so_far front ds first in
+    let len : length bytes ≡ length front + length back = ap length parts ∙ length-append front back in
+    let one : (section so_far).read bytes ≡ Ok (ds, back) = ap (section so_far).read parts ∙ (section_law so_far).again front ds back first in
+    rw (not_empty bytes (omega arith), one) (sections_broken fuel (so_far ++ ds) back e second (omega arith))
+
+sections_break_within : (so_far : List DefinitionValue) (bytes : List ℕ) (e : Fault) → SectionsBreak so_far bytes e → e.left ≤ length bytes
+sections_break_within so_far bytes e (here _ _ _ some breaks) = (section_law so_far).within bytes e ((section_law so_far).broken bytes e breaks)
+sections_break_within so_far bytes e (later _ ds _ front back _ parts first second) =
+    omega (arith, sections_break_within (so_far ++ ds) back e second, ap length parts, length-append front back)
+
+-- ---- a whole component
+
+is_header : (front value : List ℕ) → start.form front value → front ≡ header
+unfolding start
+is_header front value h = h.0.0 ∙ (bytes_eq-Decides value header).0 h.1
+
+header_again : (bytes back : List ℕ) → bytes ≡ header ++ back → start.read bytes ≡ Ok (header, back)
+unfolding start
+header_again bytes back parts = ap start.read parts ∙ start_law.again header header back ((refl, refl), refl)
 
 -- what is read is a component's
 pub component_found : (bytes : List ℕ) (ds : List DefinitionValue) → component_at bytes ≡ Ok ds → IsComponent bytes ds
-unfolding component_at start
+unfolding component_at
 component_found bytes ds e =
     let p = bind_ok (start.read bytes) (λ s. sections_at (length s.1) [] s.1) ds e in
     let one = start_law.found bytes p.0.0 p.0.1 p.1 in
-    let is_header : one.front ≡ header = one.formed.0.0 ∙ (bytes_eq-Decides p.0.0 header).0 one.formed.1 in
     let s = sections_found (length p.0.1) [] p.0.1 ds p.2 in
-    record { sections = s.0; back = p.0.1; parts = one.parts ∙ ap (λ (t : List ℕ). t ++ p.0.1) is_header; each = s.1; all = s.2 }
+    record { sections = s.0; back = p.0.1; parts = one.parts ∙ ap (λ (t : List ℕ). t ++ p.0.1) (is_header one.front p.0.0 one.formed); each = s.1; all = s.2 }
 
 -- a component is read, as what it is
 pub component_again : (bytes : List ℕ) (ds : List DefinitionValue) → IsComponent bytes ds → component_at bytes ≡ Ok ds
-unfolding component_at start
-component_again bytes ds h =
-    let one : start.read bytes ≡ Ok (header, h.back) = ap start.read h.parts ∙ start_law.again header header h.back ((refl, refl), refl) in
-    rw (one, h.all) (sections_again (length h.back) [] h.back h.sections h.each (omega arith))
-
-pub component_within : (bytes : List ℕ) (d : Fault) → component_at bytes ≡ Err d → d.left ≤ length bytes
 unfolding component_at
-component_within bytes d e =
-    elim (bind_err (start.read bytes) (λ s. sections_at (length s.1) [] s.1) d e) [
-      | inl first ↦ start_law.within bytes d first
+component_again bytes ds h = rw (header_again bytes h.back h.parts, h.all) (sections_again (length h.back) [] h.back h.sections h.each (omega arith))
+
+-- reading stops where the bytes break a rule
+pub component_breaks : (bytes : List ℕ) (e : Fault) → component_at bytes ≡ Err e → BreaksComponent bytes e
+unfolding component_at
+component_breaks bytes e h =
+    elim (bind_err (start.read bytes) (λ s. sections_at (length s.1) [] s.1) e h) [
+      | inl first ↦ inl (start_law.stops bytes e first)
       | inr p ↦
           let one = start_law.found bytes p.0.0 p.0.1 p.1 in
-          let two = sections_within (length p.0.1) [] p.0.1 d p.2 in
-          omega (arith, ap length one.parts, length-append one.front p.0.1)
+          inr (record { back = p.0.1; parts = one.parts ∙ ap (λ (t : List ℕ). t ++ p.0.1) (is_header one.front p.0.0 one.formed); each = sections_break (length p.0.1) [] p.0.1 e (omega arith) p.2 })
     ]
+
+-- where the bytes break a rule, reading stops
+pub component_broken : (bytes : List ℕ) (e : Fault) → BreaksComponent bytes e → component_at bytes ≡ Err e
+unfolding component_at
+component_broken bytes e (inl h) = rw (start_law.broken bytes e h) refl
+component_broken bytes e (inr h) = rw (header_again bytes h.back h.parts) (sections_broken (length h.back) [] h.back e h.each (omega arith))
+
+pub break_within : (bytes : List ℕ) (e : Fault) → BreaksComponent bytes e → e.left ≤ length bytes
+break_within bytes e (inl h) = start_law.within bytes e (start_law.broken bytes e h)
+break_within bytes e (inr h) = omega (arith, sections_break_within [] h.back e h.each, ap length h.parts, length-append header h.back)
+
+-- a broken rule is a fault of the bytes, under what it is called
+pub called_is_fault : (bytes : List ℕ) (rule : Rule) (left offset : ℕ) (fault : FormatFault) → BreaksComponent bytes (record { rule = rule; left = left }) → offset + left ≡ length bytes → IsCalled rule offset fault → IsFormatFault bytes fault
+called_is_fault bytes rule left offset OutOfMemory h place called = tt
+called_is_fault bytes rule left offset (Malformed named at) h place called = rw (called.0, called.1) (left, h, place, called.2)
+called_is_fault bytes rule left offset (NotYet at) h place called = rw called.1 (left, subst (λ (r : Rule). BreaksComponent bytes (record { rule = r; left = left })) called.0 h, place)
 
 -- ---- what the loop over the sections keeps
 
@@ -132,15 +174,12 @@ section_shorter so_far bytes new after e =
 pub section_falls : (so_far : List DefinitionValue) (bytes : List ℕ) (new : List DefinitionValue) (after : List ℕ) → onto so_far ((section so_far).read bytes) ≡ Ok (new, after) → length after < length bytes
 section_falls so_far bytes new after e = (section_shorter so_far bytes new after e).3
 
-more_left : (bytes : List ℕ) → eqb (length bytes) 0 ≡ false → length bytes ≡ 0 → ⊥
-more_left bytes e h = let k = eq-eqb (length bytes) 0 h in cc
-
 pub sections_go_on : (so_far : List DefinitionValue) (bytes : List ℕ) (total : Result (List DefinitionValue) Fault) (new : List DefinitionValue) (after : List ℕ) → Remains so_far bytes total
     → eqb (length bytes) 0 ≡ false → onto so_far ((section so_far).read bytes) ≡ Ok (new, after) → Remains new after total
 unfolding sections_at
 sections_go_on so_far bytes total new after r more e = next r.fuel r.enough r.same where
   next : (fuel : ℕ) → length bytes ≤ fuel → sections_at fuel so_far bytes ≡ total → Remains new after total
-  next zero enough same = absurd (more_left bytes more (omega arith))
+  next zero enough same = absurd (omega (arith, some_left bytes more))
   next (suc fuel) enough same =
       let p = section_shorter so_far bytes new after e in
       let one : sections_at (suc fuel) so_far bytes ≡ sections_at fuel new after = rw (more, p.1, p.2) refl in
@@ -152,7 +191,7 @@ unfolding sections_at
 sections_stop so_far bytes total errors.Memory r more h = tt
 sections_stop so_far bytes total (errors.Malformed f) r more h = next r.fuel r.enough r.same where
   next : (fuel : ℕ) → length bytes ≤ fuel → sections_at fuel so_far bytes ≡ total → total ≡ Err f
-  next zero enough same = absurd (more_left bytes more (omega arith))
+  next zero enough same = absurd (omega (arith, some_left bytes more))
   next (suc fuel) enough same =
       elim (bind_err ((section so_far).read bytes) (λ x. Ok (so_far ++ x.0, x.1)) f h) [
         | inl first ↦ let one : sections_at (suc fuel) so_far bytes ≡ Err f = rw (more, first) refl in sym same ∙ one

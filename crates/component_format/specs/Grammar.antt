@@ -1,5 +1,5 @@
 -- Components as bytes (Component Model Binary), cut to functions over primitive types.
-use Rattle.std.specs.Prelude.{◌≡◌, ℕ, zero, suc, List, [], ◌∷◌, ◌++◌, map, length, Option, Some, None, Result, Ok, Err, nat_lt, nat_le, ◌==◌, ◌&&◌, ◌||◌, if◌then◌else◌}
+use Rattle.std.specs.Prelude.{◌≡◌, ◌≤◌, ◌⊎◌, ℕ, zero, suc, List, [], ◌∷◌, ◌++◌, map, length, Option, Some, None, Result, Ok, Err, nat_lt, nat_le, ◌==◌, ◌&&◌, ◌||◌, if◌then◌else◌}
 use Rattle.std.specs.List.{flat_map}
 use Rattle.std.specs.Str.{bytes_eq}
 use Rattle.wasm_format.specs.declared.fault.Fault.{Fault}
@@ -310,16 +310,34 @@ pub record IsComponent (bytes : List ℕ) (ds : List DefinitionValue) : Type 0 w
   pub each : AreSections [] back sections
   pub all : ds ≡ flat_map (λ s. s) sections
 
+-- ---- where bytes break a rule
+
+-- some sections stand there, and the next one breaks
+pub data SectionsBreak : List DefinitionValue → List ℕ → Fault → Type 0 where
+  here : (so_far : List DefinitionValue) (bytes : List ℕ) (e : Fault) → 1 ≤ length bytes → (section so_far).breaks bytes e → SectionsBreak so_far bytes e
+  later : (so_far ds : List DefinitionValue) (bytes front back : List ℕ) (e : Fault) → bytes ≡ front ++ back → (section so_far).form front ds → SectionsBreak (so_far ++ ds) back e → SectionsBreak so_far bytes e
+
+-- the first eight bytes
+unfoldable pub start : Format (List ℕ)
+start = such rules.Header (λ s. bytes_eq s header) (chunk 8)
+
+-- behind the header the sections break a rule
+pub record BreaksBehind (bytes : List ℕ) (e : Fault) : Type 0 where
+  pub back : List ℕ
+  pub parts : bytes ≡ header ++ back
+  pub each : SectionsBreak [] back e
+
+-- the parts of a component stand in the bytes, one after the other, up to the one that breaks this rule, and so many
+-- bytes are left there
+abbrev pub BreaksComponent : List ℕ → Fault → Type 0
+BreaksComponent bytes e = start.breaks bytes e ⊎ BreaksBehind bytes e
+
 -- ---- reading
 
 -- the definitions so far, and those of the sections, of which there are at most fuel
 unfoldable pub sections_at : ℕ → List DefinitionValue → List ℕ → Result (List DefinitionValue) Fault
 sections_at zero so_far bytes = if length bytes == 0 then Ok so_far else wrong rules.Short bytes
 sections_at (suc fuel) so_far bytes = if length bytes == 0 then Ok so_far else and_then ((section so_far).read bytes) (λ ds. sections_at fuel (so_far ++ ds.0) ds.1)
-
--- the first eight bytes
-unfoldable pub start : Format (List ℕ)
-start = such rules.Header (λ s. bytes_eq s header) (chunk 8)
 
 unfoldable pub component_at : List ℕ → Result (List DefinitionValue) Fault
 component_at bytes = and_then (start.read bytes) (λ s. sections_at (length s.1) [] s.1)

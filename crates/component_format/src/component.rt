@@ -3,7 +3,7 @@
 ghost use Rattle.std.specs.Prelude.{◌≡◌, ◌≢◌, ℕ, ◌+◌, ◌^◌, ◌<◌, ◌≤◌, ◌++◌, ◌∷◌, [], length, List, Option, Some, None, Ok, Err, IfErr, IfOk, OnOk, MatchResult};
 ghost use Rattle.wasm_format.specs.Fault.{Gives};
 ghost use Rattle.wasm_format.specs.Format.{onto};
-ghost use Rattle.component_format.specs.Fault.{LiesWithin};
+ghost use Rattle.component_format.specs.Fault.{LiesWithin, IsCalled, IsFormatFault};
 ghost use Rattle.component_format.specs.Found.{CanAdd, AreWithin};
 ghost use Rattle.component_format.specs.Grammar as spec;
 ghost use Rattle.component_format.specs.Grammar.{header, start, sections_at, component_at, onto_all, IsComponent};
@@ -402,6 +402,7 @@ pub struct Component<'a> {
 fn format_fault(rule: Rule, offset: usize) -> FormatFault
     ensures within { LiesWithin offset result }
     ensures read { result ≢ FormatFault.OutOfMemory }
+    ensures called { IsCalled rule offset result }
 {
     match rule {
         Rule::NotYet => FormatFault::NotYet { offset },
@@ -421,6 +422,8 @@ pub fn read_component(alloc: Global, bytes: &[u8]) -> Result<Component<'_>, Form
     // Each definition, and each refusal, has a place in the bytes, or at their end.
     ensures placed { IfOk result (λ c. AreWithin (length bytes.now) c.definitions.items) }
     ensures place { IfErr result (LiesWithin (length bytes.now)) }
+    // A refusal says which rule the bytes break and where: the parts of a component stand in them up to there.
+    ensures fault { IfErr result (IsFormatFault bytes.now) }
 {
     match component_of(alloc, bytes) {
         Ok(definitions) => Ok(Component { definitions }),

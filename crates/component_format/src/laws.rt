@@ -1,7 +1,8 @@
 //! Laws of the public calls.
 
 ghost use Rattle.std.specs.Prelude.{◌≡◌, ℕ, List, MatchResult};
-ghost use Rattle.component_format.specs.Grammar.{IsComponent};
+ghost use Rattle.wasm_format.specs.declared.fault.Fault.{Fault};
+ghost use Rattle.component_format.specs.Grammar.{IsComponent, BreaksComponent};
 ghost use Rattle.component_format.specs.Definition.{DefinitionValue, definition_values};
 
 use crate::building::ComponentBuilder;
@@ -12,6 +13,11 @@ use std::alloc::Global;
 /// Bytes have at most one list of definitions.
 pub fn law_one_list()
     ensures { (bytes : List ℕ) (ds es : List DefinitionValue) → IsComponent bytes ds → IsComponent bytes es → ds ≡ es }
+{}
+
+/// Bytes that break a rule are no component, and break it at one place.
+pub fn law_a_break_is_one()
+    ensures { (bytes : List ℕ) (e : Fault) → BreaksComponent bytes e → ((ds : List DefinitionValue) → IsComponent bytes ds → ⊥) × ((d : Fault) → BreaksComponent bytes d → d ≡ e) }
 {}
 
 /// Reading what was built gives what was added, want of memory aside: `ComponentBuilder::finish` answers bytes that

@@ -1,11 +1,11 @@
--- A format whose reading finds what its form says, and nothing else.
-use Rattle.std.proofs.Common.{◌≡◌, ℕ, zero, suc, ◌+◌, ◌≤◌, ◌⊎◌, Bool, true, false, cond, eqb, ltb, List, [], ◌∷◌, ◌++◌, length, take, drop, Result, Ok, Err, refl, sym, ap, subst, ◌∙◌, append_assoc, arith, inl, inr}
-use Rattle.std.proofs.lemmas.Bool.{ltb-false, le-ltb, eqb-true}
-use Rattle.std.proofs.lemmas.List.{append-nil, nil_from_length, take_at, drop_at, take-append-drop, length-append, length-take, length-drop}
+-- A format whose reading finds what its form says, and nothing else, and stops where its breaks say, and nowhere else.
+use Rattle.std.proofs.Common.{◌≡◌, ℕ, zero, suc, ◌+◌, ◌≤◌, ◌<◌, ◌⊎◌, Bool, true, false, cond, eqb, ltb, List, [], ◌∷◌, ◌++◌, length, take, drop, Result, Ok, Err, refl, sym, ap, subst, ◌∙◌, append_assoc, arith, inl, inr}
+use Rattle.std.proofs.lemmas.Bool.{ltb-true, ltb-false, lt-ltb, le-ltb, eqb-true}
+use Rattle.std.proofs.lemmas.List.{append-nil, nil_from_length, take_at, drop_at, take-append-drop, length-append, length-take}
 use Rattle.wasm_format.specs.declared.fault.Fault.{Fault}
 use Rattle.wasm_format.specs.declared.fault.Rule.{Rule}
 use Rattle.wasm_format.specs.declared.fault.Rule.TheVariants as rules
-use Rattle.wasm_format.specs.Format.{Format, Whole, wrong, and_then, ◌>>=◌, yield, refuse, judge, such, byte_at, byte, chunk, repeat_at, repeat, exactly, begins, everything, keeping, beyond, sized}
+use Rattle.wasm_format.specs.Format.{Format, Whole, Behind, Each, fault_at, wrong, and_then, ◌>>=◌, yield, refuse, judge, such, byte_at, byte, chunk, repeat_at, repeat, exactly, begins, everything, keeping, beyond, sized}
 
 pub record Found {X : Type 0} (f : Format X) (bytes : List ℕ) (x : X) (rest : List ℕ) : Type 0 where
   pub front : List ℕ
@@ -16,11 +16,15 @@ pub record Law {X : Type 0} (f : Format X) : Type 0 where
   pub found : (bytes : List ℕ) (x : X) (rest : List ℕ) → f.read bytes ≡ Ok (x, rest) → Found f bytes x rest
   pub again : (front : List ℕ) (x : X) (rest : List ℕ) → f.form front x → f.read (front ++ rest) ≡ Ok (x, rest)
   pub within : (bytes : List ℕ) (e : Fault) → f.read bytes ≡ Err e → e.left ≤ length bytes
+  pub stops : (bytes : List ℕ) (e : Fault) → f.read bytes ≡ Err e → f.breaks bytes e
+  pub broken : (bytes : List ℕ) (e : Fault) → f.breaks bytes e → f.read bytes ≡ Err e
 
 pub record WholeLaw {X : Type 0} (w : Whole X) : Type 0 where
   pub found : (bytes : List ℕ) (x : X) → w.read bytes ≡ Ok x → w.form bytes x
   pub again : (bytes : List ℕ) (x : X) → w.form bytes x → w.read bytes ≡ Ok x
   pub within : (bytes : List ℕ) (e : Fault) → w.read bytes ≡ Err e → e.left ≤ length bytes
+  pub stops : (bytes : List ℕ) (e : Fault) → w.read bytes ≡ Err e → w.breaks bytes e
+  pub broken : (bytes : List ℕ) (e : Fault) → w.breaks bytes e → w.read bytes ≡ Err e
 
 -- ---- steps
 
@@ -36,17 +40,21 @@ pub guard_ok : {A : Type 0} (b : Bool) (d : Fault) (x y : A) → cond b (Err d) 
 guard_ok true d x y e = absurd cc
 guard_ok false d x y e = (refl, cc)
 
-pub guard_err : {A : Type 0} (b : Bool) (d e : Fault) (x : A) → cond b (Err d) (Ok x) ≡ Err e → d ≡ e
-guard_err true d e x h = cc
-guard_err false d e x h = absurd cc
+pub guard_err : {A : Type 0} (b : Bool) (d e : Fault) (r : Result A Fault) → cond b (Err d) r ≡ Err e → ((b ≡ true) × (e ≡ d)) ⊎ ((b ≡ false) × (r ≡ Err e))
+guard_err true d e r h = inl (refl, cc)
+guard_err false d e r h = inr (refl, h)
 
 pub test_ok : {A : Type 0} (b : Bool) (d : Fault) (x y : A) → cond b (Ok x) (Err d) ≡ Ok y → (b ≡ true) × (x ≡ y)
 test_ok true d x y e = (refl, cc)
 test_ok false d x y e = absurd cc
 
-pub test_err : {A : Type 0} (b : Bool) (d e : Fault) (x : A) → cond b (Ok x) (Err d) ≡ Err e → d ≡ e
+pub test_err : {A : Type 0} (b : Bool) (d e : Fault) (x : A) → cond b (Ok x) (Err d) ≡ Err e → (b ≡ false) × (e ≡ d)
 test_err true d e x h = absurd cc
-test_err false d e x h = cc
+test_err false d e x h = (refl, cc)
+
+pub refused : {A : Type 0} (b : Bool) (x : A) (r : Result A Fault) (e : Fault) → cond b (Ok x) r ≡ Err e → (b ≡ false) × (r ≡ Err e)
+refused true x r e h = absurd cc
+refused false x r e h = (refl, h)
 
 abbrev done : {A : Type 0} → A → Result A Fault
 done x = Ok x
@@ -54,7 +62,31 @@ done x = Ok x
 pub ok_is : {A : Type 0} (x y : A) → done x ≡ done y → x ≡ y
 ok_is x y e = cc
 
+-- the left of a fault
+abbrev pub left_is : {d e : Fault} → d ≡ e → d.left ≡ e.left
+left_is h = ap (λ (t : Fault). t.left) h
+
 -- ---- then
+
+module _ {A B : Type 0} (f : Format A) (lf : Law f) (next : A × List ℕ → Result B Fault) (G : A → List ℕ → Type 0) (bytes : List ℕ) (e : Fault) where
+  -- what reading a part and going on stops at
+  pub bind_stops : ((x : A) (back : List ℕ) → next (x, back) ≡ Err e → G x back) → and_then (f.read bytes) next ≡ Err e → f.breaks bytes e ⊎ Behind f.form G bytes
+  bind_stops second h =
+      elim (bind_err (f.read bytes) next e h) [
+        | inl first ↦ inl (lf.stops bytes e first)
+        | inr p ↦
+            let one = lf.found bytes p.0.0 p.0.1 p.1 in
+            inr (record { value = p.0.0; front = one.front; back = p.0.1; parts = one.parts; first = one.formed; second = second p.0.0 p.0.1 p.2 })
+      ]
+
+  pub bind_broken : ((x : A) (back : List ℕ) → G x back → next (x, back) ≡ Err e) → f.breaks bytes e ⊎ Behind f.form G bytes → and_then (f.read bytes) next ≡ Err e
+  bind_broken second h =
+      elim h [
+        | inl first ↦ rw (lf.broken bytes e first) refl
+        | inr b ↦
+            let one : f.read bytes ≡ Ok (b.value, b.back) = ap f.read b.parts ∙ lf.again b.front b.value b.back b.first in
+            rw one (second b.value b.back b.second)
+      ]
 
 pub bind_law : {A B : Type 0} (f : Format A) (g : A → Format B) → Law f → ((a : A) → Law (g a)) → Law (f >>= g)
 bind_law f g lf lg = record {
@@ -79,6 +111,8 @@ bind_law f g lf lg = record {
             let two : d.left ≤ length p.0.1 = (lg p.0.0).within p.0.1 d p.2 in
             omega (arith, ap length one.parts, length-append one.front p.0.1)
       ];
+  stops = λ bytes e h. bind_stops f lf (λ a. (g a.0).read a.1) (λ a back. (g a).breaks back e) bytes e (λ a back k. (lg a).stops back e k) h;
+  broken = λ bytes e h. bind_broken f lf (λ a. (g a.0).read a.1) (λ a back. (g a).breaks back e) bytes e (λ a back k. (lg a).broken back e k) h;
 }
 
 pub yield_law : {X : Type 0} (x : X) → Law (yield x)
@@ -86,6 +120,8 @@ yield_law x = record {
   found = λ bytes y rest e. let h = ok_is (x, bytes) (y, rest) e in record { front = []; parts = ap (λ p. p.1) h; formed = (refl, sym (ap (λ p. p.0) h)) };
   again = λ front y rest h. rw (h.0, h.1) refl;
   within = λ bytes d e. absurd cc;
+  stops = λ bytes d e. absurd cc;
+  broken = λ bytes d h. absurd h;
 }
 
 pub refuse_law : {X : Type 0} (rule : Rule) → Law (refuse {X = X} rule)
@@ -93,6 +129,8 @@ refuse_law rule = record {
   found = λ bytes y rest e. absurd cc;
   again = λ front y rest h. absurd h;
   within = λ bytes d e. let h : length bytes ≡ d.left = cc in omega arith;
+  stops = λ bytes d e. cc;
+  broken = λ bytes d h. rw h refl;
 }
 
 pub judge_law : {X : Type 0} (r : Result X Rule) → Law (judge r)
@@ -110,12 +148,24 @@ byte_law = record {
     | [] ↦ λ h. let k : 0 ≡ d.left = cc in omega arith
     | c ∷ cs ↦ λ h. absurd cc
   ] e;
+  stops = λ bytes d e. elim bytes as (λ s. byte_at s ≡ Err d → (s ≡ []) × (d ≡ fault_at rules.Short [])) [
+    | [] ↦ λ h. (refl, cc)
+    | c ∷ cs ↦ λ h. absurd cc
+  ] e;
+  broken = λ bytes d h. rw (h.0, h.1) refl;
 }
+
+chunk_short : (n : ℕ) (bytes : List ℕ) (e : Fault) → (chunk n).read bytes ≡ Err e → (length bytes < n) × (e ≡ fault_at rules.Short bytes)
+chunk_short n bytes e h =
+    elim (guard_err (ltb (length bytes) n) (fault_at rules.Short bytes) e (Ok (take n bytes, drop n bytes)) h) [
+      | inl p ↦ (ltb-true _ _ p.0, p.1)
+      | inr p ↦ let k = p.1 in absurd cc
+    ]
 
 pub chunk_law : (n : ℕ) → Law (chunk n)
 chunk_law n = record {
   found = λ bytes x rest e.
-      let g = guard_ok (ltb (length bytes) n) (record { rule = rules.Short; left = length bytes }) (take n bytes, drop n bytes) (x, rest) e in
+      let g = guard_ok (ltb (length bytes) n) (fault_at rules.Short bytes) (take n bytes, drop n bytes) (x, rest) e in
       let long : n ≤ length bytes = ltb-false _ _ g.0 in
       let len : length (take n bytes) ≡ n = omega (arith, length-take n bytes) in
       let x-is : take n bytes ≡ x = ap (λ (p : List ℕ × List ℕ). p.0) g.1 in
@@ -126,15 +176,19 @@ chunk_law n = record {
       let long : ltb (length (front ++ rest)) n ≡ false = le-ltb _ _ (omega (arith, length-append front rest)) in
       rw (long, take_at front rest n len, drop_at front rest n len) (ap (λ (t : List ℕ). Ok (t, rest)) h.0);
   within = λ bytes d e.
-      let h = guard_err (ltb (length bytes) n) (record { rule = rules.Short; left = length bytes }) d (take n bytes, drop n bytes) e in
-      let k : length bytes ≡ d.left = ap (λ (t : Fault). t.left) h in omega arith;
+      let h = chunk_short n bytes d e in
+      omega (arith, left_is h.1);
+  stops = chunk_short n;
+  broken = λ bytes d h.
+      let small : ltb (length bytes) n ≡ true = lt-ltb _ _ h.0 in
+      rw (small, h.1) refl;
 }
 
 pub such_law : {X : Type 0} (rule : Rule) (test : X → Bool) (f : Format X) → Law f → Law (such rule test f)
 such_law {X = X} rule test f lf = record {
   found = λ bytes x rest e.
       let p = bind_ok (f.read bytes) (λ x. cond (test x.0) (Ok x) (wrong rule bytes)) (x, rest) e in
-      let g = test_ok (test p.0.0) (record { rule = rule; left = length bytes }) p.0 (x, rest) p.2 in
+      let g = test_ok (test p.0.0) (fault_at rule bytes) p.0 (x, rest) p.2 in
       let one = lf.found bytes p.0.0 p.0.1 p.1 in
       subst (λ (y : X × List ℕ). Found (such rule test f) bytes y.0 y.1) g.1 (record { front = one.front; parts = one.parts; formed = (one.formed, g.0) });
   again = λ front x rest h. rw (lf.again front x rest h.0, h.1) refl;
@@ -142,9 +196,15 @@ such_law {X = X} rule test f lf = record {
       elim (bind_err (f.read bytes) (λ x. cond (test x.0) (Ok x) (wrong rule bytes)) d e) [
         | inl first ↦ lf.within bytes d first
         | inr p ↦
-            let h = test_err (test p.0.0) (record { rule = rule; left = length bytes }) d p.0 p.2 in
-            let k : length bytes ≡ d.left = ap (λ (t : Fault). t.left) h in omega arith
+            let h = test_err (test p.0.0) (fault_at rule bytes) d p.0 p.2 in
+            omega (arith, left_is h.1)
       ];
+  stops = λ bytes e h.
+      bind_stops f lf (λ x. cond (test x.0) (Ok x) (wrong rule bytes)) (λ x back. (test x ≡ false) × (e ≡ fault_at rule bytes)) bytes e
+      (λ x back k. test_err (test x) (fault_at rule bytes) e (x, back) k) h;
+  broken = λ bytes e h.
+      bind_broken f lf (λ x. cond (test x.0) (Ok x) (wrong rule bytes)) (λ x back. (test x ≡ false) × (e ≡ fault_at rule bytes)) bytes e
+      (λ x back k. rw (k.0, k.1) refl) h;
 }
 
 in_three : (bytes a b c d : List ℕ) → bytes ≡ a ++ b → b ≡ c ++ d → bytes ≡ (a ++ c) ++ d
@@ -192,16 +252,61 @@ repeat_within f lf (suc n) bytes d e =
           ]
     ]
 
+repeat_stops : {X : Type 0} (f : Format X) → Law f → (n : ℕ) (bytes : List ℕ) (e : Fault) → repeat_at f.read n bytes ≡ Err e → (repeat f n).breaks bytes e
+unfolding repeat_at
+repeat_stops f lf zero bytes e h = absurd cc
+repeat_stops f lf (suc n) bytes e h =
+    elim (bind_err (f.read bytes) (λ x. and_then (repeat_at f.read n x.1) (λ xs. Ok (x.0 ∷ xs.0, xs.1))) e h) [
+      | inl first ↦ record { value = []; front = []; back = bytes; parts = refl; first = refl; second = (omega arith, lf.stops bytes e first) }
+      | inr p ↦
+          let one = lf.found bytes p.0.0 p.0.1 p.1 in
+          elim (bind_err (repeat_at f.read n p.0.1) (λ xs. Ok (p.0.0 ∷ xs.0, xs.1)) e p.2) [
+            | inl second ↦
+                let two = repeat_stops f lf n p.0.1 e second in
+                let few = two.second.0 in
+                record {
+                  value = p.0.0 ∷ two.value;
+                  front = one.front ++ two.front;
+                  back = two.back;
+                  parts = in_three bytes one.front p.0.1 two.front two.back one.parts two.parts;
+                  first = record { front = one.front; back = two.front; parts = refl; first = one.formed; second = two.first };
+                  second = (omega arith, two.second.1);
+                }
+            | inr q ↦ let k = q.2 in absurd cc
+          ]
+    ]
+
+repeat_broken : {X : Type 0} (f : Format X) → Law f → (n : ℕ) (front back : List ℕ) (xs : List X) (e : Fault) → Each f.form front xs → length xs < n → f.breaks back e → repeat_at f.read n (front ++ back) ≡ Err e
+unfolding repeat_at
+repeat_broken f lf zero front back xs e h few breaks = absurd (omega arith)
+repeat_broken f lf (suc n) front back [] e h few breaks = rw (h, lf.broken back e breaks) refl
+repeat_broken f lf (suc n) front back (x ∷ xs) e h few breaks =
+    let regrouped : front ++ back ≡ h.front ++ (h.back ++ back) = ap (λ (s : List ℕ). s ++ back) h.parts ∙ append_assoc h.front h.back back in
+    let one : f.read (front ++ back) ≡ Ok (x, h.back ++ back) = ap f.read regrouped ∙ lf.again h.front x (h.back ++ back) h.first in
+    rw (one, repeat_broken f lf n h.back back xs e h.second (omega arith) breaks) refl
+
 pub repeat_law : {X : Type 0} (f : Format X) → Law f → (n : ℕ) → Law (repeat f n)
-repeat_law f lf n = record { found = repeat_found f lf n; again = repeat_again f lf n; within = repeat_within f lf n }
+repeat_law f lf n = record {
+  found = repeat_found f lf n;
+  again = repeat_again f lf n;
+  within = repeat_within f lf n;
+  stops = repeat_stops f lf n;
+  broken = λ bytes e h. ap (repeat_at f.read n) h.parts ∙ repeat_broken f lf n h.front h.back h.value e h.first h.second.0 h.second.1;
+}
 
 -- ---- all of the bytes
+
+pub some_left : (bytes : List ℕ) → eqb (length bytes) 0 ≡ false → 1 ≤ length bytes
+some_left bytes e = grind arith
+
+pub not_empty : (bytes : List ℕ) → 1 ≤ length bytes → eqb (length bytes) 0 ≡ false
+not_empty bytes h = grind arith
 
 pub exactly_law : {X : Type 0} (f : Format X) → Law f → WholeLaw (exactly f)
 exactly_law {X = X} f lf = record {
   found = λ bytes x e.
       let p = bind_ok (f.read bytes) (λ x. cond (eqb (length x.1) 0) (Ok x.0) (wrong rules.Trailing x.1)) x e in
-      let g = test_ok (eqb (length p.0.1) 0) (record { rule = rules.Trailing; left = length p.0.1 }) p.0.0 x p.2 in
+      let g = test_ok (eqb (length p.0.1) 0) (fault_at rules.Trailing p.0.1) p.0.0 x p.2 in
       let none : p.0.1 ≡ [] = nil_from_length p.0.1 (eqb-true _ _ g.0) in
       let one = lf.found bytes p.0.0 p.0.1 p.1 in
       let whole : bytes ≡ one.front = one.parts ∙ ap (λ (t : List ℕ). one.front ++ t) none ∙ append-nil one.front in
@@ -214,10 +319,15 @@ exactly_law {X = X} f lf = record {
         | inl first ↦ lf.within bytes d first
         | inr p ↦
             let one = lf.found bytes p.0.0 p.0.1 p.1 in
-            let h = test_err (eqb (length p.0.1) 0) (record { rule = rules.Trailing; left = length p.0.1 }) d p.0.0 p.2 in
-            let k : length p.0.1 ≡ d.left = ap (λ (t : Fault). t.left) h in
-            omega (arith, ap length one.parts, length-append one.front p.0.1)
+            let h = test_err (eqb (length p.0.1) 0) (fault_at rules.Trailing p.0.1) d p.0.0 p.2 in
+            omega (arith, left_is h.1, ap length one.parts, length-append one.front p.0.1)
       ];
+  stops = λ bytes e h.
+      bind_stops f lf (λ x. cond (eqb (length x.1) 0) (Ok x.0) (wrong rules.Trailing x.1)) (λ x back. (1 ≤ length back) × (e ≡ fault_at rules.Trailing back)) bytes e
+      (λ x back k. let h = test_err (eqb (length back) 0) (fault_at rules.Trailing back) e x k in (some_left back h.0, h.1)) h;
+  broken = λ bytes e h.
+      bind_broken f lf (λ x. cond (eqb (length x.1) 0) (Ok x.0) (wrong rules.Trailing x.1)) (λ x back. (1 ≤ length back) × (e ≡ fault_at rules.Trailing back)) bytes e
+      (λ x back k. rw (not_empty back k.0, k.1) refl) h;
 }
 
 pub begins_law : {X : Type 0} (f : Format X) → Law f → WholeLaw (begins f)
@@ -234,6 +344,12 @@ begins_law {X = X} f lf = record {
         | inl first ↦ lf.within bytes d first
         | inr p ↦ let k = p.2 in absurd cc
       ];
+  stops = λ bytes d e.
+      elim (bind_err (f.read bytes) (λ x. Ok x.0) d e) [
+        | inl first ↦ lf.stops bytes d first
+        | inr p ↦ let k = p.2 in absurd cc
+      ];
+  broken = λ bytes d h. rw (lf.broken bytes d h) refl;
 }
 
 pub everything_law : WholeLaw everything
@@ -241,6 +357,8 @@ everything_law = record {
   found = λ bytes x e. sym (ok_is bytes x e);
   again = λ bytes x h. rw h refl;
   within = λ bytes d e. absurd cc;
+  stops = λ bytes d e. absurd cc;
+  broken = λ bytes d h. absurd h;
 }
 
 pub keeping_law : {X Y : Type 0} (w : Whole X) (make : X → List ℕ → Y) → WholeLaw w → WholeLaw (keeping w make)
@@ -254,15 +372,53 @@ keeping_law {X = X} {Y = Y} w make lw = record {
         | inl first ↦ lw.within bytes d first
         | inr p ↦ let k = p.2 in absurd cc
       ];
+  stops = λ bytes d e.
+      elim (bind_err (w.read bytes) (λ x. Ok (make x bytes)) d e) [
+        | inl first ↦ lw.stops bytes d first
+        | inr p ↦ let k = p.2 in absurd cc
+      ];
+  broken = λ bytes d h. rw (lw.broken bytes d h) refl;
 }
 
 beyond_ok : {X : Type 0} (k : ℕ) (r : Result X Fault) (x : X) → beyond k r ≡ Ok x → r ≡ Ok x
 beyond_ok k (Ok y) x e = e
 beyond_ok k (Err f) x e = absurd cc
 
-beyond_err : {X : Type 0} (k : ℕ) (r : Result X Fault) (d : Fault) → beyond k r ≡ Err d → (f : Fault) × (r ≡ Err f) × (d.left ≡ f.left + k)
+beyond_err : {X : Type 0} (k : ℕ) (r : Result X Fault) (d : Fault) → beyond k r ≡ Err d → (f : Fault) × (r ≡ Err f) × (d ≡ record f { left = f.left + k })
 beyond_err k (Ok y) d e = absurd cc
-beyond_err k (Err f) d e = let h : record f { left = f.left + k } ≡ d = cc in (f, refl, sym (ap (λ (t : Fault). t.left) h))
+beyond_err k (Err f) d e = (f, refl, cc)
+
+-- where reading so many bytes stops: there are fewer, or within them
+sized_stops : {X : Type 0} (w : Whole X) → WholeLaw w → (n : ℕ) (bytes : List ℕ) (e : Fault) → (sized w n).read bytes ≡ Err e → (sized w n).breaks bytes e
+sized_stops {X = X} w lw n bytes e h =
+    let after = drop n bytes in
+    elim (guard_err (ltb (length bytes) n) (fault_at rules.Short bytes) e (and_then {B = X × List ℕ} (beyond (length after) (w.read (take n bytes))) (λ x. Ok (x, after))) h) [
+      | inl p ↦ inl (ltb-true _ _ p.0, p.1)
+      | inr p ↦
+          elim (bind_err (beyond (length after) (w.read (take n bytes))) (λ x. Ok (x, after)) e p.1) [
+            | inl first ↦
+                let long : n ≤ length bytes = ltb-false _ _ p.0 in
+                let q = beyond_err (length after) (w.read (take n bytes)) e first in
+                inr (record {
+                  inside = take n bytes;
+                  after = after;
+                  parts = sym (take-append-drop n bytes);
+                  size = omega (arith, length-take n bytes);
+                  inner = q.0;
+                  broken = lw.stops (take n bytes) q.0 q.1;
+                  place = q.2;
+                })
+            | inr q ↦ let k = q.2 in absurd cc
+          ]
+    ]
+
+sized_broken : {X : Type 0} (w : Whole X) → WholeLaw w → (n : ℕ) (bytes : List ℕ) (e : Fault) → (sized w n).breaks bytes e → (sized w n).read bytes ≡ Err e
+sized_broken w lw n bytes e (inl h) =
+    let small : ltb (length bytes) n ≡ true = lt-ltb _ _ h.0 in
+    rw (small, h.1) refl
+sized_broken w lw n bytes e (inr h) =
+    let long : ltb (length (h.inside ++ h.after)) n ≡ false = le-ltb _ _ (omega (arith, h.size, length-append h.inside h.after)) in
+    rw (h.parts, long, take_at h.inside h.after n h.size, drop_at h.inside h.after n h.size, lw.broken h.inside h.inner h.broken, h.place) refl
 
 pub sized_law : {X : Type 0} (w : Whole X) → WholeLaw w → (n : ℕ) → Law (sized w n)
 sized_law {X = X} w lw n = record {
@@ -280,16 +436,12 @@ sized_law {X = X} w lw n = record {
       let long : ltb (length (front ++ rest)) n ≡ false = le-ltb _ _ (omega (arith, length-append front rest)) in
       rw (long, take_at front rest n h.1, drop_at front rest n h.1, lw.again front x h.0) refl;
   within = λ bytes d e.
-      elim (ltb (length bytes) n) as (λ b. ltb (length bytes) n ≡ b → cond b (wrong {X = X × List ℕ} rules.Short bytes) (and_then {B = X × List ℕ} (beyond (length (drop n bytes)) (w.read (take n bytes))) (λ x. Ok (x, drop n bytes))) ≡ Err d → d.left ≤ length bytes) [
-        | true ↦ λ b h. let k : length bytes ≡ d.left = cc in omega arith
-        | false ↦ λ b h.
-            let long : n ≤ length bytes = ltb-false _ _ b in
-            elim (bind_err (beyond (length (drop n bytes)) (w.read (take n bytes))) (λ x. Ok (x, drop n bytes)) d h) [
-              | inl first ↦
-                  let p = beyond_err (length (drop n bytes)) (w.read (take n bytes)) d first in
-                  let one = lw.within (take n bytes) p.0 p.1 in
-                  omega (arith, p.2, length-take n bytes, length-drop n bytes)
-              | inr q ↦ let k = q.2 in absurd cc
-            ]
-      ] refl e;
+      elim (sized_stops w lw n bytes d e) [
+        | inl h ↦ omega (arith, left_is h.1)
+        | inr h ↦
+            let one = lw.within h.inside h.inner (lw.broken h.inside h.inner h.broken) in
+            omega (arith, left_is h.place, ap length h.parts, length-append h.inside h.after)
+      ];
+  stops = sized_stops w lw n;
+  broken = sized_broken w lw n;
 }

@@ -1,10 +1,11 @@
 -- The number that is read is the one that the bytes stand for.
-use Rattle.std.proofs.Common.{◌≡◌, ℕ, zero, suc, ◌+◌, ◌-◌, ◌*◌, ◌^◌, ◌≤◌, true, false, cond, ltb, List, [], ◌∷◌, ◌++◌, length, Result, Ok, Err, refl, ap, subst, arith, inl, inr}
+use Rattle.std.proofs.Common.{◌≡◌, ℕ, zero, suc, ◌+◌, ◌-◌, ◌*◌, ◌^◌, ◌≤◌, true, false, cond, ltb, List, [], ◌∷◌, ◌++◌, length, Result, Ok, Err, refl, ap, subst, ◌∙◌, arith, inl, inr, ◌⊎◌}
 use Rattle.std.proofs.lemmas.Bool.{ltb-true, ltb-false, le-ltb, lt-ltb}
+use Rattle.std.proofs.lemmas.List.{length-append}
 use Rattle.wasm_format.specs.declared.fault.Fault.{Fault}
 use Rattle.wasm_format.specs.declared.fault.Rule.TheVariants as rules
-use Rattle.wasm_format.specs.Format.{Format, wrong, and_then, IsLeb, leb_at, u32_at, u32, vec, repeat}
-use Rattle.wasm_format.proofs.Laws.{Found, Law, bind_ok, bind_err, test_ok, test_err, ok_is, bind_law, repeat_law}
+use Rattle.wasm_format.specs.Format.{Format, fault_at, wrong, and_then, IsLeb, AllGoOn, EndsWithin, GoesOn, BreaksU32, leb_at, u32_at, u32, vec, repeat}
+use Rattle.wasm_format.proofs.Laws.{Found, Law, bind_ok, bind_err, test_ok, test_err, left_is, ok_is, bind_law, repeat_law}
 
 record Digits (k : ℕ) (bytes : List ℕ) (n : ℕ) (rest : List ℕ) : Type 0 where
   front : List ℕ
@@ -43,38 +44,84 @@ leb_again (suc k) (b ∷ c ∷ cs) n rest digits short =
     let n-is : b - 128 + 128 * digits.1 ≡ n = omega arith in
     rw (large, leb_again k (c ∷ cs) digits.1 rest digits.3 (omega arith), n-is) refl
 
-leb_within : (k : ℕ) (bytes : List ℕ) (d : Fault) → leb_at k bytes ≡ Err d → d.left ≤ length bytes
+one_more : (k b : ℕ) (bytes : List ℕ) (e : Fault) → 128 ≤ b → EndsWithin k bytes e ⊎ GoesOn k bytes e → EndsWithin (suc k) (b ∷ bytes) e ⊎ GoesOn (suc k) (b ∷ bytes) e
+one_more k b bytes e large (inl h) = inl (record { digits = (large, h.digits); few = omega arith; place = h.place })
+one_more k b bytes e large (inr h) = inr (record { front = b ∷ h.front; back = h.back; parts = ap (λ (s : List ℕ). b ∷ s) h.parts; digits = (large, h.digits); many = ap suc h.many; place = h.place })
+
+leb_stops : (k : ℕ) (bytes : List ℕ) (e : Fault) → leb_at k bytes ≡ Err e → EndsWithin k bytes e ⊎ GoesOn k bytes e
 unfolding leb_at
-leb_within zero bytes d e = let h : length bytes ≡ d.left = cc in omega arith
-leb_within (suc k) [] d e = let h : 0 ≡ d.left = cc in omega arith
-leb_within (suc k) (b ∷ bytes) d e =
-    elim (ltb b 128) as (λ t. cond {A = Result (ℕ × List ℕ) Fault} t (Ok (b, bytes)) (and_then {B = ℕ × List ℕ} (leb_at k bytes) (λ high. Ok (b - 128 + 128 * high.0, high.1))) ≡ Err d → d.left ≤ length (b ∷ bytes)) [
-      | true ↦ λ h. absurd cc
-      | false ↦ λ h.
-          elim (bind_err {B = ℕ × List ℕ} (leb_at k bytes) (λ high. Ok (b - 128 + 128 * high.0, high.1)) d h) [
-            | inl first ↦ let one = leb_within k bytes d first in omega arith
+leb_stops zero bytes e h = inr (record { front = []; back = bytes; parts = refl; digits = tt; many = refl; place = cc })
+leb_stops (suc k) [] e h = inl (record { digits = tt; few = omega arith; place = cc })
+leb_stops (suc k) (b ∷ bytes) e h =
+    elim (ltb b 128) as (λ t. ltb b 128 ≡ t → cond {A = Result (ℕ × List ℕ) Fault} t (Ok (b, bytes)) (and_then {B = ℕ × List ℕ} (leb_at k bytes) (λ high. Ok (b - 128 + 128 * high.0, high.1))) ≡ Err e → EndsWithin (suc k) (b ∷ bytes) e ⊎ GoesOn (suc k) (b ∷ bytes) e) [
+      | true ↦ λ t h. absurd cc
+      | false ↦ λ t h.
+          elim (bind_err {B = ℕ × List ℕ} (leb_at k bytes) (λ high. Ok (b - 128 + 128 * high.0, high.1)) e h) [
+            | inl first ↦ one_more k b bytes e (ltb-false _ _ t) (leb_stops k bytes e first)
             | inr q ↦ let k = q.2 in absurd cc
           ]
-    ] e
+    ] refl h
+
+leb_ends : (k : ℕ) (bytes : List ℕ) (e : Fault) → EndsWithin k bytes e → leb_at k bytes ≡ Err e
+unfolding leb_at
+leb_ends zero bytes e h = absurd (omega arith)
+leb_ends (suc k) [] e h = rw h.place refl
+leb_ends (suc k) (b ∷ bytes) e h =
+    let large : ltb b 128 ≡ false = le-ltb _ _ h.digits.0 in
+    rw (large, leb_ends k bytes e (record { digits = h.digits.1; few = omega arith; place = h.place })) refl
+
+leb_goes_on : (k : ℕ) (front back : List ℕ) → AllGoOn front → length front ≡ k → leb_at k (front ++ back) ≡ wrong rules.Number back
+unfolding leb_at
+leb_goes_on zero [] back digits many = refl
+leb_goes_on zero (b ∷ front) back digits many = absurd (omega arith)
+leb_goes_on (suc k) [] back digits many = absurd (omega arith)
+leb_goes_on (suc k) (b ∷ front) back digits many =
+    let large : ltb b 128 ≡ false = le-ltb _ _ digits.0 in
+    rw (large, leb_goes_on k front back digits.1 (omega arith)) refl
+
+u32_stops : (bytes : List ℕ) (e : Fault) → u32_at bytes ≡ Err e → BreaksU32 bytes e
+unfolding u32_at
+u32_stops bytes e h =
+    elim (bind_err (leb_at 5 bytes) (λ n. cond (ltb n.0 (2 ^ 32)) (Ok n) (wrong rules.Number bytes)) e h) [
+      | inl first ↦ elim (leb_stops 5 bytes e first) [ inl p ↦ inl p | inr p ↦ inr (inl p) ]
+      | inr p ↦
+          let g = test_err (ltb p.0.0 (2 ^ 32)) (fault_at rules.Number bytes) e p.0 p.2 in
+          let one = leb_found 5 bytes p.0.0 p.0.1 p.1 in
+          inr (inr (record { number = p.0.0; front = one.front; back = p.0.1; parts = one.parts; digits = one.digits; short = one.short; large = ltb-false _ _ g.0; place = g.1 }))
+    ]
+
+u32_broken : (bytes : List ℕ) (e : Fault) → BreaksU32 bytes e → u32_at bytes ≡ Err e
+unfolding u32_at
+u32_broken bytes e (inl h) = rw (leb_ends 5 bytes e h) refl
+u32_broken bytes e (inr (inl h)) =
+    let one : leb_at 5 bytes ≡ wrong rules.Number h.back = ap (leb_at 5) h.parts ∙ leb_goes_on 5 h.front h.back h.digits h.many in
+    rw (one, h.place) refl
+u32_broken bytes e (inr (inr h)) =
+    let one : leb_at 5 bytes ≡ Ok (h.number, h.back) = ap (leb_at 5) h.parts ∙ leb_again 5 h.front h.number h.back h.digits h.short in
+    let large : ltb h.number (2 ^ 32) ≡ false = le-ltb _ _ h.large in
+    rw (one, large, h.place) refl
 
 pub u32_law : Law u32
 unfolding u32_at
 u32_law = record {
   found = λ bytes n rest e.
       let p = bind_ok (leb_at 5 bytes) (λ n. cond (ltb n.0 (2 ^ 32)) (Ok n) (wrong rules.Number bytes)) (n, rest) e in
-      let g = test_ok (ltb p.0.0 (2 ^ 32)) (record { rule = rules.Number; left = length bytes }) p.0 (n, rest) p.2 in
+      let g = test_ok (ltb p.0.0 (2 ^ 32)) (fault_at rules.Number bytes) p.0 (n, rest) p.2 in
       let one = leb_found 5 bytes p.0.0 p.0.1 p.1 in
       subst (λ (y : ℕ × List ℕ). Found u32 bytes y.0 y.1) g.1 (record { front = one.front; parts = one.parts; formed = record { digits = one.digits; short = one.short; small = ltb-true _ _ g.0 } });
   again = λ front n rest h.
       let small : ltb n (2 ^ 32) ≡ true = lt-ltb _ _ h.small in
       rw (leb_again 5 front n rest h.digits h.short, small) refl;
   within = λ bytes d e.
-      elim (bind_err (leb_at 5 bytes) (λ n. cond (ltb n.0 (2 ^ 32)) (Ok n) (wrong rules.Number bytes)) d e) [
-        | inl first ↦ leb_within 5 bytes d first
-        | inr p ↦
-            let h = test_err (ltb p.0.0 (2 ^ 32)) (record { rule = rules.Number; left = length bytes }) d p.0 p.2 in
-            let k : length bytes ≡ d.left = ap (λ (t : Fault). t.left) h in omega arith
+      elim (u32_stops bytes d e) [
+        | inl h ↦ omega (arith, left_is h.place)
+        | inr h ↦ elim h [
+          | inl k ↦ omega (arith, left_is k.place, ap length k.parts, length-append k.front k.back)
+          | inr k ↦ omega (arith, left_is k.place)
+        ]
       ];
+  stops = u32_stops;
+  broken = u32_broken;
 }
 
 pub vec_law : {X : Type 0} (f : Format X) → Law f → Law (vec f)

@@ -1,10 +1,11 @@
 -- The sections of a module, and all of it.
 use Rattle.std.proofs.Common.{◌≡◌, ℕ, zero, suc, ◌+◌, ◌≤◌, ◌<◌, ◌^◌, ◌⊎◌, Bool, true, false, cond, eqb, List, [], ◌∷◌, ◌++◌, length, map, Result, Ok, Err, refl, sym, ap, subst, ◌∙◌, arith, inl, inr}
 use Rattle.std.specs.List.{list_all}
-use Rattle.std.proofs.lemmas.Bool.{eqb-true, eq-eqb}
+use Rattle.std.proofs.lemmas.Bool.{eqb-true}
 use Rattle.std.proofs.lemmas.Slice.Eq.{bytes_eq-Decides}
 use Rattle.std.proofs.lemmas.List.{nil_from_length, length-append}
 use Rattle.wasm_format.specs.declared.fault.Fault.{Fault}
+use Rattle.wasm_format.specs.declared.fault.Rule.{Rule}
 use Rattle.wasm_format.specs.declared.fault.Rule.TheVariants as rules
 use Rattle.wasm_format.specs.declared.fault.ReadError.{ReadError}
 use Rattle.wasm_format.specs.declared.fault.ReadError.TheVariants as errors
@@ -12,8 +13,8 @@ use Rattle.wasm_format.specs.declared.core_module.SectionId.{SectionId}
 use Rattle.wasm_format.specs.Format.{and_then, wrong, CanMove}
 use Rattle.wasm_format.specs.Fault.{Fails}
 use Rattle.wasm_format.specs.Module.{ModuleValue, no_module}
-use Rattle.wasm_format.specs.Grammar.{content, section, section_start, Sections, ends, goes, IsModule, header, sections_at, start, module_at}
-use Rattle.wasm_format.proofs.Laws.{bind_ok}
+use Rattle.wasm_format.specs.Grammar.{content, section, section_start, Sections, ends, goes, IsModule, header, SectionsBreak, here, later, BreaksModule, sections_at, start, module_at, fault_of, IsModuleFault}
+use Rattle.wasm_format.proofs.Laws.{bind_ok, bind_err, refused, some_left, not_empty}
 use Rattle.wasm_format.proofs.GrammarLaws.{content_law, section_law, start_law}
 
 ended : {A : Type 0} (b : Bool) (x y : A) (r : Result A Fault) → cond b (Ok x) r ≡ Ok y → ((b ≡ true) × (x ≡ y)) ⊎ ((b ≡ false) × (r ≡ Ok y))
@@ -48,6 +49,11 @@ section_nonempty m bytes next h =
     let id = h.first in
     omega (arith, ap length h.parts, ap length id.parts, ap length id.first, length-append h.front h.back, length-append id.front id.back)
 
+pub section_falls : (m : ModuleValue) (bytes : List ℕ) (next : ModuleValue) (after : List ℕ) → (section m).read bytes ≡ Ok (next, after) → length after < length bytes
+section_falls m bytes next after e =
+    let one = (section_law m).found bytes next after e in
+    omega (arith, section_nonempty m one.front next one.formed, ap length one.parts, length-append one.front after)
+
 sections_again : (fuel : ℕ) (m : ModuleValue) (bytes : List ℕ) (whole : ModuleValue) → Sections m bytes whole → length bytes ≤ fuel → sections_at fuel m bytes ≡ Ok whole
 unfolding sections_at
 sections_again zero m _ _ (ends _) le = refl
@@ -61,25 +67,83 @@ sections_again (suc fuel) m bytes whole (goes _ next _ _ front back parts first 
     let one : (section m).read bytes ≡ Ok (next, back) = ap (section m).read parts ∙ (section_law m).again front next back first in
     rw (more, one) (sections_again fuel next back whole second (omega arith))
 
-refused : {A : Type 0} (b : Bool) (x : A) (r : Result A Fault) (d : Fault) → cond b (Ok x) r ≡ Err d → r ≡ Err d
-refused true x r d e = absurd cc
-refused false x r d e = e
+sections_break : (fuel : ℕ) (m : ModuleValue) (bytes : List ℕ) (e : Fault) → length bytes ≤ fuel → sections_at fuel m bytes ≡ Err e → SectionsBreak m bytes e
+unfolding sections_at
+sections_break zero m bytes e le h =
+    let p = refused (eqb (length bytes) 0) m (wrong rules.Short bytes) e h in
+    absurd (omega (arith, some_left bytes p.0))
+sections_break (suc fuel) m bytes e le h =
+    let p = refused (eqb (length bytes) 0) m (and_then ((section m).read bytes) (λ x. sections_at fuel x.0 x.1)) e h in
+    elim (bind_err ((section m).read bytes) (λ x. sections_at fuel x.0 x.1) e p.1) [
+      | inl first ↦ here m bytes e (some_left bytes p.0) ((section_law m).stops bytes e first)
+      | inr q ↦
+          let one = (section_law m).found bytes q.0.0 q.0.1 q.1 in
+          let shorter = section_falls m bytes q.0.0 q.0.1 q.1 in
+          later m q.0.0 bytes one.front q.0.1 e one.parts one.formed (sections_break fuel q.0.0 q.0.1 e (omega arith) q.2)
+    ]
+
+sections_broken : (fuel : ℕ) (m : ModuleValue) (bytes : List ℕ) (e : Fault) → SectionsBreak m bytes e → length bytes ≤ fuel → sections_at fuel m bytes ≡ Err e
+unfolding sections_at
+sections_broken zero m bytes e (here _ _ _ some breaks) le = absurd (omega arith)
+sections_broken (suc fuel) m bytes e (here _ _ _ some breaks) le = rw (not_empty bytes some, (section_law m).broken bytes e breaks) refl
+sections_broken zero m bytes e (later _ next _ front back _ parts first second) le =
+    absurd (omega (arith, section_nonempty m front next first, ap length parts, length-append front back))
+sections_broken (suc fuel) m bytes e (later _ next _ front back _ parts first second) le =
+    let long = section_nonempty m front next first in
+    let len : length bytes ≡ length front + length back = ap length parts ∙ length-append front back in
+    let one : (section m).read bytes ≡ Ok (next, back) = ap (section m).read parts ∙ (section_law m).again front next back first in
+    rw (not_empty bytes (omega arith), one) (sections_broken fuel next back e second (omega arith))
+
+-- ---- a whole module
+
+is_header : (front value : List ℕ) → start.form front value → front ≡ header
+unfolding start
+is_header front value h = h.0.0 ∙ (bytes_eq-Decides value header).0 h.1
+
+header_again : (bytes back : List ℕ) → bytes ≡ header ++ back → start.read bytes ≡ Ok (header, back)
+unfolding start
+header_again bytes back parts = ap start.read parts ∙ start_law.again header header back ((refl, refl), refl)
 
 -- what is read is this module
 pub module_found : (bytes : List ℕ) (m : ModuleValue) → length bytes < 2 ^ 32 → module_at bytes ≡ Ok m → IsModule bytes m
-unfolding module_at start
+unfolding module_at
 module_found bytes m small e =
     let p = bind_ok (start.read bytes) (λ s. sections_at (length s.1) no_module s.1) m e in
     let one = start_law.found bytes p.0.0 p.0.1 p.1 in
-    let is_header : one.front ≡ header = one.formed.0.0 ∙ (bytes_eq-Decides p.0.0 header).0 one.formed.1 in
-    record { back = p.0.1; parts = one.parts ∙ ap (λ (t : List ℕ). t ++ p.0.1) is_header; each = sections_found (length p.0.1) no_module p.0.1 m p.2; small = small }
+    record { back = p.0.1; parts = one.parts ∙ ap (λ (t : List ℕ). t ++ p.0.1) (is_header one.front p.0.0 one.formed); each = sections_found (length p.0.1) no_module p.0.1 m p.2; small = small }
 
 -- a module is read, as what it is
 pub module_again : (bytes : List ℕ) (m : ModuleValue) → IsModule bytes m → module_at bytes ≡ Ok m
-unfolding module_at start
-module_again bytes m h =
-    let one : start.read bytes ≡ Ok (header, h.back) = ap start.read h.parts ∙ start_law.again header header h.back ((refl, refl), refl) in
-    rw one (sections_again (length h.back) no_module h.back m h.each (omega arith))
+unfolding module_at
+module_again bytes m h = rw (header_again bytes h.back h.parts) (sections_again (length h.back) no_module h.back m h.each (omega arith))
+
+-- reading stops where the bytes break a rule
+pub module_breaks : (bytes : List ℕ) (e : Fault) → module_at bytes ≡ Err e → BreaksModule bytes e
+unfolding module_at
+module_breaks bytes e h =
+    elim (bind_err (start.read bytes) (λ s. sections_at (length s.1) no_module s.1) e h) [
+      | inl first ↦ inl (start_law.stops bytes e first)
+      | inr p ↦
+          let one = start_law.found bytes p.0.0 p.0.1 p.1 in
+          inr (record { back = p.0.1; parts = one.parts ∙ ap (λ (t : List ℕ). t ++ p.0.1) (is_header one.front p.0.0 one.formed); each = sections_break (length p.0.1) no_module p.0.1 e (omega arith) p.2 })
+    ]
+
+-- where the bytes break a rule, reading stops
+pub module_broken : (bytes : List ℕ) (e : Fault) → BreaksModule bytes e → module_at bytes ≡ Err e
+unfolding module_at
+module_broken bytes e (inl h) = rw (start_law.broken bytes e h) refl
+module_broken bytes e (inr h) = rw (header_again bytes h.back h.parts) (sections_broken (length h.back) no_module h.back e h.each (omega arith))
+
+-- a broken rule is a fault of the module
+pub module_fault_is : (bytes : List ℕ) (rule : Rule) (left : ℕ) → length bytes < 2 ^ 32 → BreaksModule bytes (record { rule = rule; left = left }) → IsModuleFault bytes (fault_of rule)
+module_fault_is bytes rules.Unsupported left small h = (small, record { rule = rules.Unsupported; left = left }, h, refl)
+module_fault_is bytes rule left small h = (small, record { rule = rule; left = left }, h, refl)
+
+-- bytes that break a rule aren't a module, and break it at one place
+pub one_break : (bytes : List ℕ) (e : Fault) → BreaksModule bytes e → ((m : ModuleValue) → IsModule bytes m → ⊥) × ((d : Fault) → BreaksModule bytes d → d ≡ e)
+one_break bytes e h =
+    let one = module_broken bytes e h in
+    ((λ m k. let two = module_again bytes m k in cc), (λ d k. let two = module_broken bytes d k in cc))
 
 -- ---- what the loop over the sections keeps
 
@@ -89,20 +153,12 @@ pub record Remains (m : ModuleValue) (bytes : List ℕ) (total : Result ModuleVa
   pub enough : length bytes ≤ fuel
   pub same : sections_at fuel m bytes ≡ total
 
-pub section_falls : (m : ModuleValue) (bytes : List ℕ) (next : ModuleValue) (after : List ℕ) → (section m).read bytes ≡ Ok (next, after) → length after < length bytes
-section_falls m bytes next after e =
-    let one = (section_law m).found bytes next after e in
-    omega (arith, section_nonempty m one.front next one.formed, ap length one.parts, length-append one.front after)
-
-more_left : (bytes : List ℕ) → eqb (length bytes) 0 ≡ false → length bytes ≡ 0 → ⊥
-more_left bytes e h = let k = eq-eqb (length bytes) 0 h in cc
-
 pub sections_go_on : (m : ModuleValue) (bytes : List ℕ) (total : Result ModuleValue Fault) (next : ModuleValue) (after : List ℕ) → Remains m bytes total
     → eqb (length bytes) 0 ≡ false → (section m).read bytes ≡ Ok (next, after) → Remains next after total
 unfolding sections_at
 sections_go_on m bytes total next after r more e = from r.fuel r.enough r.same where
   from : (fuel : ℕ) → length bytes ≤ fuel → sections_at fuel m bytes ≡ total → Remains next after total
-  from zero enough same = absurd (more_left bytes more (omega arith))
+  from zero enough same = absurd (omega (arith, some_left bytes more))
   from (suc fuel) enough same =
       let shorter = section_falls m bytes next after e in
       let one : sections_at (suc fuel) m bytes ≡ sections_at fuel next after = rw (more, e) refl in
@@ -114,7 +170,7 @@ unfolding sections_at
 sections_stop m bytes total errors.Memory r more h = tt
 sections_stop m bytes total (errors.Malformed f) r more h = from r.fuel r.enough r.same where
   from : (fuel : ℕ) → length bytes ≤ fuel → sections_at fuel m bytes ≡ total → total ≡ Err f
-  from zero enough same = absurd (more_left bytes more (omega arith))
+  from zero enough same = absurd (omega (arith, some_left bytes more))
   from (suc fuel) enough same = let one : sections_at (suc fuel) m bytes ≡ Err f = rw (more, h) refl in sym same ∙ one
 
 pub sections_done : (m : ModuleValue) (bytes : List ℕ) (total : Result ModuleValue Fault) → Remains m bytes total → eqb (length bytes) 0 ≡ true → total ≡ Ok m

@@ -1,5 +1,5 @@
 -- Core modules as bytes (WebAssembly Core, Binary Format, Modules), cut to functions.
-use Rattle.std.specs.Prelude.{◌≡◌, ℕ, zero, suc, ◌<◌, ◌≤◌, ◌^◌, List, [], ◌∷◌, ◌++◌, length, Result, Ok, Err, Bool, nat_lt, nat_le, ◌==◌, ◌&&◌, ◌||◌, if◌then◌else◌}
+use Rattle.std.specs.Prelude.{◌≡◌, ℕ, zero, suc, ◌<◌, ◌≤◌, ◌^◌, ◌⊎◌, List, [], ◌∷◌, ◌++◌, length, Result, Ok, Err, Bool, nat_lt, nat_le, ◌==◌, ◌&&◌, ◌||◌, if◌then◌else◌}
 use Rattle.std.specs.List.{list_all}
 use Rattle.std.specs.Str.{bytes_eq}
 use Rattle.wasm_format.specs.declared.fault.Fault.{Fault}
@@ -157,16 +157,34 @@ pub record IsModule (bytes : List ℕ) (m : ModuleValue) : Type 0 where
   pub each : Sections no_module back m
   pub small : length bytes < 2 ^ 32
 
+-- ---- where bytes break a rule
+
+-- some sections stand there, and the next one breaks
+pub data SectionsBreak : ModuleValue → List ℕ → Fault → Type 0 where
+  here : (m : ModuleValue) (bytes : List ℕ) (e : Fault) → 1 ≤ length bytes → (section m).breaks bytes e → SectionsBreak m bytes e
+  later : (m next : ModuleValue) (bytes front back : List ℕ) (e : Fault) → bytes ≡ front ++ back → (section m).form front next → SectionsBreak next back e → SectionsBreak m bytes e
+
+-- the first eight bytes
+unfoldable pub start : Format (List ℕ)
+start = such rules.Header (λ s. bytes_eq s header) (chunk 8)
+
+-- behind the header the sections break a rule
+pub record BreaksBehind (bytes : List ℕ) (e : Fault) : Type 0 where
+  pub back : List ℕ
+  pub parts : bytes ≡ header ++ back
+  pub each : SectionsBreak no_module back e
+
+-- the parts of a module stand in the bytes, one after the other, up to the one that breaks this rule, and so many
+-- bytes are left there
+abbrev pub BreaksModule : List ℕ → Fault → Type 0
+BreaksModule bytes e = start.breaks bytes e ⊎ BreaksBehind bytes e
+
 -- ---- reading
 
 -- the module so far and the sections behind it, of which there are at most fuel
 unfoldable pub sections_at : ℕ → ModuleValue → List ℕ → Result ModuleValue Fault
 sections_at zero m bytes = if length bytes == 0 then Ok m else wrong rules.Short bytes
 sections_at (suc fuel) m bytes = if length bytes == 0 then Ok m else and_then ((section m).read bytes) (λ x. sections_at fuel x.0 x.1)
-
--- the first eight bytes
-unfoldable pub start : Format (List ℕ)
-start = such rules.Header (λ s. bytes_eq s header) (chunk 8)
 
 unfoldable pub module_at : List ℕ → Result ModuleValue Fault
 module_at bytes = and_then (start.read bytes) (λ s. sections_at (length s.1) no_module s.1)
@@ -185,10 +203,10 @@ fault_of rules.Duplicate = faults.Malformed
 fault_of rules.Unsupported = faults.Unsupported
 fault_of rules.NotYet = faults.NotYet
 
--- what reading says of a fault
+-- what is wrong with the bytes: they break a rule that is called this, or are too many, or memory ran out
 abbrev pub IsModuleFault : List ℕ → ModuleFault → Type 0
 IsModuleFault bytes faults.OutOfMemory = Unit {0}
 IsModuleFault bytes faults.TooLarge = 2 ^ 32 ≤ length bytes
-IsModuleFault bytes faults.Malformed = (f : Fault) × (module_at bytes ≡ Err f) × (fault_of f.rule ≡ faults.Malformed)
-IsModuleFault bytes faults.Unsupported = (f : Fault) × (module_at bytes ≡ Err f) × (fault_of f.rule ≡ faults.Unsupported)
-IsModuleFault bytes faults.NotYet = (f : Fault) × (module_at bytes ≡ Err f) × (fault_of f.rule ≡ faults.NotYet)
+IsModuleFault bytes faults.Malformed = (length bytes < 2 ^ 32) × (e : Fault) × BreaksModule bytes e × (fault_of e.rule ≡ faults.Malformed)
+IsModuleFault bytes faults.Unsupported = (length bytes < 2 ^ 32) × (e : Fault) × BreaksModule bytes e × (fault_of e.rule ≡ faults.Unsupported)
+IsModuleFault bytes faults.NotYet = (length bytes < 2 ^ 32) × (e : Fault) × BreaksModule bytes e × (fault_of e.rule ≡ faults.NotYet)

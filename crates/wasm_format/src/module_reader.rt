@@ -432,15 +432,16 @@ fn module_fault(rule: Rule) -> ModuleFault
 
 /// The one core module that the bytes are; its names and contents are slices of them.
 ///
-/// Answers M1 where the bytes aren't of the grammar, M2 where they have a form that is never read, M3 for
-/// more than 4,294,967,295 bytes, and `NotYet` for a section or form that is still to come
+/// Answers M3 for more than 4,294,967,295 bytes. Where the bytes break a rule, the first part that breaks decides: M2
+/// for a form that is never read, `NotYet` for a section or form that is still to come, M1 for any other rule
 /// (WebAssembly Core, Binary Format, Modules).
 pub fn read_module(alloc: Global, bytes: &[u8]) -> Result<CoreModule<'_>, ModuleFault>
     // What is read is this module by the grammar.
     ensures found { IfOk result (λ m. IsModule bytes.now (module_value m)) }
     // A module of the grammar is read, as this one and no other, unless memory runs out.
     ensures only { (m : ModuleValue) → IsModule bytes.now m → MatchResult result (λ found. module_value found ≡ m) (λ e. e ≡ ModuleFault.OutOfMemory) }
-    // What reading from left to right says of the first fault.
+    // A refusal is M3 for too many bytes alone; M1, M2 and `NotYet` name a rule that the bytes break where the parts of a
+    // module stand in them up to there.
     ensures fault { IfErr result (IsModuleFault bytes.now) }
 {
     if bytes.len() > u32::MAX as usize {

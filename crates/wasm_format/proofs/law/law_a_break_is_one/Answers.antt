@@ -1,0 +1,5 @@
+use Rattle.wasm_format.proofs.Sections.{one_break}
+use Rattle.wasm_format.proofs.law.law_a_break_is_one.Goals as goal
+
+pub returns : goal.returns
+returns c = one_break
