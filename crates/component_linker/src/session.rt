@@ -287,20 +287,19 @@ impl<'a> Session<'a> {
         requires { world < length self.old.packages }
         ensures ok { OnOk result (self.new ≡ record self.old { main = Some (record { bytes = bytes.entry.now; world = world; encoding = encoding }) }) }
         ensures read { OnOk result ((m : ModuleValue) × IsModule bytes.entry.now m) }
+        ensures only { (m : ModuleValue) → IsModule bytes.entry.now m → MatchResult result (λ _. Unit {0}) (λ e. e ≡ Fault.OutOfMemory) }
         ensures cause { IfErr result (IsModuleCause bytes.entry.now) }
         ensures err { OnErr result (self.new ≡ self.old) }
     {
-        match read_module(self.alloc, bytes) {
-            Ok(_) => {
-                self.main = Some(HandedModule {
-                    bytes,
-                    world,
-                    encoding,
-                });
-                Ok(())
-            }
-            Err(fault) => Err(module_refusal(fault)),
+        if let Err(fault) = read_module(self.alloc, bytes) {
+            return Err(module_refusal(fault));
         }
+        self.main = Some(HandedModule {
+            bytes,
+            world,
+            encoding,
+        });
+        Ok(())
     }
 
     /// Hands in an adapter: still to come.

@@ -399,6 +399,10 @@ text_found (a ∷ b ∷ c ∷ z) ts e = elim (cases_Bool (eqb a 239)) [
 given_is : (ts us : List Tok) → given ts ≡ given us → ts ≡ us
 given_is ts us e = cc
 
+-- a text is one list of tokens at most
+pub one_list : (text : Text) (ts us : List Tok) → LexesText text ts → LexesText text us → ts ≡ us
+one_list text ts us h k = given_is ts us (sym (text_only text ts h) ∙ text_only text us k)
+
 pub answers_found : {X : Type 0} (view : X → List Tok) (r : Result X ReadError) (text : Text) → Gives view r (lex text) → IfOk r (λ x. LexesText text (view x))
 answers_found view (Ok x) text e = text_found text (view x) e
 answers_found view (Err f) text e = tt

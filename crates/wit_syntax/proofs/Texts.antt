@@ -52,6 +52,10 @@ module _ {Y : Type 0} (p : Production Y) (l : Law [] p) (w : Whole p) where
   unfolding text_at
   tree_only text d h = rw (text_only text h.0 h.1, l.again h.0 d [] h.2 tt) refl
 
+  -- a text has one tree at most
+  pub one_tree : (text : Text) (d e : Y) → IsTextOf p text d → IsTextOf p text e → d ≡ e
+  one_tree text d e h k = given_is d e (sym (tree_only text d h) ∙ tree_only text e k)
+
   abbrev failed : Fault → Result Y Fault
   failed e = Err e
 

@@ -5,6 +5,7 @@ mod cursor;
 mod fault;
 mod identifier;
 mod keyword;
+mod law;
 mod lex;
 mod parse;
 mod token;
@@ -14,6 +15,7 @@ mod version;
 
 pub use fault::{Fault, ReadError, Rule};
 pub use identifier::is_identifier;
+pub use law::law_one_reading;
 pub use parse::{parse_file, parse_use_path};
 pub use token::{DocumentedToken, Kind, Token};
 pub use tokens::read_tokens;
