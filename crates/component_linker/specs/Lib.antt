@@ -14,6 +14,7 @@ pub mod Component
 pub mod Places
 pub mod View
 pub mod Cause
+pub mod Code
 pub mod Meaning
 pub mod Right
 pub mod Line

@@ -1,6 +1,7 @@
 //! Why a call of a session is refused.
 
-ghost use Rattle.std.specs.Prelude.{◌≡◌, None};
+ghost use Rattle.std.specs.Prelude.{◌≡◌, None, option_map};
+ghost use Rattle.component_linker.specs.Code as spec;
 
 use std::alloc::{AllocError, AllocFailed};
 use thiserror::Error;
@@ -72,7 +73,9 @@ impl<T: Drop> From<AllocFailed<T>> for Fault {
 
 impl Fault {
     /// The code of its cause, as `B8`; none for want of memory.
-    pub fn code(&self) -> Option<&'static str> {
+    pub fn code(&self) -> Option<&'static str>
+        ensures { option_map (λ s. s.now) result ≡ spec.code self.now }
+    {
         match self {
             Fault::NotYet => Some("X1"),
             Fault::WorldNotFound => Some("G8"),
@@ -97,7 +100,9 @@ impl Fault {
     }
 
     /// The name of its cause, as `UnknownImport`.
-    pub fn name(&self) -> &'static str {
+    pub fn name(&self) -> &'static str
+        ensures { result.now ≡ spec.name self.now }
+    {
         match self {
             Fault::NotYet => "NotYet",
             Fault::WorldNotFound => "WorldNotFound",
