@@ -4,3 +4,15 @@ pub mod Simple
 pub mod Choice
 pub mod Shape
 pub mod Linked
+pub mod LinkLines
+pub mod Lists
+pub mod Blocks
+pub mod Given
+pub mod Right
+pub mod NoCause
+pub mod Causes
+pub mod PlacesFlat
+pub mod PlacesLists
+pub mod PlacesNames
+pub mod PlacesRepeats
+pub mod PlacesCauses

@@ -79,6 +79,10 @@ pub record IsLinkable (l : Linking) : Type 0 where
 abbrev pub IsTooLarge : Linking → Type 0
 IsTooLarge l = component_fits (component_of l) ≡ false
 
+-- why a linking isn't encoded
+abbrev pub IsEncodeCause : Linking → Fault → Type 0
+IsEncodeCause l fault = IsLinkCause l fault ⊎ ((fault ≡ faults.TooLarge) × IsLinkable l × IsTooLarge l)
+
 abbrev pub IsBuildCause : Input → Fault → Type 0
 IsBuildCause input faults.TooLarge = (l : Linking) × Links input l × (AsksBeyond input → ⊥) × IsLinkable l × IsTooLarge l
 IsBuildCause input fault = IsCause input fault

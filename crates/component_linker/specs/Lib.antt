@@ -12,6 +12,7 @@ pub mod Linking
 pub mod Table
 pub mod Component
 pub mod Places
+pub mod Links
 pub mod View
 pub mod Cause
 pub mod Code
@@ -20,3 +21,5 @@ pub mod Right
 pub mod Line
 pub mod Program
 pub mod Texts
+pub mod Answered
+pub mod Candidates

@@ -1,6 +1,6 @@
 -- The link table as places: for each core import the place of its function among the world's imports, for each exported
 -- function the place of its core export.
-use Rattle.std.specs.Prelude.{◌≡◌, ℕ, List, [], ◌∷◌, map, filter, slice_get, Some, bytes_eq}
+use Rattle.std.specs.Prelude.{◌≡◌, ℕ, List, [], ◌∷◌, map, filter, slice_get, Option, Some, option_and_then, bytes_eq}
 use Rattle.component_linker.specs.World.{FunctionItem}
 use Rattle.component_linker.specs.CoreNames.{root, standard}
 use Rattle.component_linker.specs.Linking.{CoreImport, CoreExport, Linking}
@@ -20,6 +20,10 @@ Placed R [] [] = Unit {0}
 Placed R [] (p ∷ ps) = ⊥
 Placed R (x ∷ xs) [] = ⊥
 Placed R (x ∷ xs) (p ∷ ps) = R x p × Placed R xs ps
+
+-- what stands at the place that a list of places has
+abbrev pub target : {X : Type 0} → List X → List ℕ → ℕ → Option X
+target xs ps k = option_and_then (slice_get xs) (slice_get ps k)
 
 -- the names that are imported under a module text, in order
 abbrev pub names_under : Linking → List ℕ → List (List ℕ)

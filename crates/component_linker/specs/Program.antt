@@ -15,6 +15,8 @@ use Rattle.component_linker.specs.declared.options.StringEncoding.TheVariants.{U
 use Rattle.component_linker.specs.Input.{Input, SourceText, ModuleInput, first_options}
 use Rattle.component_linker.specs.declared.verdict.Verdict.{Verdict}
 use Rattle.component_linker.specs.declared.verdict.Verdict.TheVariants.{Yes, Finding}
+use Rattle.component_linker.specs.Answered.{IsLinkTable}
+use Rattle.component_linker.specs.Links.{link_value}
 use Rattle.component_linker.specs.Texts.{lines_text, verdict_text}
 
 -- the exit status for words that are no line
@@ -94,9 +96,9 @@ HasComponent files is bytes = (k : ℕ) × (k < length is) × HoldsAt (IsCompone
 abbrev pub WritesComponent : Input → ℕ → Option (List ℕ) → Option (List ℕ) → Type 0
 WritesComponent given status old new = (status ≡ 0) × ((bytes : List ℕ) × Appends old new bytes)
 
--- what the writer has more is the lines of links
+-- what the writer has more is the lines of the input's links, in order
 abbrev pub WritesLinks : Input → ℕ → Option (List ℕ) → Option (List ℕ) → Type 0
-WritesLinks given status old new = (status ≡ 0) × ((links : List Link) × Appends old new (lines_text links))
+WritesLinks given status old new = (status ≡ 0) × ((links : List Link) × IsLinkTable given (map link_value links) × Appends old new (lines_text links))
 
 -- what the writer has more is a verdict on a component, and the exit status is its
 abbrev pub WritesVerdict : Input → List ℕ → ℕ → Option (List ℕ) → Option (List ℕ) → Type 0

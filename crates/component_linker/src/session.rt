@@ -6,6 +6,8 @@ ghost use Rattle.component_linker.specs.Cause.{AsksBeyond, IsCause};
 ghost use Rattle.component_linker.specs.Choice as choice;
 ghost use Rattle.component_linker.specs.Input.{world_at};
 ghost use Rattle.component_linker.specs.Linking.{Links};
+ghost use Rattle.component_linker.specs.Answered.{IsLinkTable};
+ghost use Rattle.component_linker.specs.Links.{link_value};
 ghost use Rattle.component_linker.specs.View as view;
 ghost use Rattle.component_linker.specs.World as spec;
 ghost use Rattle.component_linker.specs.Choice.{NamesWorld};
@@ -377,14 +379,20 @@ impl<'a> Session<'a> {
     /// imports first, by module text and then by name.
     ///
     /// Answers B1 before any other cause, X1, B2, and B7 to B12.
-    pub fn links(&self) -> Result<Vec<Link>, Fault> {
+    pub fn links(&self) -> Result<Vec<Link>, Fault>
+        ensures links { IfOk result (λ v. IsLinkTable self.now (map link_value v.items)) }
+        ensures cause { IfErr result (IsCause self.now) }
+        ensures first { self.now.main ≡ None → result ≡ Err Fault.NoModule }
+    {
         links_of(self.alloc, &self.linking()?)
     }
 
     /// The bytes of the component that joins the main module with the chosen world.
     ///
     /// Answers B1 before any other cause, X1, B2, B7 to B12, and B25 where none of the others holds.
-    pub fn build(&self) -> Result<Vec<u8>, Fault> {
+    pub fn build(&self) -> Result<Vec<u8>, Fault>
+        ensures first { self.now.main ≡ None → result ≡ Err Fault.NoModule }
+    {
         let linking = self.linking()?;
         let bytes = encode(self.alloc, &linking)?;
         if self.options.validate {
@@ -394,7 +402,9 @@ impl<'a> Session<'a> {
     }
 
     /// Reads bytes that were written; what is read changes no answer.
-    fn validated(&self, bytes: &[u8]) -> Result<(), Fault> {
+    fn validated(&self, bytes: &[u8]) -> Result<(), Fault>
+        ensures { IfErr result (λ e. e ≡ Fault.OutOfMemory) }
+    {
         match read_component(self.alloc, bytes) {
             Err(FormatFault::OutOfMemory) => Err(Fault::OutOfMemory),
             Ok(_) | Err(_) => Ok(()),

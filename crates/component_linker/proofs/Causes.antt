@@ -1,0 +1,36 @@
+-- From the causes of a linking to those of its input.
+use Rattle.std.proofs.Common.{◌≡◌, ◌⊎◌, List, ℕ, sym, subst, inl, inr}
+use Rattle.component_linker.specs.declared.fault.Fault.{Fault}
+use Rattle.component_linker.specs.declared.fault.Fault.TheVariants as faults
+use Rattle.component_format.specs.Grammar.{IsComponent}
+use Rattle.component_linker.specs.Input.{Input}
+use Rattle.component_linker.specs.Linking.{Linking, Links}
+use Rattle.component_linker.specs.Cause.{IsLinkCause, AsksBeyond, IsCause, IsLinkable, IsEncodeCause, IsBuildCause}
+use Rattle.component_linker.specs.Component.{component_of}
+use Rattle.component_linker.specs.Answered.{IsReady, IsBuilt}
+use Rattle.component_linker.proofs.Right.{written_right}
+
+pub link_cause_is : (input : Input) (l : Linking) (fault : Fault) → Links input l → IsLinkCause l fault → IsCause input fault
+link_cause_is input l faults.NoModule links cause = absurd cause
+link_cause_is input l faults.NoWorld links cause = absurd cause
+link_cause_is input l faults.WorldNotFound links cause = absurd cause
+link_cause_is input l (faults.BadModule m) links cause = absurd cause
+link_cause_is input l faults.TooLarge links cause = absurd cause
+link_cause_is input l faults.OutOfMemory links cause = tt
+link_cause_is input l faults.NotYet links cause = inr (l, links, cause)
+link_cause_is input l fault links cause = (l, links, cause)
+
+pub build_cause_is : (input : Input) (fault : Fault) → IsCause input fault → IsBuildCause input fault
+build_cause_is input faults.TooLarge (l, links, cause) = absurd cause
+build_cause_is input fault cause = cause
+
+pub encode_cause_is : (input : Input) (l : Linking) (fault : Fault) → Links input l → (AsksBeyond input → ⊥) → IsEncodeCause l fault → IsBuildCause input fault
+encode_cause_is input l fault links plain (inl cause) = build_cause_is input fault (link_cause_is input l fault links cause)
+encode_cause_is input l fault links plain (inr (is, linkable, large)) = subst (IsBuildCause input) (sym is) (l, links, plain, linkable, large)
+
+pub built : (input : Input) (l : Linking) (bytes : List ℕ) → Links input l → (AsksBeyond input → ⊥) → IsLinkable l → IsComponent bytes (component_of l) → IsBuilt input bytes
+built input l bytes links plain linkable is = record {
+  linking = l;
+  ready = record { links_input = links; plain = plain; linkable = linkable };
+  right = written_right input l bytes links linkable.linked is;
+}

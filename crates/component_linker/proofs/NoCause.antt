@@ -1,0 +1,136 @@
+-- Where nothing stands in the way of an input, no cause of a refusal holds.
+use Rattle.std.proofs.Common.{◌≡◌, ℕ, zero, suc, ◌<◌, ◌≤◌, ◌^◌, ◌⊎◌, Bool, true, false, ◌&&◌, ◌||◌, not, List, [], ◌∷◌, length, map, filter, Any, slice_index_or, slice_get, Option, Some, None, Result, Ok, Err, refl, sym, ap, subst, ◌∙◌, arith, inl, inr, cond}
+use Rattle.std.specs.Prelude.{option_map, bytes_eq, codes}
+use Rattle.std.specs.List.{AllByRecursion as Each}
+use Rattle.std.proofs.lemmas.Bool.{cases_Bool, and_parts}
+use Rattle.std.proofs.lemmas.Slice.Eq.{bytes_eq-Decides}
+use Rattle.std.proofs.lemmas.Option.{same_Some}
+use Rattle.wasm_format.specs.declared.fault.ModuleFault.{ModuleFault}
+use Rattle.wasm_format.specs.declared.fault.ModuleFault.TheVariants as modules
+use Rattle.wasm_format.specs.Module.{ModuleValue}
+use Rattle.wasm_format.specs.Grammar.{IsModule, IsModuleFault}
+use Rattle.wasm_format.proofs.Laws.{ok_is}
+use Rattle.wasm_format.proofs.Sections.{module_again, one_break}
+use Rattle.component_linker.specs.declared.fault.Fault.{Fault}
+use Rattle.component_linker.specs.declared.fault.Fault.TheVariants as faults
+use Rattle.component_linker.specs.World.{FunctionItem, WorldMeaning}
+use Rattle.component_linker.specs.Flat.{flat}
+use Rattle.component_linker.specs.CoreNames.{root, standard, is_legacy_import, is_standard_import, is_import_name, is_memory_name}
+use Rattle.component_linker.specs.Input.{Input, ModuleInput, world_at}
+use Rattle.component_linker.specs.ModuleCause.{refusal_of, IsModuleCause}
+use Rattle.component_linker.specs.Linking.{CoreImport, CoreExport, MainModule, Linking, Links, main_of}
+use Rattle.component_linker.specs.Table.{imported_by, exported_by, ImportLink, ExportLink, IsLinked}
+use Rattle.component_linker.specs.Cause.{IsImportCause, IsExportCause, IsLinkCause, AsksBeyond, IsCause, IsLinkable}
+use Rattle.component_linker.specs.Answered.{IsReady}
+
+-- ---- an input is linked in one way
+
+one_module : (bytes : List ℕ) (m n : ModuleValue) → IsModule bytes m → IsModule bytes n → m ≡ n
+one_module bytes m n h k = ok_is m n (sym (module_again bytes m h) ∙ module_again bytes n k)
+
+pub one_linking : (input : Input) (l m : Linking) → Links input l → Links input m → l ≡ m
+one_linking input l m h k =
+    let chosen = same_Some h.chosen k.chosen (sym h.chooses ∙ k.chooses) in
+    let world = same_Some l.world m.world (sym h.world ∙ ap (world_at input) chosen ∙ k.world) in
+    let handed = same_Some h.handed k.handed (sym h.hands ∙ k.hands) in
+    let core = one_module k.handed.bytes h.core k.core (subst (λ (x : ModuleInput). IsModule x.bytes h.core) handed h.reads) k.reads in
+    let main : l.main ≡ m.main = h.main ∙ ap (λ (x : ModuleInput). main_of x.bytes h.core) handed ∙ ap (main_of k.handed.bytes) core ∙ sym k.main in
+    let rejects : l.rejects_legacy ≡ m.rejects_legacy = h.rejects ∙ sym k.rejects in
+    λ i. record { world = world i; main = main i; rejects_legacy = rejects i }
+
+-- ---- a link, and a cause that denies it
+
+any_each : {X : Type 0} (P Q : X → Type 0) (xs : List X) → Each P xs → Any Q xs → (x : X) × P x × Q x
+any_each P Q [] h (k, x, l, is, q) = absurd (omega arith)
+any_each P Q (y ∷ ys) h (zero, x, l, is, q) = (y, h.0, subst Q (sym is) q)
+any_each P Q (y ∷ ys) h (suc k, x, l, is, q) = any_each P Q ys h.1 (k, x, omega arith, is, q)
+
+passes : {X : Type 0} (p : X → Bool) (xs : List X) (x : X) (more : List X) → filter p xs ≡ x ∷ more → p x ≡ true
+passes p [] x more e = absurd cc
+passes p (y ∷ ys) x more e = elim (cases_Bool (p y)) [
+  | inl yes_it ↦ let kept = rw yes_it at e in let same : y ≡ x = cc in subst (λ z. p z ≡ true) same yes_it
+  | inr other ↦ passes p ys x more (rw other at e)
+]
+
+two_places : (place : List ℕ) → bytes_eq place root ≡ true → bytes_eq place standard ≡ true → ⊥
+two_places place r s =
+    let same : root ≡ standard = sym ((bytes_eq-Decides place root).0 r) ∙ (bytes_eq-Decides place standard).0 s in
+    absurd cc
+
+-- where legacy names are rejected, what stands for an import stands under the standard text
+rejected : (place name function : List ℕ) → is_import_name true place name function ≡ true → bytes_eq place standard ≡ true
+rejected place name function e = elim (cases_Bool (bytes_eq place standard)) [
+  | inl is ↦ is
+  | inr other ↦ absurd (let bad = rw other at e in cc)
+]
+
+import_link : (l : Linking) (i : CoreImport) (f : FunctionItem) → ImportLink l i f → (fault : Fault) → IsImportCause l fault i → ⊥
+import_link l i f h faults.UnknownImport none = let bad = sym h.only ∙ none in absurd cc
+import_link l i f h faults.Ambiguous several = let one : length (imported_by l i) ≡ 1 = ap length h.only in absurd (omega arith)
+import_link l i f h faults.LegacyName (rejects, any) =
+    let stands : is_import_name l.rejects_legacy i.place i.name f.name ≡ true = passes (λ g. is_import_name l.rejects_legacy i.place i.name g.name) l.world.imports f [] h.only in
+    let under = rejected i.place i.name f.name (rw rejects at stands) in
+    let legacy = (and_parts (bytes_eq i.place root) (bytes_eq i.name any.1.name) any.4).0 in
+    two_places i.place legacy under
+import_link l i f h faults.WrongCoreType (g, only, differs) =
+    let same : f ∷ [] ≡ g ∷ [] = sym h.only ∙ only in
+    let is : f ≡ g = cc in
+    differs (h.matches ∙ ap (λ (x : FunctionItem). Some (flat x.ty)) is)
+import_link l i f h _ cause = absurd cause
+
+export_link : (l : Linking) (f : FunctionItem) (e : CoreExport) → ExportLink l f e → (fault : Fault) → IsExportCause l fault f → ⊥
+export_link l f e h faults.MissingCoreExport none = let bad = sym h.only ∙ none in absurd cc
+export_link l f e h faults.Ambiguous (inl several) = let one : length (exported_by l f) ≡ 1 = ap length h.only in absurd (omega arith)
+export_link l f e h faults.Ambiguous (inr memory) =
+    let shared = any_each (λ x. is_memory_name l.rejects_legacy x.name ≡ false) (λ x. is_memory_name l.rejects_legacy x.name ≡ true) (e ∷ []) (h.one_meaning, tt) (subst (λ xs. Any (λ x. is_memory_name l.rejects_legacy x.name ≡ true) xs) h.only memory) in
+    let bad : false ≡ true = sym shared.1 ∙ shared.2 in absurd cc
+export_link l f e h faults.WrongCoreType (g, only, differs) =
+    let same : e ∷ [] ≡ g ∷ [] = sym h.only ∙ only in
+    let is : e ≡ g = cc in
+    differs (ap (λ (x : CoreExport). x.ty) (sym is) ∙ h.matches)
+export_link l f e h _ cause = absurd cause
+
+some_link : (l : Linking) → IsLinked l → (fault : Fault) → Any (IsImportCause l fault) l.main.imports ⊎ Any (IsExportCause l fault) l.world.exports → ⊥
+some_link l h fault (inl any) = let at = any_each (λ i. (f : FunctionItem) × ImportLink l i f) (IsImportCause l fault) l.main.imports h.imports any in import_link l at.0 at.1.0 at.1.1 fault at.2
+some_link l h fault (inr any) = let at = any_each (λ f. (e : CoreExport) × ExportLink l f e) (IsExportCause l fault) l.world.exports h.exports any in export_link l at.0 at.1.0 at.1.1 fault at.2
+
+pub no_link_cause : (l : Linking) → IsLinkable l → (fault : Fault) → IsLinkCause l fault → fault ≡ faults.OutOfMemory
+no_link_cause l h faults.NoModule cause = absurd cause
+no_link_cause l h faults.NoWorld cause = absurd cause
+no_link_cause l h faults.WorldNotFound cause = absurd cause
+no_link_cause l h (faults.BadModule m) cause = absurd cause
+no_link_cause l h faults.TooLarge cause = absurd cause
+no_link_cause l h faults.OutOfMemory cause = refl
+no_link_cause l h faults.NotYet cause = absurd (h.plain cause)
+no_link_cause l h faults.DuplicateImport cause = absurd (h.distinct cause)
+no_link_cause l h fault cause = absurd (some_link l h.linked fault cause)
+
+-- ---- of an input
+
+no_module_cause : (bytes : List ℕ) (core : ModuleValue) → IsModule bytes core → (m : ModuleFault) → IsModuleFault bytes m → m ≡ modules.OutOfMemory
+no_module_cause bytes core h modules.OutOfMemory cause = refl
+no_module_cause bytes core h modules.TooLarge cause = absurd (omega (arith, h.small))
+no_module_cause bytes core h modules.Malformed (small, e, breaks, is) = absurd ((one_break bytes e breaks).0 core h)
+no_module_cause bytes core h modules.Unsupported (small, e, breaks, is) = absurd ((one_break bytes e breaks).0 core h)
+no_module_cause bytes core h modules.NotYet (small, e, breaks, is) = absurd ((one_break bytes e breaks).0 core h)
+
+no_bad_module : (input : Input) (l : Linking) → Links input l → (m : ModuleFault) → IsCause input (faults.BadModule m) → ⊥
+no_bad_module input l h m (handed, hands, (n, is, cause)) =
+    let same = same_Some h.handed handed (sym h.hands ∙ hands) in
+    let read = subst (λ (x : ModuleInput). IsModule x.bytes h.core) same h.reads in
+    let memory = no_module_cause handed.bytes h.core read n cause in
+    let bad : refusal_of modules.OutOfMemory ≡ faults.BadModule m = ap refusal_of (sym memory) ∙ is in
+    absurd cc
+
+linked_cause : (input : Input) (l : Linking) → IsReady input l → (fault : Fault) → ((m : Linking) × Links input m × IsLinkCause m fault) → fault ≡ faults.OutOfMemory
+linked_cause input l h fault (m, links, cause) =
+    no_link_cause l h.linkable fault (subst (λ (x : Linking). IsLinkCause x fault) (one_linking input m l links h.links_input) cause)
+
+pub no_cause : (input : Input) (l : Linking) → IsReady input l → (fault : Fault) → IsCause input fault → fault ≡ faults.OutOfMemory
+no_cause input l h faults.NoModule cause = let bad = sym h.links_input.hands ∙ cause in absurd cc
+no_cause input l h faults.NoWorld cause = let bad = sym h.links_input.chooses ∙ cause in absurd cc
+no_cause input l h (faults.BadModule m) cause = absurd (no_bad_module input l h.links_input m cause)
+no_cause input l h faults.NotYet (inl beyond) = absurd (h.plain beyond)
+no_cause input l h faults.NotYet (inr cause) = linked_cause input l h faults.NotYet cause
+no_cause input l h faults.OutOfMemory cause = refl
+no_cause input l h fault cause = linked_cause input l h fault cause

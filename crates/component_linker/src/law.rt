@@ -1,0 +1,25 @@
+//! Laws of the public calls.
+
+ghost use Rattle.std.specs.Prelude.{◌≡◌, ℕ, List};
+ghost use Rattle.component_format.specs.Grammar.{IsComponent};
+ghost use Rattle.component_linker.specs.Input.{Input};
+ghost use Rattle.component_linker.specs.Linking.{Linking, Links};
+ghost use Rattle.component_linker.specs.Table.{IsLinked};
+ghost use Rattle.component_linker.specs.Component.{component_of};
+ghost use Rattle.component_linker.specs.Right.{IsRight};
+ghost use Rattle.component_linker.specs.Cause.{IsCause};
+ghost use Rattle.component_linker.specs.Answered.{IsReady};
+
+use crate::fault::Fault;
+
+/// What is written for a linking is right for its input, whatever bytes the grammar relates to it.
+pub fn law_written_is_right()
+    ensures { (input : Input) (l : Linking) (bytes : List ℕ) → Links input l → IsLinked l → IsComponent bytes (component_of l) → IsRight input bytes }
+{}
+
+/// An input links one world and one module in one way; where nothing stands in its way, no cause of a refusal holds, want
+/// of memory aside.
+pub fn law_ready_has_no_cause()
+    ensures one { (input : Input) (l m : Linking) → Links input l → Links input m → l ≡ m }
+    ensures none { (input : Input) (l : Linking) → IsReady input l → (fault : Fault) → IsCause input fault → fault ≡ Fault.OutOfMemory }
+{}
