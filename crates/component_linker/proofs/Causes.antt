@@ -1,5 +1,5 @@
 -- From the causes of a linking to those of its input.
-use Rattle.std.proofs.Common.{◌≡◌, ◌⊎◌, List, ℕ, sym, subst, inl, inr}
+use Rattle.std.proofs.Common.{List, ℕ, sym, subst, inl, inr}
 use Rattle.component_linker.specs.declared.fault.Fault.{Fault}
 use Rattle.component_linker.specs.declared.fault.Fault.TheVariants as faults
 use Rattle.component_format.specs.Grammar.{IsComponent}
@@ -7,7 +7,7 @@ use Rattle.component_linker.specs.Input.{Input}
 use Rattle.component_linker.specs.Linking.{Linking, Links}
 use Rattle.component_linker.specs.Cause.{IsLinkCause, AsksBeyond, IsCause, IsLinkable, IsEncodeCause, IsBuildCause}
 use Rattle.component_linker.specs.Component.{component_of}
-use Rattle.component_linker.specs.Answered.{IsReady, IsBuilt}
+use Rattle.component_linker.specs.Answered.{IsBuilt}
 use Rattle.component_linker.proofs.Right.{written_right}
 
 pub link_cause_is : (input : Input) (l : Linking) (fault : Fault) → Links input l → IsLinkCause l fault → IsCause input fault

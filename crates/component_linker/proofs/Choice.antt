@@ -1,5 +1,5 @@
 -- A world that is named is there.
-use Rattle.std.proofs.Common.{◌≡◌, ℕ, ◌<◌, Bool, true, false, cond, ltb, List, [], ◌∷◌, length, Option, Some, None, slice_get, refl, ap, subst, ◌∙◌, arith, inl, inr}
+use Rattle.std.proofs.Common.{◌≡◌, ℕ, ◌<◌, cond, ltb, List, [], ◌∷◌, length, Option, Some, None, slice_get, refl, ap, subst, ◌∙◌, arith, inl, inr}
 use Rattle.std.specs.Prelude.{option_map, option_and_then, bytes_eq}
 use Rattle.std.specs.List.{position_from}
 use Rattle.std.proofs.lemmas.Bool.{ltb-true, cases_Bool}
@@ -7,7 +7,7 @@ use Rattle.std.proofs.lemmas.Option.{slice_get_within}
 use Rattle.wit_syntax.specs.Tree.{UsePathTree, id, in_package}
 use Rattle.wit_syntax.specs.TextGrammar.{IsUsePath}
 use Rattle.component_linker.specs.World.{WorldMeaning, PackageMeaning}
-use Rattle.component_linker.specs.Input.{Input, world_at}
+use Rattle.component_linker.specs.Input.{Input}
 use Rattle.component_linker.specs.Choice.{main_world, if_named, world_of_path, NamesWorld, is_package}
 
 some_is : (j k : ℕ) → Some j ≡ Some k → j ≡ k

@@ -16,3 +16,8 @@ pub mod PlacesLists
 pub mod PlacesNames
 pub mod PlacesRepeats
 pub mod PlacesCauses
+pub mod WrittenNames
+pub mod WrittenLinks
+pub mod Written
+pub mod WrittenGiven
+pub mod WrittenComponent

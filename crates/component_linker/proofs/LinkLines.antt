@@ -5,9 +5,8 @@ use Rattle.std.specs.declared.cmp.Ordering.{Ordering}
 use Rattle.std.proofs.lemmas.Option.{slice_get-map, slice_get_read, slice_get_within, same_Some}
 use Rattle.component_linker.specs.World.{FunctionItem}
 use Rattle.component_linker.specs.Linking.{CoreImport, CoreExport, Linking}
-use Rattle.component_linker.specs.Table.{imported_by, exported_by, ImportLink, ExportLink}
 use Rattle.component_linker.specs.Places.{Placed, Places, ArePlaces, ImportPlace, ExportPlace, target}
-use Rattle.component_linker.specs.Links.{ImportEntry, ExportEntry, import_entries_for, export_entries_for}
+use Rattle.component_linker.specs.Links.{import_entries_for, export_entries_for}
 
 placed_at : {X : Type 0} (R : X → ℕ → Type 0) (xs : List X) (ps : List ℕ) (k : ℕ) (x : X) → Placed R xs ps → slice_get xs k ≡ Some x → (p : ℕ) × (slice_get ps k ≡ Some p) × R x p
 placed_at R [] [] k x h e = absurd cc

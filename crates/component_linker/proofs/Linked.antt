@@ -1,5 +1,5 @@
 -- What is linked lies within the shape.
-use Rattle.std.proofs.Common.{◌≡◌, ℕ, zero, suc, ◌<◌, ◌≤◌, Bool, true, false, ◌&&◌, arith, length, List, [], ◌∷◌, map, Option, Some, None, slice_get, refl, sym, ap, subst, ◌∙◌}
+use Rattle.std.proofs.Common.{◌≡◌, ℕ, zero, suc, ◌<◌, ◌≤◌, Bool, true, false, ◌&&◌, arith, length, List, [], ◌∷◌, map, Some, None, slice_get, refl, ap, ◌∙◌}
 use Rattle.std.specs.Prelude.{option_map}
 use Rattle.std.specs.List.{list_all, slice_index_or}
 use Rattle.std.specs.Option.{ForSome}
@@ -12,10 +12,8 @@ use Rattle.component_linker.specs.declared.fault.Fault.{Fault}
 use Rattle.component_linker.specs.ModuleCause.{refusal_of}
 use Rattle.component_linker.specs.declared.world.Package.{Package}
 use Rattle.component_linker.specs.World.{WorldMeaning, PackageMeaning, world_meaning, package_meaning, world_fits}
-use Rattle.component_linker.specs.Input.{Input, ModuleInput, world_at}
-use Rattle.component_linker.specs.Linking.{Linking, Links, main_of}
+use Rattle.component_linker.specs.Input.{Input, ModuleInput}
 use Rattle.component_linker.specs.Cause.{IsCause}
-use Rattle.component_linker.specs.Kept.{WellKept}
 
 and_left : (a b : Bool) → (a && b) ≡ true → a ≡ true
 and_left true b e = refl

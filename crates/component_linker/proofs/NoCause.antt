@@ -1,6 +1,6 @@
 -- Where nothing stands in the way of an input, no cause of a refusal holds.
-use Rattle.std.proofs.Common.{◌≡◌, ℕ, zero, suc, ◌<◌, ◌≤◌, ◌^◌, ◌⊎◌, Bool, true, false, ◌&&◌, ◌||◌, not, List, [], ◌∷◌, length, map, filter, Any, slice_index_or, slice_get, Option, Some, None, Result, Ok, Err, refl, sym, ap, subst, ◌∙◌, arith, inl, inr, cond}
-use Rattle.std.specs.Prelude.{option_map, bytes_eq, codes}
+use Rattle.std.proofs.Common.{◌≡◌, ℕ, zero, suc, ◌⊎◌, Bool, true, false, List, [], ◌∷◌, length, filter, Any, Some, refl, sym, ap, subst, ◌∙◌, arith, inl, inr}
+use Rattle.std.specs.Prelude.{bytes_eq}
 use Rattle.std.specs.List.{AllByRecursion as Each}
 use Rattle.std.proofs.lemmas.Bool.{cases_Bool, and_parts}
 use Rattle.std.proofs.lemmas.Slice.Eq.{bytes_eq-Decides}
@@ -13,14 +13,14 @@ use Rattle.wasm_format.proofs.Laws.{ok_is}
 use Rattle.wasm_format.proofs.Sections.{module_again, one_break}
 use Rattle.component_linker.specs.declared.fault.Fault.{Fault}
 use Rattle.component_linker.specs.declared.fault.Fault.TheVariants as faults
-use Rattle.component_linker.specs.World.{FunctionItem, WorldMeaning}
+use Rattle.component_linker.specs.World.{FunctionItem}
 use Rattle.component_linker.specs.Flat.{flat}
-use Rattle.component_linker.specs.CoreNames.{root, standard, is_legacy_import, is_standard_import, is_import_name, is_memory_name}
+use Rattle.component_linker.specs.CoreNames.{root, standard, is_import_name, is_memory_name}
 use Rattle.component_linker.specs.Input.{Input, ModuleInput, world_at}
-use Rattle.component_linker.specs.ModuleCause.{refusal_of, IsModuleCause}
-use Rattle.component_linker.specs.Linking.{CoreImport, CoreExport, MainModule, Linking, Links, main_of}
+use Rattle.component_linker.specs.ModuleCause.{refusal_of}
+use Rattle.component_linker.specs.Linking.{CoreImport, CoreExport, Linking, Links, main_of}
 use Rattle.component_linker.specs.Table.{imported_by, exported_by, ImportLink, ExportLink, IsLinked}
-use Rattle.component_linker.specs.Cause.{IsImportCause, IsExportCause, IsLinkCause, AsksBeyond, IsCause, IsLinkable}
+use Rattle.component_linker.specs.Cause.{IsImportCause, IsExportCause, IsLinkCause, IsCause, IsLinkable}
 use Rattle.component_linker.specs.Answered.{IsReady}
 
 -- ---- an input is linked in one way

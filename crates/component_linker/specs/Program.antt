@@ -15,7 +15,7 @@ use Rattle.component_linker.specs.declared.options.StringEncoding.TheVariants.{U
 use Rattle.component_linker.specs.Input.{Input, SourceText, ModuleInput, first_options}
 use Rattle.component_linker.specs.declared.verdict.Verdict.{Verdict}
 use Rattle.component_linker.specs.declared.verdict.Verdict.TheVariants.{Yes, Finding}
-use Rattle.component_linker.specs.Answered.{IsLinkTable}
+use Rattle.component_linker.specs.Answered.{IsBuilt, IsLinkTable}
 use Rattle.component_linker.specs.Links.{link_value}
 use Rattle.component_linker.specs.Texts.{lines_text, verdict_text}
 
@@ -92,9 +92,9 @@ IsComponentInput files bytes (inputs.Component path) = IsFile files (string_byte
 abbrev pub HasComponent : List (Bor (List ℕ) × Bor (List ℕ)) → List LineInput → List ℕ → Type 0
 HasComponent files is bytes = (k : ℕ) × (k < length is) × HoldsAt (IsComponentInput files bytes) is k
 
--- what the writer has more is the bytes of a component
+-- what the writer has more is the bytes of a component that is right for the input
 abbrev pub WritesComponent : Input → ℕ → Option (List ℕ) → Option (List ℕ) → Type 0
-WritesComponent given status old new = (status ≡ 0) × ((bytes : List ℕ) × Appends old new bytes)
+WritesComponent given status old new = (status ≡ 0) × ((bytes : List ℕ) × IsBuilt given bytes × Appends old new bytes)
 
 -- what the writer has more is the lines of the input's links, in order
 abbrev pub WritesLinks : Input → ℕ → Option (List ℕ) → Option (List ℕ) → Type 0

@@ -2,11 +2,11 @@
 
 ghost use Rattle.std.specs.Prelude.{◌≡◌, ℕ, ◌<◌, ◌⊎◌, ◌++◌, ◌∷◌, [], true, Some, None, Err, IfOk, OnOk, OnErr, IfErr, IfSome, MatchResult, length, option_map};
 ghost use Rattle.std.specs.List.{position_from};
-ghost use Rattle.component_linker.specs.Cause.{AsksBeyond, IsCause};
+ghost use Rattle.component_linker.specs.Cause.{AsksBeyond, IsCause, IsBuildCause};
 ghost use Rattle.component_linker.specs.Choice as choice;
 ghost use Rattle.component_linker.specs.Input.{world_at};
 ghost use Rattle.component_linker.specs.Linking.{Links};
-ghost use Rattle.component_linker.specs.Answered.{IsLinkTable};
+ghost use Rattle.component_linker.specs.Answered.{IsLinkTable, IsBuilt};
 ghost use Rattle.component_linker.specs.Links.{link_value};
 ghost use Rattle.component_linker.specs.View as view;
 ghost use Rattle.component_linker.specs.World as spec;
@@ -390,7 +390,10 @@ impl<'a> Session<'a> {
     /// The bytes of the component that joins the main module with the chosen world.
     ///
     /// Answers B1 before any other cause, X1, B2, B7 to B12, and B25 where none of the others holds.
+    #[tactic(auto, using(crate::proofs::Causes::encode_cause_is, crate::proofs::Causes::build_cause_is))]
     pub fn build(&self) -> Result<Vec<u8>, Fault>
+        ensures right { IfOk result (λ v. IsBuilt self.now v.items) }
+        ensures cause { IfErr result (IsBuildCause self.now) }
         ensures first { self.now.main ≡ None → result ≡ Err Fault.NoModule }
     {
         let linking = self.linking()?;

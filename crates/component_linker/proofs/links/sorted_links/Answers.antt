@@ -1,4 +1,4 @@
-use Rattle.std.proofs.Common.{◌≡◌, map, sym, subst, IsPermutation}
+use Rattle.std.proofs.Common.{map, subst, IsPermutation}
 use Rattle.std.proofs.lemmas.List.Sorted.{IsPermutation-map}
 use Rattle.component_linker.specs.Links as spec
 use Rattle.component_linker.specs.View as view

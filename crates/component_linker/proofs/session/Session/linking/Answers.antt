@@ -1,4 +1,4 @@
-use Rattle.std.proofs.Common.{rules, refl, sym}
+use Rattle.std.proofs.Common.{rules}
 use Rattle.wasm_format.specs.Module.{module_value}
 use Rattle.component_linker.proofs.Linked.{memory_alone}
 use Rattle.component_linker.proofs.session.Session.linking.Goals as goal

@@ -1,4 +1,4 @@
-use Rattle.std.proofs.Common.{map, ap, Some}
+use Rattle.std.proofs.Common.{ap}
 use Rattle.std.specs.Prelude.{option_map}
 use Rattle.wit_syntax.specs.View.{use_path}
 use Rattle.component_linker.proofs.Choice.{path_names, no_path_names}
