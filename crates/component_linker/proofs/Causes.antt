@@ -1,5 +1,5 @@
 -- From the causes of a linking to those of its input.
-use Rattle.std.proofs.Common.{List, ℕ, sym, subst, inl, inr}
+use Rattle.std.proofs.Common.{List, ℕ, sym, subst, inl, inr, ap, ◌∙◌}
 use Rattle.component_linker.specs.declared.fault.Fault.{Fault}
 use Rattle.component_linker.specs.declared.fault.Fault.TheVariants as faults
 use Rattle.component_format.specs.Grammar.{IsComponent}
@@ -8,7 +8,9 @@ use Rattle.component_linker.specs.Linking.{Linking, Links}
 use Rattle.component_linker.specs.Cause.{IsLinkCause, AsksBeyond, IsCause, IsLinkable, IsEncodeCause, IsBuildCause}
 use Rattle.component_linker.specs.Component.{component_of}
 use Rattle.component_linker.specs.Answered.{IsBuilt}
-use Rattle.component_linker.proofs.Right.{written_right}
+use Rattle.component_format.proofs.OneList.{one_list}
+use Rattle.component_linker.specs.Meaning.{Spaces, meaning}
+use Rattle.component_linker.proofs.Right.{written, written_right}
 
 pub link_cause_is : (input : Input) (l : Linking) (fault : Fault) → Links input l → IsLinkCause l fault → IsCause input fault
 link_cause_is input l faults.NoModule links cause = absurd cause
@@ -33,4 +35,5 @@ built input l bytes links plain linkable is = record {
   linking = l;
   ready = record { links_input = links; plain = plain; linkable = linkable };
   right = written_right input l bytes links linkable.linked is;
+  imports = λ ds h. ap (λ es. (meaning l.main es).imports) (one_list bytes ds (component_of l) h is) ∙ ap (λ (s : Spaces). s.imports) (written l linkable.linked);
 }

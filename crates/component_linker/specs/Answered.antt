@@ -1,10 +1,14 @@
 -- What links, and a component, are answered for.
-use Rattle.std.specs.Prelude.{ℕ, List}
+use Rattle.std.specs.Prelude.{◌≡◌, ℕ, List, map}
+use Rattle.component_format.specs.Definition.{DefinitionValue}
+use Rattle.component_format.specs.Grammar.{IsComponent}
 use Rattle.component_linker.specs.Input.{Input}
 use Rattle.component_linker.specs.Linking.{Linking, Links}
 use Rattle.component_linker.specs.Cause.{AsksBeyond, IsLinkable}
 use Rattle.component_linker.specs.Links.{LinkValue, AreLinks}
-use Rattle.component_linker.specs.Right.{IsRight}
+use Rattle.component_linker.specs.Table.{needed}
+use Rattle.component_linker.specs.Meaning.{meaning}
+use Rattle.component_linker.specs.Right.{IsRight, listed}
 
 -- an input in whose way nothing stands
 pub record IsReady (input : Input) (l : Linking) : Type 0 where
@@ -18,8 +22,9 @@ pub record IsLinkTable (input : Input) (found : List LinkValue) : Type 0 where
   pub ready : IsReady input linking
   pub links : AreLinks linking found
 
--- these bytes are right for the input
+-- These bytes are right for the input, and import exactly what links need, in the order of the world.
 pub record IsBuilt (input : Input) (bytes : List ℕ) : Type 0 where
   pub linking : Linking
   pub ready : IsReady input linking
   pub right : IsRight input bytes
+  pub imports : (ds : List DefinitionValue) → IsComponent bytes ds → (meaning linking.main ds).imports ≡ map listed (needed linking)
