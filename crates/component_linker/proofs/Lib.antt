@@ -21,3 +21,4 @@ pub mod WrittenLinks
 pub mod Written
 pub mod WrittenGiven
 pub mod WrittenComponent
+pub mod Named

@@ -23,3 +23,6 @@ pub mod Program
 pub mod Texts
 pub mod Answered
 pub mod Candidates
+pub mod FirstPlaces
+pub mod SpacesView
+pub mod WalkView

@@ -4,6 +4,7 @@
 mod auditor;
 mod encoder;
 mod fault;
+mod first_places;
 mod id;
 mod law;
 mod line;

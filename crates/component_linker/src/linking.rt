@@ -1,6 +1,7 @@
 //! What is linked: the chosen world and the main module.
 
-ghost use Rattle.std.specs.Prelude.{◌≡◌, map, option_map, Some, true, false};
+ghost use Rattle.std.specs.Prelude.{◌≡◌, ◌∷◌, [], map, option_map, Some, true, false};
+ghost use Rattle.component_linker.specs.Meaning.{same_values};
 ghost use Rattle.wasm_format.specs.Module.{func_type_value, import_value, export_value, module_value};
 ghost use Rattle.component_linker.specs.Flat.{flat_value, flat_result, flat};
 ghost use Rattle.component_linker.specs.World.{param_item, function_item};
@@ -65,6 +66,7 @@ pub fn flat_value(ty: PrimitiveType) -> ValType
 fn is_flat_value(value: ValType, ty: PrimitiveType) -> bool
     ensures is { result ≡ true → value ≡ flat_value ty }
     ensures is_not { result ≡ false → ¬ (value ≡ flat_value ty) }
+    ensures same { result ≡ same_values (value ∷ []) (flat_value ty ∷ []) }
 {
     value == flat_value(ty)
 }
@@ -73,6 +75,7 @@ fn is_flat_value(value: ValType, ty: PrimitiveType) -> bool
 pub fn is_flat_result(values: &[ValType], result_type: Option<PrimitiveType>) -> bool
     ensures is { result ≡ true → values.now ≡ flat_result result_type }
     ensures is_not { result ≡ false → ¬ (values.now ≡ flat_result result_type) }
+    ensures same { result ≡ same_values values.now (flat_result result_type) }
 {
     match result_type {
         None => values.is_empty(),

@@ -1,12 +1,19 @@
 //! What the indices of a component stand for.
 
-use crate::linking::{Linking, flat_value, is_flat_result};
-use component_format::{
-    Argument, Definition, DefinitionKind, FunctionType, InlineExport, Parameter,
-};
-use indexmap::IndexMap;
-use std::alloc::{AllocError, AllocFailed, Global};
-use wasm_format::FuncType;
+ghost use Rattle.std.specs.Prelude.{◌≡◌, [], map, option_map};
+ghost use Rattle.std.specs.Cmp.Lexicographic.{pointwise};
+ghost use Rattle.wasm_format.specs.Module.{func_type_value};
+ghost use Rattle.component_format.specs.Definition.{parameter_value, function_type_value};
+ghost use Rattle.component_linker.specs.Flat.{flat, flat_value, flat_result};
+ghost use Rattle.component_linker.specs.Linking.{MainModule};
+ghost use Rattle.component_linker.specs.Meaning as meant;
+ghost use Rattle.component_linker.specs.SpacesView as view;
+
+use crate::first_places::FirstPlaces;
+use crate::linking::{flat_value, is_flat_result};
+use component_format::{FunctionType, Parameter, PrimitiveType};
+use std::alloc::Global;
+use wasm_format::{FuncType, ValType};
 
 /// Where a core function ends.
 #[derive(Clone, Copy)]
@@ -57,7 +64,14 @@ pub enum CoreInstance<'c> {
     /// An instance of the main module.
     Main,
     /// Made of core functions.
-    Inline(IndexMap<&'c str, Option<CoreFunction<'c>>>),
+    Inline(Entries<'c>),
+}
+
+/// Core functions by their names; an item may stand for nothing.
+#[derive(Drop)]
+pub struct Entries<'c> {
+    pub names: FirstPlaces<'c>,
+    pub items: Vec<Option<CoreFunction<'c>>>,
 }
 
 /// What an instance of the main module is given for each of its imports.
@@ -110,46 +124,109 @@ pub struct Spaces<'c> {
 }
 
 /// Whether two function types are equal, names of parameters too.
-pub fn same_type(a: &FunctionType, b: &FunctionType) -> bool {
-    if a.params.len() != b.params.len() || a.result != b.result {
+pub fn same_type(a: &FunctionType, b: &FunctionType) -> bool
+    ensures { result ≡ meant.same_type (function_type_value a.now) (function_type_value b.now) }
+{
+    same_parameters(&a.params, &b.params) && same_result(a.result, b.result)
+}
+
+/// Whether parameters are equal, in the same order.
+fn same_parameters(a: &[Parameter], b: &[Parameter]) -> bool
+    ensures { result ≡ pointwise meant.same_parameter (map parameter_value a.now) (map parameter_value b.now) }
+{
+    if a.len() != b.len() {
         return false;
     }
-    for (p, q) in a.params.iter().zip(b.params.iter()) {
-        if !same_parameter(p, q) {
+    for (place, p) in a.iter().enumerate() {
+        if !same_parameter(p, &b[place]) {
             return false;
         }
     }
     true
 }
 
-fn same_parameter(a: &Parameter, b: &Parameter) -> bool {
+/// Whether two parameters are equal, names too.
+fn same_parameter(a: &Parameter, b: &Parameter) -> bool
+    ensures { result ≡ meant.same_parameter (parameter_value a.now) (parameter_value b.now) }
+{
     a.name == b.name && a.ty == b.ty
 }
 
-/// Whether a core type is that of the lowering of a function of this type.
-fn is_flat_type(core: &FuncType, ty: &FunctionType) -> bool {
-    if core.params.len() != ty.params.len() {
+/// Whether two results are of one type.
+fn same_result(a: Option<PrimitiveType>, b: Option<PrimitiveType>) -> bool
+    ensures { result ≡ meant.same_result a b }
+{
+    match (a, b) {
+        (None, None) => true,
+        (Some(p), Some(q)) => p == q,
+        _ => false,
+    }
+}
+
+/// Whether core values are equal, in the same order.
+fn same_values(a: &[ValType], b: &[ValType]) -> bool
+    ensures { result ≡ meant.same_values a.now b.now }
+{
+    if a.len() != b.len() {
         return false;
     }
-    for (value, param) in core.params.iter().zip(ty.params.iter()) {
-        if *value != flat_value(param.ty) {
+    for (place, value) in a.iter().enumerate() {
+        if *value != b[place] {
             return false;
         }
     }
-    is_flat_result(&core.results, ty.result)
+    true
+}
+
+/// Whether a core type is that of the lowering of a function of this type.
+fn is_flat_type(core: &FuncType, ty: &FunctionType) -> bool
+    ensures { result ≡ meant.same_core_type (func_type_value core.now) (flat (function_type_value ty.now)) }
+{
+    are_flat(&core.params, &ty.params) && is_flat_result(&core.results, ty.result)
+}
+
+/// Whether core values are those of these parameters.
+fn are_flat(values: &[ValType], params: &[Parameter]) -> bool
+    ensures { result ≡ meant.same_values values.now (map (λ p. flat_value p.ty) (map parameter_value params.now)) }
+{
+    if values.len() != params.len() {
+        return false;
+    }
+    for (place, value) in values.iter().enumerate() {
+        if *value != flat_value(params[place].ty) {
+            return false;
+        }
+    }
+    true
 }
 
 /// Whether the lowerings of functions of these types have one core type.
-fn same_flat_type(a: &FunctionType, b: &FunctionType) -> bool {
-    if a.params.len() != b.params.len() {
+fn same_flat_type(a: &FunctionType, b: &FunctionType) -> bool
+    ensures { result ≡ meant.same_core_type (flat (function_type_value a.now)) (flat (function_type_value b.now)) }
+{
+    same_flat_params(&a.params, &b.params) && same_flat_result(a.result, b.result)
+}
+
+/// Whether parameters have the same core values.
+fn same_flat_params(a: &[Parameter], b: &[Parameter]) -> bool
+    ensures { result ≡ meant.same_values (map (λ p. flat_value p.ty) (map parameter_value a.now)) (map (λ p. flat_value p.ty) (map parameter_value b.now)) }
+{
+    if a.len() != b.len() {
         return false;
     }
-    for (p, q) in a.params.iter().zip(b.params.iter()) {
-        if flat_value(p.ty) != flat_value(q.ty) {
+    for (place, p) in a.iter().enumerate() {
+        if flat_value(p.ty) != flat_value(b[place].ty) {
             return false;
         }
     }
-    match (a.result, b.result) {
+    true
+}
+
+/// Whether results have the same core values.
+fn same_flat_result(a: Option<PrimitiveType>, b: Option<PrimitiveType>) -> bool
+    ensures { result ≡ meant.same_values (flat_result a) (flat_result b) }
+{
+    match (a, b) {
         (None, None) => true,
         (Some(p), Some(q)) => flat_value(p) == flat_value(q),
         _ => false,
@@ -158,15 +235,21 @@ fn same_flat_type(a: &FunctionType, b: &FunctionType) -> bool {
 
 impl<'c> CoreType<'c> {
     /// Whether it is this core type.
-    pub fn is(self, asked: &FuncType) -> bool {
+    pub fn is(self, asked: &FuncType) -> bool
+        ensures { result ≡ meant.same_core_type (func_type_value asked.now) (view.core_type self.entry) }
+    {
         match self {
-            CoreType::Own(own) => own.params == asked.params && own.results == asked.results,
+            CoreType::Own(own) => {
+                same_values(&asked.params, &own.params) && same_values(&asked.results, &own.results)
+            }
             CoreType::Flat(ty) => is_flat_type(asked, ty),
         }
     }
 
     /// Whether it is the core type of a function of this type.
-    fn is_flat_of(self, ty: &FunctionType) -> bool {
+    fn is_flat_of(self, ty: &FunctionType) -> bool
+        ensures { result ≡ meant.same_core_type (view.core_type self.entry) (flat (function_type_value ty.now)) }
+    {
         match self {
             CoreType::Own(own) => is_flat_type(own, ty),
             CoreType::Flat(other) => same_flat_type(other, ty),
@@ -175,7 +258,9 @@ impl<'c> CoreType<'c> {
 }
 
 /// A function as a core function.
-pub fn lowering(function: ComponentFunction<'_>) -> CoreFunction<'_> {
+pub fn lowering(function: ComponentFunction<'_>) -> CoreFunction<'_>
+    ensures { view.core_function result ≡ meant.lowering (view.component_function function.entry) }
+{
     let end = match function.end {
         FunctionEnd::Imported(name) => CoreEnd::Lowered(name),
         FunctionEnd::Lifted(_) | FunctionEnd::Elsewhere => CoreEnd::Elsewhere,
@@ -190,7 +275,9 @@ pub fn lowering(function: ComponentFunction<'_>) -> CoreFunction<'_> {
 pub fn lifting<'c>(
     core: CoreFunction<'c>,
     ty: &'c FunctionType<'c>,
-) -> Option<ComponentFunction<'c>> {
+) -> Option<ComponentFunction<'c>>
+    ensures { option_map view.component_function result ≡ meant.lifting (view.core_function core.entry) (function_type_value ty.entry.now) }
+{
     if !core.ty.is_flat_of(ty) {
         return None;
     }
@@ -201,9 +288,50 @@ pub fn lifting<'c>(
     Some(ComponentFunction { end, ty })
 }
 
+impl<'c> Entries<'c> {
+    /// No entries.
+    pub fn new(alloc: Global) -> Entries<'c>
+        ensures { view.entries result ≡ [] }
+    {
+        Entries {
+            names: FirstPlaces::new(alloc),
+            items: Vec::new(alloc),
+        }
+    }
+
+    /// What the first entry of a name stands for.
+    pub fn get(&self, name: &str) -> Option<CoreFunction<'c>>
+        ensures { option_map view.core_function result ≡ meant.entry_named name.now (view.entries self.now) }
+    {
+        match self.names.first(name) {
+            Some(place) => core_at(&self.items, place),
+            None => None,
+        }
+    }
+}
+
+/// The core function at a place, if it stands for something.
+pub fn core_at<'c>(items: &[Option<CoreFunction<'c>>], place: usize) -> Option<CoreFunction<'c>>
+    ensures { option_map view.core_function result ≡ meant.item_at (map (option_map view.core_function) items.now) place }
+{
+    *items.get(place)?
+}
+
+/// The function at a place, if it stands for something.
+pub fn function_at<'c>(
+    items: &[Option<ComponentFunction<'c>>],
+    place: usize,
+) -> Option<ComponentFunction<'c>>
+    ensures { option_map view.component_function result ≡ meant.item_at (map (option_map view.component_function) items.now) place }
+{
+    *items.get(place)?
+}
+
 impl<'c> Spaces<'c> {
     /// No definitions.
-    pub fn new(alloc: Global) -> Spaces<'c> {
+    pub fn new(alloc: Global) -> Spaces<'c>
+        ensures { (main : MainModule) → view.spaces main result ≡ meant.no_spaces }
+    {
         Spaces {
             modules: Vec::new(alloc),
             instances: Vec::new(alloc),

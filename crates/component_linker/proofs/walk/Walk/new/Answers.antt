@@ -1,0 +1,6 @@
+use Rattle.wasm_format.specs.Module.{module_value}
+use Rattle.component_linker.specs.Linking.{main_of}
+use Rattle.component_linker.proofs.walk.Walk.new.Goals as goal
+
+pub returns-clause-ok : goal.returns-clause-ok
+returns-clause-ok c = c.new.ensures (main_of c.args.linking.now.bytes.now (module_value c.args.linking.now.main))
