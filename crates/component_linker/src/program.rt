@@ -31,18 +31,32 @@ enum Stop<'a> {
 }
 
 impl<'a> From<Fault> for Stop<'a> {
+    ghost use Rattle.component_linker.specs.declared.program.Stop.TheVariants.{Refused};
+
+    ghost from_gives = { λ fault e. e ≡ Refused fault };
+
     fn from(fault: Fault) -> Stop<'a> {
         Stop::Refused(fault)
     }
 }
 
 impl<'a> From<AllocError> for Stop<'a> {
+    ghost use Rattle.component_linker.specs.declared.program.Stop.TheVariants.{Refused};
+    ghost use Rattle.component_linker.specs.declared.fault.Fault.TheVariants.{OutOfMemory};
+
+    ghost from_gives = { λ _ e. e ≡ Refused OutOfMemory };
+
     fn from(_e: AllocError) -> Stop<'a> {
         Stop::Refused(Fault::OutOfMemory)
     }
 }
 
 impl<'a, T: Drop> From<AllocFailed<T>> for Stop<'a> {
+    ghost use Rattle.component_linker.specs.declared.program.Stop.TheVariants.{Refused};
+    ghost use Rattle.component_linker.specs.declared.fault.Fault.TheVariants.{OutOfMemory};
+
+    ghost from_gives = { λ _ e. e ≡ Refused OutOfMemory };
+
     fn from(_e: AllocFailed<T>) -> Stop<'a> {
         Stop::Refused(Fault::OutOfMemory)
     }
