@@ -3,6 +3,7 @@ use Rattle.std.proofs.Common.{◌≡◌, ℕ, zero, suc, ◌<◌, ◌≤◌, Boo
 use Rattle.std.specs.Prelude.{option_map}
 use Rattle.std.specs.List.{list_all, slice_index_or}
 use Rattle.std.specs.Option.{ForSome}
+use Rattle.std.proofs.lemmas.Bool.{and_parts}
 use Rattle.std.proofs.lemmas.Option.{slice_get-map, slice_get_read}
 use Rattle.wasm_format.specs.declared.fault.ModuleFault.{ModuleFault}
 use Rattle.wasm_format.specs.declared.fault.ModuleFault.TheVariants as modules
@@ -15,19 +16,11 @@ use Rattle.component_linker.specs.World.{WorldMeaning, PackageMeaning, world_mea
 use Rattle.component_linker.specs.Input.{Input, ModuleInput}
 use Rattle.component_linker.specs.Cause.{IsCause}
 
-and_left : (a b : Bool) → (a && b) ≡ true → a ≡ true
-and_left true b e = refl
-and_left false b e = absurd cc
-
-and_right : (a b : Bool) → (a && b) ≡ true → b ≡ true
-and_right true b e = e
-and_right false b e = absurd cc
-
 -- a world that is there lies within the shape, where all do
 pub world_at_fits : (packages : List PackageMeaning) (k : ℕ) (w : WorldMeaning) → list_all (λ p. world_fits p.world) packages ≡ true → option_map (λ (p : PackageMeaning). p.world) (slice_get packages k) ≡ Some w → world_fits w ≡ true
 world_at_fits [] k w all e = absurd cc
-world_at_fits (p ∷ ps) zero w all e = let same : p.world ≡ w = cc in rw (← same) (and_left (world_fits p.world) (list_all (λ q. world_fits q.world) ps) all)
-world_at_fits (p ∷ ps) (suc k) w all e = world_at_fits ps k w (and_right (world_fits p.world) (list_all (λ q. world_fits q.world) ps) all) e
+world_at_fits (p ∷ ps) zero w all e = let same : p.world ≡ w = cc in rw (← same) (and_parts (world_fits p.world) (list_all (λ q. world_fits q.world) ps) all).0
+world_at_fits (p ∷ ps) (suc k) w all e = world_at_fits ps k w (and_parts (world_fits p.world) (list_all (λ q. world_fits q.world) ps) all).1 e
 
 -- reading the main module again fails for want of memory alone
 pub memory_alone : (input : Input) (handed : ModuleInput) (fault : ModuleFault) → ForSome input.main (λ m. (core : ModuleValue) × IsModule m.bytes core) → input.main ≡ Some handed
