@@ -228,6 +228,7 @@ CanFollow so_far (import_of name ty) = (is_new (import_names so_far) name ≡ tr
 CanFollow so_far (export_of name func ty) = (is_new (export_names so_far) name ≡ true) × (func < functions_in so_far) × IsBelow (types_in so_far) ty
 
 pub record CanWrite (so_far : List DefinitionValue) (d : DefinitionValue) : Type 0 where
+  pub index : fits (index_behind so_far d) ≡ true
   pub short : definition_fits d ≡ true
   pub follows : CanFollow so_far d
 

@@ -1,13 +1,13 @@
 //! Making a component, one definition after the other.
 
-ghost use Rattle.std.specs.Prelude.{◌≡◌, ◌+◌, ◌<◌, ◌++◌, ◌∷◌, [], true, false, ◌&&◌, map, OnOk, OnErr, IfOk, Err};
+ghost use Rattle.std.specs.Prelude.{◌≡◌, ◌+◌, ◌<◌, ◌++◌, ◌∷◌, [], true, false, ◌&&◌, map, OnOk, OnErr, IfOk, IfSome, IfNone, Err};
 ghost use Rattle.std.specs.Option.{ForSome};
 ghost use Rattle.std.specs.List.{All};
 ghost use Rattle.component_format.specs.Names.{is_new, all_new};
 ghost use Rattle.component_format.specs.Grammar.{IsComponent, argument_names, inline_names, parameter_names};
 ghost use Rattle.component_format.specs.Definition.{kind_value, argument_value, inline_export_value, parameter_value, function_type_value, definition_values, core_module_of, instantiation_of, inline_of, alias_of, type_of, lift_of, lower_of, import_of, export_of, core_modules_in, core_instances_in, core_functions_in, types_in, functions_in, import_names, export_names};
 ghost use Rattle.component_format.specs.Found.{counts_in, with_count, names_in, with_name};
-ghost use Rattle.component_format.specs.Spelling.{fits, definition_fits, index_behind, sections_fit, component_bytes, CanFollow};
+ghost use Rattle.component_format.specs.Spelling.{fits, definition_fits, index_behind, sections_fit, component_fits, component_bytes, CanFollow};
 
 use crate::definition::{Argument, Definition, DefinitionKind, FunctionType, InlineExport};
 use crate::fault::BuildFault;
@@ -53,6 +53,20 @@ fn index_of(found: &Found, kind: &DefinitionKind) -> usize
     }
 }
 
+/// The index that a definition takes, where 32 bits can say it and the definition's counts and lengths.
+fn index_that_fits(found: &Found, kind: &DefinitionKind) -> Option<u32>
+    ensures some { IfSome result (λ i. (i ≡ index_behind (definition_values found.now.list.items) (kind_value kind.now)) × ((fits (index_behind (definition_values found.now.list.items) (kind_value kind.now)) && definition_fits (kind_value kind.now)) ≡ true)) }
+    ensures none { IfNone result ((fits (index_behind (definition_values found.now.list.items) (kind_value kind.now)) && definition_fits (kind_value kind.now)) ≡ false) }
+{
+    let Ok(index) = u32::try_from(index_of(found, kind)) else {
+        return None;
+    };
+    if !definition_fits_in(kind) {
+        return None;
+    }
+    Some(index)
+}
+
 impl<'a> ComponentBuilder<'a> {
     /// No definitions.
     pub fn new(alloc: Global) -> ComponentBuilder<'a>
@@ -75,12 +89,9 @@ impl<'a> ComponentBuilder<'a> {
         ensures err { OnErr result (self.new ≡ self.old) }
         ensures large { result ≡ Err BuildFault.TooLarge → (fits (index_behind self.old (kind_value kind.entry)) && definition_fits (kind_value kind.entry)) ≡ false }
     {
-        let Ok(index) = u32::try_from(index_of(&self.found, &kind)) else {
+        let Some(index) = index_that_fits(&self.found, &kind) else {
             return Err(BuildFault::TooLarge);
         };
-        if !definition_fits_in(&kind) {
-            return Err(BuildFault::TooLarge);
-        }
         self.found.add(Definition { offset: 0, kind })?;
         Ok(index)
     }
@@ -234,8 +245,9 @@ impl<'a> ComponentBuilder<'a> {
         // What is written is of the grammar: it is read as these definitions.
         ensures found { IfOk result (λ v. IsComponent v.items self.now) }
         ensures bytes { IfOk result (λ v. v.items ≡ component_bytes self.now) }
-        // A component is too large only where 32 bits can't say the size of a section.
-        ensures small { OnOk result (sections_fit self.now ≡ true) }
+        // Indices, counts and names of what was added fit; a component is too large only where 32 bits can't say the
+        // size of a section.
+        ensures small { OnOk result (component_fits self.now ≡ true) }
         ensures large { result ≡ Err BuildFault.TooLarge → sections_fit self.now ≡ false }
     {
         write_component(alloc, &self.found.list)

@@ -1,8 +1,9 @@
 -- From the causes of a linking to those of its input.
-use Rattle.std.proofs.Common.{List, ℕ, sym, subst, inl, inr, ap, ◌∙◌}
+use Rattle.std.proofs.Common.{◌≡◌, true, List, ℕ, sym, subst, inl, inr, ap, ◌∙◌}
 use Rattle.component_linker.specs.declared.fault.Fault.{Fault}
 use Rattle.component_linker.specs.declared.fault.Fault.TheVariants as faults
 use Rattle.component_format.specs.Grammar.{IsComponent}
+use Rattle.component_format.specs.Spelling.{component_fits}
 use Rattle.component_linker.specs.Input.{Input}
 use Rattle.component_linker.specs.Linking.{Linking, Links}
 use Rattle.component_linker.specs.Cause.{IsLinkCause, AsksBeyond, IsCause, IsLinkable, IsEncodeCause, IsBuildCause}
@@ -30,10 +31,11 @@ pub encode_cause_is : (input : Input) (l : Linking) (fault : Fault) → Links in
 encode_cause_is input l fault links plain (inl cause) = build_cause_is input fault (link_cause_is input l fault links cause)
 encode_cause_is input l fault links plain (inr (is, linkable, large)) = subst (IsBuildCause input) (sym is) (l, links, plain, linkable, large)
 
-pub built : (input : Input) (l : Linking) (bytes : List ℕ) → Links input l → (AsksBeyond input → ⊥) → IsLinkable l → IsComponent bytes (component_of l) → IsBuilt input bytes
-built input l bytes links plain linkable is = record {
+pub built : (input : Input) (l : Linking) (bytes : List ℕ) → Links input l → (AsksBeyond input → ⊥) → IsLinkable l → component_fits (component_of l) ≡ true → IsComponent bytes (component_of l) → IsBuilt input bytes
+built input l bytes links plain linkable fits is = record {
   linking = l;
   ready = record { links_input = links; plain = plain; linkable = linkable };
+  fits = fits;
   right = written_right input l bytes links linkable.linked is;
   imports = λ ds h. ap (λ es. (meaning l.main es).imports) (one_list bytes ds (component_of l) h is) ∙ ap (λ (s : Spaces). s.imports) (written l linkable.linked);
 }

@@ -20,8 +20,10 @@ use Rattle.component_linker.specs.Input.{Input, ModuleInput, world_at}
 use Rattle.component_linker.specs.ModuleCause.{refusal_of}
 use Rattle.component_linker.specs.Linking.{CoreImport, CoreExport, Linking, Links, main_of}
 use Rattle.component_linker.specs.Table.{imported_by, exported_by, ImportLink, ExportLink, IsLinked}
-use Rattle.component_linker.specs.Cause.{IsImportCause, IsExportCause, IsLinkCause, IsCause, IsLinkable}
-use Rattle.component_linker.specs.Answered.{IsReady}
+use Rattle.component_format.specs.Spelling.{component_fits}
+use Rattle.component_linker.specs.Component.{component_of}
+use Rattle.component_linker.specs.Cause.{IsImportCause, IsExportCause, IsLinkCause, IsCause, IsLinkable, IsBuildCause}
+use Rattle.component_linker.specs.Answered.{IsReady, IsBuilt}
 
 -- ---- an input is linked in one way
 
@@ -134,3 +136,12 @@ no_cause input l h faults.NotYet (inl beyond) = absurd (h.plain beyond)
 no_cause input l h faults.NotYet (inr cause) = linked_cause input l h faults.NotYet cause
 no_cause input l h faults.OutOfMemory cause = refl
 no_cause input l h fault cause = linked_cause input l h fault cause
+
+-- ---- of a component that is built
+
+pub no_build_cause : (input : Input) (bytes : List ℕ) → IsBuilt input bytes → (fault : Fault) → IsBuildCause input fault → fault ≡ faults.OutOfMemory
+no_build_cause input bytes h faults.TooLarge (m, links, plain, linkable, large) =
+    let is : component_fits (component_of h.linking) ≡ false = ap (λ (l : Linking). component_fits (component_of l)) (one_linking input h.linking m h.ready.links_input links) ∙ large in
+    let bad : true ≡ false = sym h.fits ∙ is in
+    absurd cc
+no_build_cause input bytes h fault cause = no_cause input h.linking h.ready fault cause

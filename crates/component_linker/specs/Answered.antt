@@ -1,12 +1,14 @@
 -- What links, and a component, are answered for.
-use Rattle.std.specs.Prelude.{◌≡◌, ℕ, List, map}
+use Rattle.std.specs.Prelude.{◌≡◌, ℕ, List, map, true}
 use Rattle.component_format.specs.Definition.{DefinitionValue}
 use Rattle.component_format.specs.Grammar.{IsComponent}
+use Rattle.component_format.specs.Spelling.{component_fits}
 use Rattle.component_linker.specs.Input.{Input}
 use Rattle.component_linker.specs.Linking.{Linking, Links}
 use Rattle.component_linker.specs.Cause.{AsksBeyond, IsLinkable}
 use Rattle.component_linker.specs.Links.{LinkValue, AreLinks}
 use Rattle.component_linker.specs.Table.{needed}
+use Rattle.component_linker.specs.Component.{component_of}
 use Rattle.component_linker.specs.Meaning.{meaning}
 use Rattle.component_linker.specs.Right.{IsRight, listed}
 
@@ -22,9 +24,11 @@ pub record IsLinkTable (input : Input) (found : List LinkValue) : Type 0 where
   pub ready : IsReady input linking
   pub links : AreLinks linking found
 
--- These bytes are right for the input, and import exactly what links need, in the order of the world.
+-- These bytes are right for the input, and import exactly what links need, in the order of the world; no cause of a
+-- refusal holds: nothing stands in the way, and 32 bits say every index, count and size of the component.
 pub record IsBuilt (input : Input) (bytes : List ℕ) : Type 0 where
   pub linking : Linking
   pub ready : IsReady input linking
+  pub fits : component_fits (component_of linking) ≡ true
   pub right : IsRight input bytes
   pub imports : (ds : List DefinitionValue) → IsComponent bytes ds → (meaning linking.main ds).imports ≡ map listed (needed linking)

@@ -6,7 +6,7 @@ ghost use Rattle.component_format.specs.Names.{all_new};
 ghost use Rattle.component_format.specs.Grammar.{IsComponent, inline_names};
 ghost use Rattle.component_format.specs.Definition.{types_in, parameter_value, inline_export_value, argument_value, core_module_of, alias_of, lift_of, lower_of, import_of, export_of};
 ghost use Rattle.component_format.specs.Found.{counts_in, names_in};
-ghost use Rattle.component_format.specs.Spelling.{all_fit, component_bytes};
+ghost use Rattle.component_format.specs.Spelling.{all_fit, component_fits, component_bytes};
 ghost use Rattle.component_linker.specs.World.{param_item, function_item, function_fits, functions_fit, world_fits};
 ghost use Rattle.component_linker.specs.Linking.{Linking as LinkingValue};
 ghost use Rattle.component_linker.specs.Table.{needed, exported_by};
@@ -400,6 +400,7 @@ pub fn encode(alloc: Global, linking: &Linking) -> Result<Vec<u8>, Fault>
     requires { world_fits (view.linking linking.now).world ≡ true }
     ensures found { IfOk result (λ v. IsComponent v.items (spec.component_of (view.linking linking.now))) }
     ensures linkable { IfOk result (λ v. IsLinkable (view.linking linking.now)) }
+    ensures fits { OnOk result (component_fits (spec.component_of (view.linking linking.now)) ≡ true) }
     ensures cause { IfErr result (IsEncodeCause (view.linking linking.now)) }
 {
     let table = table_of(alloc, linking)?;
@@ -416,6 +417,7 @@ fn component_of<'e>(
     requires places { ArePlaces (view.linking linking.now) (view.places table.now) }
     ensures found { IfOk result (λ v. IsComponent v.items (spec.component_of (view.linking linking.now))) }
     ensures bytes { IfOk result (λ v. v.items ≡ component_bytes (spec.component_of (view.linking linking.now))) }
+    ensures fits { OnOk result (component_fits (spec.component_of (view.linking linking.now)) ≡ true) }
     ensures cause { IfErr result (λ e. (e ≡ Fault.OutOfMemory) ⊎ ((e ≡ Fault.TooLarge) × IsTooLarge (view.linking linking.now))) }
 {
     let mut builder = ComponentBuilder::new(alloc);

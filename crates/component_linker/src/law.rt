@@ -7,8 +7,8 @@ ghost use Rattle.component_linker.specs.Linking.{Linking, Links};
 ghost use Rattle.component_linker.specs.Table.{IsLinked};
 ghost use Rattle.component_linker.specs.Component.{component_of};
 ghost use Rattle.component_linker.specs.Right.{IsRight};
-ghost use Rattle.component_linker.specs.Cause.{IsCause};
-ghost use Rattle.component_linker.specs.Answered.{IsReady};
+ghost use Rattle.component_linker.specs.Cause.{IsCause, IsBuildCause};
+ghost use Rattle.component_linker.specs.Answered.{IsReady, IsBuilt};
 
 use crate::fault::Fault;
 
@@ -22,4 +22,9 @@ pub fn law_written_is_right()
 pub fn law_ready_has_no_cause()
     ensures one { (input : Input) (l m : Linking) → Links input l → Links input m → l ≡ m }
     ensures none { (input : Input) (l : Linking) → IsReady input l → (fault : Fault) → IsCause input fault → fault ≡ Fault.OutOfMemory }
+{}
+
+/// Where a component is answered, no cause holds that one is refused for, want of memory aside.
+pub fn law_built_has_no_cause()
+    ensures { (input : Input) (bytes : List ℕ) → IsBuilt input bytes → (fault : Fault) → IsBuildCause input fault → fault ≡ Fault.OutOfMemory }
 {}
