@@ -17,7 +17,7 @@ use Rattle.component_format.specs.declared.fault.FormatFault.TheVariants.{OutOfM
 use Rattle.component_format.specs.Definition.{DefinitionValue}
 use Rattle.component_format.specs.Fault.{IsCalled, IsFormatFault}
 use Rattle.component_format.specs.Grammar.{content, section, section_start, AreSections, IsComponent, header, SectionsBreak, here, later, BreaksComponent, sections_at, start, component_at, onto_all}
-use Rattle.wasm_format.proofs.Laws.{bind_ok, bind_err, ok_is, refused, some_left, not_empty}
+use Rattle.wasm_format.proofs.Laws.{moved, bind_ok, bind_err, ok_is, more_behind, refused, some_left, not_empty}
 use Rattle.component_format.proofs.GrammarLaws.{content_law, section_law, start_law}
 
 abbrev all_of : List (List DefinitionValue) → List DefinitionValue
@@ -142,6 +142,19 @@ pub component_broken : (bytes : List ℕ) (e : Fault) → BreaksComponent bytes 
 unfolding component_at
 component_broken bytes e (inl h) = rw (start_law.broken bytes e h) refl
 component_broken bytes e (inr h) = rw (header_again bytes h.back h.parts) (sections_broken (length h.back) [] h.back e h.each (omega arith))
+
+-- sections that break a rule other than Short break it whatever stands behind
+sections_stay : (so_far : List DefinitionValue) (bytes : List ℕ) (e : Fault) (more : List ℕ) → (e.rule ≡ rules.Short → ⊥) → SectionsBreak so_far bytes e → SectionsBreak so_far (bytes ++ more) (moved e more)
+sections_stay so_far bytes e more other (here _ _ _ some breaks) =
+    here so_far (bytes ++ more) (moved e more) (omega (arith, length-append bytes more)) ((section_law so_far).stays bytes e more other breaks)
+sections_stay so_far bytes e more other (later _ ds _ front back _ parts first second) =
+    later so_far ds (bytes ++ more) front (back ++ more) (moved e more) (more_behind bytes front back more parts) first (sections_stay (so_far ++ ds) back e more other second)
+
+-- bytes that break a rule other than Short break it whatever stands behind
+pub break_stays : (bytes : List ℕ) (e : Fault) (more : List ℕ) → (e.rule ≡ rules.Short → ⊥) → BreaksComponent bytes e → BreaksComponent (bytes ++ more) (moved e more)
+break_stays bytes e more other (inl h) = inl (start_law.stays bytes e more other h)
+break_stays bytes e more other (inr h) =
+    inr (record { back = h.back ++ more; parts = more_behind bytes header h.back more h.parts; each = sections_stay [] h.back e more other h.each })
 
 pub break_within : (bytes : List ℕ) (e : Fault) → BreaksComponent bytes e → e.left ≤ length bytes
 break_within bytes e (inl h) = start_law.within bytes e (start_law.broken bytes e h)

@@ -19,7 +19,7 @@ pub use definition::{
     PrimitiveType, SectionId,
 };
 pub use fault::{BuildFault, FormatFault};
-pub use laws::{law_a_break_is_one, law_one_list, law_reading_what_was_built};
+pub use laws::{law_a_break_is_one, law_a_break_stays, law_one_list, law_reading_what_was_built};
 pub use names::Names;
 
 #[cfg(test)]

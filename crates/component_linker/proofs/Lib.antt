@@ -22,3 +22,9 @@ pub mod Written
 pub mod WrittenGiven
 pub mod WrittenComponent
 pub mod Named
+pub mod Equal
+pub mod Judged
+pub mod Searching
+pub mod JudgedLinks
+pub mod Walked
+pub mod Exact

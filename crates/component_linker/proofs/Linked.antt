@@ -1,5 +1,5 @@
 -- What is linked lies within the shape.
-use Rattle.std.proofs.Common.{◌≡◌, ℕ, zero, suc, ◌<◌, ◌≤◌, Bool, true, false, ◌&&◌, arith, length, List, [], ◌∷◌, map, Some, None, slice_get, refl, ap, ◌∙◌}
+use Rattle.std.proofs.Common.{◌≡◌, ℕ, zero, suc, ◌<◌, ◌≤◌, true, arith, length, List, [], ◌∷◌, map, Some, None, slice_get, refl, ap, ◌∙◌}
 use Rattle.std.specs.Prelude.{option_map}
 use Rattle.std.specs.List.{list_all, slice_index_or}
 use Rattle.std.specs.Option.{ForSome}

@@ -9,8 +9,7 @@ use Rattle.wasm_format.specs.declared.fault.ModuleFault.{ModuleFault}
 use Rattle.wasm_format.specs.declared.fault.ModuleFault.TheVariants as modules
 use Rattle.wasm_format.specs.Module.{ModuleValue}
 use Rattle.wasm_format.specs.Grammar.{IsModule, IsModuleFault}
-use Rattle.wasm_format.proofs.Laws.{ok_is}
-use Rattle.wasm_format.proofs.Sections.{module_again, one_break}
+use Rattle.wasm_format.proofs.Sections.{one_break, one_module}
 use Rattle.component_linker.specs.declared.fault.Fault.{Fault}
 use Rattle.component_linker.specs.declared.fault.Fault.TheVariants as faults
 use Rattle.component_linker.specs.World.{FunctionItem}
@@ -27,9 +26,6 @@ use Rattle.component_linker.specs.Answered.{IsReady, IsBuilt}
 
 -- ---- an input is linked in one way
 
-one_module : (bytes : List ℕ) (m n : ModuleValue) → IsModule bytes m → IsModule bytes n → m ≡ n
-one_module bytes m n h k = ok_is m n (sym (module_again bytes m h) ∙ module_again bytes n k)
-
 pub one_linking : (input : Input) (l m : Linking) → Links input l → Links input m → l ≡ m
 one_linking input l m h k =
     let chosen = same_Some h.chosen k.chosen (sym h.chooses ∙ k.chooses) in
@@ -42,7 +38,7 @@ one_linking input l m h k =
 
 -- ---- a link, and a cause that denies it
 
-any_each : {X : Type 0} (P Q : X → Type 0) (xs : List X) → Each P xs → Any Q xs → (x : X) × P x × Q x
+pub any_each : {X : Type 0} (P Q : X → Type 0) (xs : List X) → Each P xs → Any Q xs → (x : X) × P x × Q x
 any_each P Q [] h (k, x, l, is, q) = absurd (omega arith)
 any_each P Q (y ∷ ys) h (zero, x, l, is, q) = (y, h.0, subst Q (sym is) q)
 any_each P Q (y ∷ ys) h (suc k, x, l, is, q) = any_each P Q ys h.1 (k, x, omega arith, is, q)

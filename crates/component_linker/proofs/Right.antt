@@ -1,5 +1,5 @@
 -- What is written for a linking is right for its input.
-use Rattle.std.proofs.Common.{◌≡◌, ℕ, List, [], ◌∷◌, ◌++◌, length, Bool, true, Option, Some, None, refl, sym, ap, subst, ◌∙◌, arith, length-append, inl, inr}
+use Rattle.std.proofs.Common.{◌≡◌, ℕ, List, [], ◌∷◌, ◌++◌, length, Bool, true, Option, Some, None, refl, sym, ap, ◌∙◌, arith, length-append, inl, inr}
 use Rattle.std.specs.Prelude.{map, filter, slice_get, option_map, bytes_eq}
 use Rattle.std.specs.List.{AllByRecursion as Each, flat_map}
 use Rattle.std.proofs.lemmas.Bool.{cases_Bool}
@@ -12,9 +12,9 @@ use Rattle.component_linker.specs.CoreNames.{root, standard, is_export_name}
 use Rattle.component_linker.specs.Input.{Input}
 use Rattle.component_linker.specs.Linking.{CoreExport, Linking, Links}
 use Rattle.component_linker.specs.Table.{ImportLink, ExportLink, IsLinked, is_needed, needed}
-use Rattle.component_linker.specs.Meaning.{Spaces, CoreFunction, CoreEntry, ExportEntry, exported, no_spaces, after, meaning, entry_named, given_for, all_match, exports_of}
+use Rattle.component_linker.specs.Meaning.{Spaces, CoreFunction, CoreEntry, exported, no_spaces, after, meaning, entry_named, given_for, all_match, exports_of}
 use Rattle.component_linker.specs.Component.{numbered, types_of, given_under, instance_with, instances_for, arguments_for, aliases_of, import_side, instance_side, export_side, component_of}
-use Rattle.component_linker.specs.Right.{IsIn, listed, type_seen, ModulesRight, ImportsRight, ExportsRight, IsGiven, EachGiven, lifting_of, LinksRight, IsRight}
+use Rattle.component_linker.specs.Right.{IsIn, listed, type_seen, ModulesRight, ImportsRight, ExportsRight, IsGiven, EachGiven, lifting_of, LiftsOwn, LinksRight, IsRight}
 use Rattle.component_linker.proofs.Lists.{bytes_eq_refl, bytes_eq_is, slice_get_at, each_in, each_at, each_map, in_map, same_items_refl, from_filter, filter_yes, filter_no, only_one}
 use Rattle.component_linker.proofs.Blocks.{Leads, then, imported_function, lowered_function, own_export, own_lift, own_entry, instance_of, length-instance_of, HasExport, types_block, imports_block, lowers_block, inline_block, aliases_block, lifts_block, exports_block}
 use Rattle.component_linker.proofs.Given.{lowerings, instances_given, given_found, each_given, given_match}
@@ -163,11 +163,10 @@ exports_right l = rw (map-map type_seen (own_entry l) l.world.exports) (same_ite
 links_right : (l : Linking) → IsLinked l → LinksRight l (all_there l)
 links_right l h = record {
   imports = (given_right l h, tt);
-  exports = each_in (λ f. (e : CoreExport) × ExportLink l f e × IsIn (lifting_of f e) (all_there l).exports) l.world.exports (λ f m.
+  exports = each_map (LiftsOwn l) (own_entry l) l.world.exports (λ f m.
       let link = each_at (λ x. (e : CoreExport) × ExportLink l x e) l.world.exports f h.exports m in
-      let e = link.0 in
-      let own : own_entry l f ≡ lifting_of f e = rw link.1.only refl in
-      (e, link.1, subst (λ (x : ExportEntry). IsIn x (all_there l).exports) own (in_map (own_entry l) l.world.exports f m)));
+      let own : own_entry l f ≡ lifting_of f link.0 = rw link.1.only refl in
+      record { function = f; export = link.0; listed = m; link = link.1; is = own });
 }
 
 -- the component that is written for a linking is right, whatever bytes the grammar relates to it

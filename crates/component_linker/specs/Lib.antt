@@ -22,6 +22,7 @@ pub mod Line
 pub mod Program
 pub mod Texts
 pub mod Answered
+pub mod Judged
 pub mod Candidates
 pub mod FirstPlaces
 pub mod SpacesView

@@ -59,10 +59,18 @@ EachGiven l (i ∷ more) (g ∷ given) = IsGiven l i g × EachGiven l more given
 abbrev pub lifting_of : FunctionItem → CoreExport → ExportEntry
 lifting_of f e = record { name = f.name; item = Some (record { end = lifted e.name; ty = f.ty }) }
 
+-- an export lifts the core export of its function
+pub record LiftsOwn (l : Linking) (x : ExportEntry) : Type 0 where
+  pub function : FunctionItem
+  pub export : CoreExport
+  pub listed : IsIn function l.world.exports
+  pub link : ExportLink l function export
+  pub is : x ≡ lifting_of function export
+
 -- F5: every core import and every export ends at its entry of the link table
 pub record LinksRight (l : Linking) (s : Spaces) : Type 0 where
   pub imports : Each (EachGiven l l.main.imports) s.given
-  pub exports : Each (λ f. (e : CoreExport) × ExportLink l f e × IsIn (lifting_of f e) s.exports) l.world.exports
+  pub exports : Each (LiftsOwn l) s.exports
 
 pub record IsRight (input : Input) (bytes : List ℕ) : Type 0 where
   pub linking : Linking

@@ -1,5 +1,6 @@
 -- What a walk has found, as values.
-use Rattle.std.specs.Prelude.{ℕ, List, [], ◌∷◌, map, Option, option_map, option_and_then, slice_get}
+use Rattle.std.specs.Prelude.{◌≡◌, ℕ, nat_le, true, List, [], ◌∷◌, map, Option, option_map, option_and_then, slice_get}
+use Rattle.std.specs.List.{list_all}
 use Rattle.wasm_format.specs.Module.{FuncTypeValue, func_type_value}
 use Rattle.component_format.specs.declared.definition.Argument.{Argument}
 use Rattle.component_format.specs.Definition.{FunctionTypeValue, function_type_value}
@@ -92,3 +93,9 @@ spaces main s = record {
   imports = map import_entry s.imports.items;
   exports = map export_entry s.exports.items;
 }
+
+-- what a finding may speak of lies within so many bytes
+pub record AreWithin (n : ℕ) (s : Found) : Type 0 where
+  pub given : list_all (λ g. nat_le g.offset n) s.given.items ≡ true
+  pub imports : list_all (λ e. nat_le e.offset n) s.imports.items ≡ true
+  pub exports : list_all (λ e. nat_le e.offset n) s.exports.items ≡ true

@@ -18,7 +18,7 @@ ghost use Rattle.component_linker.specs.View as view;
 
 use crate::fault::Fault;
 use crate::linking::Linking;
-use crate::table::{ROOT, STANDARD, Table, table_of};
+use crate::table::{ROOT, STANDARD, Table, needed_functions, references, table_of};
 use crate::world::{Function, Param};
 use component_format::{
     Argument, BuildFault, ComponentBuilder, FunctionType, InlineExport, Names, Parameter,
@@ -177,25 +177,6 @@ fn put_exports<'s>(
     Ok(())
 }
 
-/// The functions of the world that core imports stand for, in the order of the world.
-fn needed_functions<'s>(
-    alloc: Global,
-    linking: &Linking<'s, '_>,
-    table: &Table,
-) -> Result<Vec<&'s Function>, AllocError>
-    requires { ArePlaces (view.linking linking.now) (view.places table.now) }
-    ensures { IfOk result (λ v. map (λ f. function_item f.now) v.items ≡ needed (view.linking linking.now)) }
-{
-    let mut needed = Vec::new(alloc);
-    for function in &linking.world.imports {
-        let name = function.name.as_str();
-        if !table.legacy.is_new(name) || !table.standard.is_new(name) {
-            needed.push(function)?;
-        }
-    }
-    Ok(needed)
-}
-
 /// What a core instance gives the main module under one module text: the lowerings of the functions that are
 /// imported there, the first function's at 0, and so on.
 fn inline_exports<'s>(
@@ -316,17 +297,6 @@ fn put_instance<'e>(
         Ok(index) => Ok(index),
         Err(fault) => Err(build_refusal(fault)),
     }
-}
-
-/// Each of these functions.
-fn references<'e>(alloc: Global, functions: &'e [Function]) -> Result<Vec<&'e Function>, AllocError>
-    ensures { IfOk result (λ v. map (λ f. function_item f.now) v.items ≡ map function_item functions.entry.now) }
-{
-    let mut found = Vec::new(alloc);
-    for function in functions {
-        found.push(function)?;
-    }
-    Ok(found)
 }
 
 /// The names of the core exports that stand for the functions that the world exports.

@@ -1,6 +1,6 @@
 //! Laws of the public calls.
 
-ghost use Rattle.std.specs.Prelude.{◌≡◌, ℕ, List};
+ghost use Rattle.std.specs.Prelude.{◌≡◌, ℕ, List, MatchResult};
 ghost use Rattle.component_format.specs.Grammar.{IsComponent};
 ghost use Rattle.component_linker.specs.Input.{Input};
 ghost use Rattle.component_linker.specs.Linking.{Linking, Links};
@@ -9,8 +9,12 @@ ghost use Rattle.component_linker.specs.Component.{component_of};
 ghost use Rattle.component_linker.specs.Right.{IsRight};
 ghost use Rattle.component_linker.specs.Cause.{IsCause, IsBuildCause};
 ghost use Rattle.component_linker.specs.Answered.{IsReady, IsBuilt};
+ghost use Rattle.component_linker.specs.Judged.{IsJudged, IsAuditCause};
 
+use crate::auditor::audit;
 use crate::fault::Fault;
+use crate::session::Session;
+use crate::verdict::Verdict;
 
 /// What is written for a linking is right for its input, whatever bytes the grammar relates to it.
 pub fn law_written_is_right()
@@ -28,3 +32,18 @@ pub fn law_ready_has_no_cause()
 pub fn law_built_has_no_cause()
     ensures { (input : Input) (bytes : List ℕ) → IsBuilt input bytes → (fault : Fault) → IsBuildCause input fault → fault ≡ Fault.OutOfMemory }
 {}
+
+/// The auditor is exact: of bytes that are right for an input in whose way nothing stands, every verdict is yes, and no
+/// cause of a refusal holds, want of memory aside.
+pub fn law_right_is_judged_yes()
+    ensures verdict { (input : Input) (bytes : List ℕ) → IsRight input bytes → (verdict : Verdict) → IsJudged input bytes verdict → verdict ≡ Verdict.Yes }
+    ensures cause { (input : Input) (bytes : List ℕ) (l : Linking) → IsReady input l → IsRight input bytes → (fault : Fault) → IsAuditCause input bytes fault → fault ≡ Fault.OutOfMemory }
+{}
+
+/// The auditor says yes to what was built, want of memory aside: `Session::build` answers bytes that meet the `requires`.
+pub fn law_audit_of_what_was_built(session: &Session, bytes: &[u8]) -> Result<Verdict, Fault>
+    requires { IsBuilt session.now bytes.now }
+    ensures { MatchResult result (λ v. v ≡ Verdict.Yes) (λ e. e ≡ Fault.OutOfMemory) }
+{
+    audit(session, bytes)
+}

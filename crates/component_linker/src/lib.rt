@@ -25,7 +25,10 @@ mod world;
 pub use auditor::audit;
 pub use fault::Fault;
 pub use id::{Id, PackageId, WorldId};
-pub use law::{law_built_has_no_cause, law_ready_has_no_cause, law_written_is_right};
+pub use law::{
+    law_audit_of_what_was_built, law_built_has_no_cause, law_ready_has_no_cause,
+    law_right_is_judged_yes, law_written_is_right,
+};
 pub use line::{Action, Input, Line, LineFault, read_line};
 pub use link::{Link, LinkKind, LinkSide, Owner};
 pub use options::{Options, StringEncoding};

@@ -7,6 +7,7 @@ ghost use Rattle.component_linker.specs.Choice as choice;
 ghost use Rattle.component_linker.specs.Input.{world_at};
 ghost use Rattle.component_linker.specs.Linking.{Links};
 ghost use Rattle.component_linker.specs.Answered.{IsLinkTable, IsBuilt};
+ghost use Rattle.component_linker.specs.Judged.{IsJudged, IsAuditCause};
 ghost use Rattle.component_linker.specs.Links.{link_value};
 ghost use Rattle.component_linker.specs.View as view;
 ghost use Rattle.component_linker.specs.World as spec;
@@ -415,7 +416,11 @@ impl<'a> Session<'a> {
     }
 
     /// Judges bytes against the input.
-    pub(crate) fn audit(&self, bytes: &[u8]) -> Result<Verdict, Fault> {
+    pub(crate) fn audit(&self, bytes: &[u8]) -> Result<Verdict, Fault>
+        ensures verdict { IfOk result (IsJudged self.now bytes.now) }
+        ensures cause { IfErr result (IsAuditCause self.now bytes.now) }
+        ensures first { self.now.main ≡ None → result ≡ Err Fault.NoModule }
+    {
         judge(self.alloc, &self.linking()?, bytes)
     }
 

@@ -1,6 +1,6 @@
 //! What the indices of a component stand for.
 
-ghost use Rattle.std.specs.Prelude.{◌≡◌, [], map, option_map};
+ghost use Rattle.std.specs.Prelude.{◌≡◌, ℕ, [], map, option_map};
 ghost use Rattle.std.specs.Cmp.Lexicographic.{pointwise};
 ghost use Rattle.wasm_format.specs.Module.{func_type_value};
 ghost use Rattle.component_format.specs.Definition.{parameter_value, function_type_value};
@@ -153,7 +153,7 @@ fn same_parameter(a: &Parameter, b: &Parameter) -> bool
 }
 
 /// Whether two results are of one type.
-fn same_result(a: Option<PrimitiveType>, b: Option<PrimitiveType>) -> bool
+pub fn same_result(a: Option<PrimitiveType>, b: Option<PrimitiveType>) -> bool
     ensures { result ≡ meant.same_result a b }
 {
     match (a, b) {
@@ -330,7 +330,8 @@ pub fn function_at<'c>(
 impl<'c> Spaces<'c> {
     /// No definitions.
     pub fn new(alloc: Global) -> Spaces<'c>
-        ensures { (main : MainModule) → view.spaces main result ≡ meant.no_spaces }
+        ensures none { (main : MainModule) → view.spaces main result ≡ meant.no_spaces }
+        ensures within { (n : ℕ) → view.AreWithin n result }
     {
         Spaces {
             modules: Vec::new(alloc),

@@ -8,6 +8,7 @@ ghost use Rattle.component_linker.specs.Cause.{IsImportCause, IsExportCause, IsL
 ghost use Rattle.component_linker.specs.CoreNames.{root, standard, is_export_name, is_memory_name, is_outer_memory};
 ghost use Rattle.component_linker.specs.Linking.{core_import};
 ghost use Rattle.component_linker.specs.Places.{ImportPlace, ExportPlace, Placed, names_under, ArePlaces};
+ghost use Rattle.component_linker.specs.Table.{needed};
 ghost use Rattle.component_linker.specs.World.{function_item};
 ghost use Rattle.component_linker.specs.View as view;
 ghost use Rattle.wasm_format.specs.Module.{import_value, export_value, module_value};
@@ -356,4 +357,37 @@ fn export_place(
         return Err(Fault::WrongCoreType);
     }
     Ok(place)
+}
+
+/// The functions of the world that core imports stand for, in the order of the world.
+pub fn needed_functions<'s>(
+    alloc: Global,
+    linking: &Linking<'s, '_>,
+    table: &Table,
+) -> Result<Vec<&'s Function>, AllocError>
+    requires { ArePlaces (view.linking linking.now) (view.places table.now) }
+    ensures { IfOk result (λ v. map (λ f. function_item f.now) v.items ≡ needed (view.linking linking.now)) }
+{
+    let mut needed = Vec::new(alloc);
+    for function in &linking.world.imports {
+        let name = function.name.as_str();
+        if !table.legacy.is_new(name) || !table.standard.is_new(name) {
+            needed.push(function)?;
+        }
+    }
+    Ok(needed)
+}
+
+/// Each of these functions.
+pub fn references<'e>(
+    alloc: Global,
+    functions: &'e [Function],
+) -> Result<Vec<&'e Function>, AllocError>
+    ensures { IfOk result (λ v. map (λ f. function_item f.now) v.items ≡ map function_item functions.entry.now) }
+{
+    let mut found = Vec::new(alloc);
+    for function in functions {
+        found.push(function)?;
+    }
+    Ok(found)
 }

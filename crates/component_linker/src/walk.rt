@@ -1,6 +1,6 @@
 //! From the definitions of a component to what their indices stand for.
 
-ghost use Rattle.std.specs.Prelude.{◌≡◌, [], ◌∷◌, ◌++◌, map, slice_get, option_map, option_and_then, IfOk, IfErr, OnOk};
+ghost use Rattle.std.specs.Prelude.{◌≡◌, ◌≤◌, [], ◌∷◌, ◌++◌, map, slice_get, option_map, option_and_then, IfOk, IfErr, OnOk};
 ghost use Rattle.wasm_format.specs.Module.{module_value, import_value};
 ghost use Rattle.component_format.specs.Definition.{function_type_value, argument_value, inline_export_value, definition_value, core_module_of, instantiation_of, inline_of, alias_of, type_of, lift_of, lower_of, import_of, export_of};
 ghost use Rattle.component_linker.specs.Linking.{core_import, entity_type};
@@ -28,16 +28,24 @@ pub struct Walk<'c> {
     /// The places of the main module's exports by their names.
     exports: FirstPlaces<'c>,
     ghost named: { exports ≡ map (λ e. e.name.now) linking.now.main.exports.items },
+    /// How many bytes the component has.
+    length: usize,
     pub spaces: Spaces<'c>,
+    ghost within: { view.AreWithin length spaces },
 }
 
 impl<'c> Walk<'c> {
     ghost use Rattle.component_linker.specs.WalkView.{main_of_walk, spaces_of};
 
     /// A walk in front of the first definition.
-    pub fn new(alloc: Global, linking: &'c Linking<'c, 'c>) -> Result<Walk<'c>, Fault>
+    pub fn new(
+        alloc: Global,
+        linking: &'c Linking<'c, 'c>,
+        length: usize,
+    ) -> Result<Walk<'c>, Fault>
         ensures ok { IfOk result (λ w. spaces_of w ≡ meant.no_spaces) }
         ensures linking { IfOk result (λ w. w.linking.now ≡ linking.entry.now) }
+        ensures length { IfOk result (λ w. w.length ≡ length) }
         ensures memory { IfErr result (λ e. e ≡ Fault.OutOfMemory) }
     {
         let exports = export_places(alloc, linking)?;
@@ -45,6 +53,7 @@ impl<'c> Walk<'c> {
             alloc,
             linking,
             exports,
+            length,
             spaces: Spaces::new(alloc),
         })
     }
@@ -172,6 +181,7 @@ impl<'c> Walk<'c> {
     fn push_nothing(&mut self) -> Result<(), Fault>
         ensures ok { OnOk result (spaces_of self.new ≡ record (spaces_of self.old) { instances = (spaces_of self.old).instances ++ [] ∷ [] }) }
         ensures linking { self.new.linking ≡ self.old.linking }
+        ensures length { self.new.length ≡ self.old.length }
         ensures memory { IfErr result (λ e. e ≡ Fault.OutOfMemory) }
     {
         self.spaces.instances.push(CoreInstance::Nothing)?;
@@ -184,8 +194,10 @@ impl<'c> Walk<'c> {
         offset: usize,
         functions: Vec<Option<CoreFunction<'c>>>,
     ) -> Result<(), Fault>
+        requires { offset ≤ self.old.length }
         ensures ok { OnOk result (spaces_of self.new ≡ meant.with_instance (main_of_walk self.old) (spaces_of self.old) (map (option_map view.core_function) functions.entry.items)) }
         ensures linking { self.new.linking ≡ self.old.linking }
+        ensures length { self.new.length ≡ self.old.length }
         ensures memory { IfErr result (λ e. e ≡ Fault.OutOfMemory) }
     {
         let instance = if self.all_match(&functions) {
@@ -205,8 +217,10 @@ impl<'c> Walk<'c> {
         core_module: u32,
         args: &[Argument<'c>],
     ) -> Result<(), Fault>
+        requires { offset ≤ self.old.length }
         ensures ok { OnOk result (spaces_of self.new ≡ meant.after (main_of_walk self.old) (spaces_of self.old) (instantiation_of core_module (map argument_value args.now))) }
         ensures linking { self.new.linking ≡ self.old.linking }
+        ensures length { self.new.length ≡ self.old.length }
         ensures memory { IfErr result (λ e. e ≡ Fault.OutOfMemory) }
     {
         if !self.is_main(core_module) {
@@ -234,6 +248,7 @@ impl<'c> Walk<'c> {
     fn inline(&mut self, exports: &[InlineExport<'c>]) -> Result<(), Fault>
         ensures ok { OnOk result (spaces_of self.new ≡ meant.after (main_of_walk self.old) (spaces_of self.old) (inline_of (map inline_export_value exports.now))) }
         ensures linking { self.new.linking ≡ self.old.linking }
+        ensures length { self.new.length ≡ self.old.length }
         ensures memory { IfErr result (λ e. e ≡ Fault.OutOfMemory) }
     {
         let entries = self.entries(exports)?;
@@ -243,8 +258,10 @@ impl<'c> Walk<'c> {
 
     /// An imported function.
     fn import(&mut self, offset: usize, name: &'c str, ty: u32) -> Result<(), Fault>
+        requires { offset ≤ self.old.length }
         ensures ok { OnOk result (spaces_of self.new ≡ meant.after (main_of_walk self.old) (spaces_of self.old) (import_of name.entry.now ty)) }
         ensures linking { self.new.linking ≡ self.old.linking }
+        ensures length { self.new.length ≡ self.old.length }
         ensures memory { IfErr result (λ e. e ≡ Fault.OutOfMemory) }
     {
         let item = self.type_at(ty);
@@ -278,8 +295,10 @@ impl<'c> Walk<'c> {
         func: u32,
         ty: Option<u32>,
     ) -> Result<(), Fault>
+        requires { offset ≤ self.old.length }
         ensures ok { OnOk result (spaces_of self.new ≡ meant.after (main_of_walk self.old) (spaces_of self.old) (export_of name.entry.now func ty)) }
         ensures linking { self.new.linking ≡ self.old.linking }
+        ensures length { self.new.length ≡ self.old.length }
         ensures memory { IfErr result (λ e. e ≡ Fault.OutOfMemory) }
     {
         let item = self.ascribed(func, ty);
@@ -309,6 +328,7 @@ impl<'c> Walk<'c> {
     fn alias(&mut self, instance: u32, name: &str) -> Result<(), Fault>
         ensures ok { OnOk result (spaces_of self.new ≡ meant.after (main_of_walk self.old) (spaces_of self.old) (alias_of instance name.now)) }
         ensures linking { self.new.linking ≡ self.old.linking }
+        ensures length { self.new.length ≡ self.old.length }
         ensures memory { IfErr result (λ e. e ≡ Fault.OutOfMemory) }
     {
         let function = self.exported(instance, name);
@@ -320,6 +340,7 @@ impl<'c> Walk<'c> {
     fn push_lift(&mut self, core_func: u32, ty: u32) -> Result<(), Fault>
         ensures ok { OnOk result (spaces_of self.new ≡ meant.after (main_of_walk self.old) (spaces_of self.old) (lift_of core_func ty)) }
         ensures linking { self.new.linking ≡ self.old.linking }
+        ensures length { self.new.length ≡ self.old.length }
         ensures memory { IfErr result (λ e. e ≡ Fault.OutOfMemory) }
     {
         let function = self.lift(core_func, ty);
@@ -331,6 +352,7 @@ impl<'c> Walk<'c> {
     fn push_lower(&mut self, func: u32) -> Result<(), Fault>
         ensures ok { OnOk result (spaces_of self.new ≡ meant.after (main_of_walk self.old) (spaces_of self.old) (lower_of func)) }
         ensures linking { self.new.linking ≡ self.old.linking }
+        ensures length { self.new.length ≡ self.old.length }
         ensures memory { IfErr result (λ e. e ≡ Fault.OutOfMemory) }
     {
         let function = self.lower(func);
@@ -340,8 +362,10 @@ impl<'c> Walk<'c> {
 
     /// One core module more.
     fn push_module(&mut self, offset: usize, bytes: &'c [u8]) -> Result<(), Fault>
+        requires { offset ≤ self.old.length }
         ensures ok { OnOk result (spaces_of self.new ≡ meant.after (main_of_walk self.old) (spaces_of self.old) (core_module_of bytes.entry.now)) }
         ensures linking { self.new.linking ≡ self.old.linking }
+        ensures length { self.new.length ≡ self.old.length }
         ensures memory { IfErr result (λ e. e ≡ Fault.OutOfMemory) }
     {
         self.spaces.modules.push(ModuleEntry { offset, bytes })?;
@@ -352,6 +376,7 @@ impl<'c> Walk<'c> {
     fn push_type(&mut self, ty: &'c FunctionType<'c>) -> Result<(), Fault>
         ensures ok { OnOk result (spaces_of self.new ≡ meant.after (main_of_walk self.old) (spaces_of self.old) (type_of (function_type_value ty.entry.now))) }
         ensures linking { self.new.linking ≡ self.old.linking }
+        ensures length { self.new.length ≡ self.old.length }
         ensures memory { IfErr result (λ e. e ≡ Fault.OutOfMemory) }
     {
         self.spaces.types.push(TypeEntry { ty })?;
@@ -360,8 +385,10 @@ impl<'c> Walk<'c> {
 
     /// Goes over one definition.
     pub fn step(&mut self, definition: &'c Definition<'c>) -> Result<(), Fault>
+        requires { definition.now.offset ≤ self.old.length }
         ensures ok { OnOk result (spaces_of self.new ≡ meant.after (main_of_walk self.old) (spaces_of self.old) (definition_value definition.entry.now)) }
         ensures linking { self.new.linking ≡ self.old.linking }
+        ensures length { self.new.length ≡ self.old.length }
         ensures memory { IfErr result (λ e. e ≡ Fault.OutOfMemory) }
     {
         let offset = definition.offset;
@@ -437,7 +464,7 @@ fn imported<'c>(name: &'c str, ty: Option<&'c FunctionType<'c>>) -> Option<Compo
 }
 
 /// Whether what an import is given is of its core type.
-fn is_of_type(linking: &Linking, import: &Import, function: &Option<CoreFunction>) -> bool
+pub fn is_of_type(linking: &Linking, import: &Import, function: &Option<CoreFunction>) -> bool
     ensures { result ≡ meant.is_of_core_type (entity_type (module_value linking.now.main) import.now.ty) (option_map view.core_function function.now) }
 {
     match (linking.import_type(import), function) {

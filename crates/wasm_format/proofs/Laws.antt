@@ -5,19 +5,25 @@ use Rattle.std.proofs.lemmas.List.{append-nil, nil_from_length, take_at, drop_at
 use Rattle.wasm_format.specs.declared.fault.Fault.{Fault}
 use Rattle.wasm_format.specs.declared.fault.Rule.{Rule}
 use Rattle.wasm_format.specs.declared.fault.Rule.TheVariants as rules
-use Rattle.wasm_format.specs.Format.{Format, Whole, Behind, Each, fault_at, wrong, and_then, ◌>>=◌, yield, refuse, judge, such, byte_at, byte, chunk, repeat_at, repeat, exactly, begins, everything, keeping, beyond, sized}
+use Rattle.wasm_format.specs.Format.{Format, Whole, Behind, Each, fault_at, wrong, and_then, ◌>>=◌, yield, refuse, judge, such, byte_at, byte, chunk, repeat_at, repeat, exactly, begins, everything, keeping, beyond, BreaksInside, sized}
 
 pub record Found {X : Type 0} (f : Format X) (bytes : List ℕ) (x : X) (rest : List ℕ) : Type 0 where
   pub front : List ℕ
   pub parts : bytes ≡ front ++ rest
   pub formed : f.form front x
 
+-- the fault, where more bytes stand behind
+abbrev pub moved : Fault → List ℕ → Fault
+moved e more = record e { left = e.left + length more }
+
+-- What stays says is that a broken rule stays broken, whatever stands behind: more bytes may mend Short alone.
 pub record Law {X : Type 0} (f : Format X) : Type 0 where
   pub found : (bytes : List ℕ) (x : X) (rest : List ℕ) → f.read bytes ≡ Ok (x, rest) → Found f bytes x rest
   pub again : (front : List ℕ) (x : X) (rest : List ℕ) → f.form front x → f.read (front ++ rest) ≡ Ok (x, rest)
   pub within : (bytes : List ℕ) (e : Fault) → f.read bytes ≡ Err e → e.left ≤ length bytes
   pub stops : (bytes : List ℕ) (e : Fault) → f.read bytes ≡ Err e → f.breaks bytes e
   pub broken : (bytes : List ℕ) (e : Fault) → f.breaks bytes e → f.read bytes ≡ Err e
+  pub stays : (bytes : List ℕ) (e : Fault) (more : List ℕ) → (e.rule ≡ rules.Short → ⊥) → f.breaks bytes e → f.breaks (bytes ++ more) (moved e more)
 
 pub record WholeLaw {X : Type 0} (w : Whole X) : Type 0 where
   pub found : (bytes : List ℕ) (x : X) → w.read bytes ≡ Ok x → w.form bytes x
@@ -66,6 +72,18 @@ ok_is x y e = cc
 abbrev pub left_is : {d e : Fault} → d ≡ e → d.left ≡ e.left
 left_is h = ap (λ (t : Fault). t.left) h
 
+-- the rule of a fault
+abbrev pub rule_is : {d e : Fault} → d ≡ e → d.rule ≡ e.rule
+rule_is h = ap (λ (t : Fault). t.rule) h
+
+-- a fault where the bytes begin is one where they begin when more stand behind
+pub begins_still : (rule : Rule) (bytes : List ℕ) (e : Fault) (more : List ℕ) → e ≡ fault_at rule bytes → moved e more ≡ fault_at rule (bytes ++ more)
+begins_still rule bytes e more h = rw (h, length-append bytes more) refl
+
+-- bytes in two parts, and more behind them
+pub more_behind : (bytes front back more : List ℕ) → bytes ≡ front ++ back → bytes ++ more ≡ front ++ (back ++ more)
+more_behind bytes front back more parts = ap (λ (t : List ℕ). t ++ more) parts ∙ append_assoc front back more
+
 -- ---- then
 
 module _ {A B : Type 0} (f : Format A) (lf : Law f) (next : A × List ℕ → Result B Fault) (G : A → List ℕ → Type 0) (bytes : List ℕ) (e : Fault) where
@@ -87,6 +105,17 @@ module _ {A B : Type 0} (f : Format A) (lf : Law f) (next : A × List ℕ → Re
             let one : f.read bytes ≡ Ok (b.value, b.back) = ap f.read b.parts ∙ lf.again b.front b.value b.back b.first in
             rw one (second b.value b.back b.second)
       ]
+
+-- what is said of the bytes behind a part goes on being said
+pub behind_stays : {A : Type 0} (F : List ℕ → A → Type 0) (G H : A → List ℕ → Type 0) (bytes more : List ℕ) → ((x : A) (back : List ℕ) → G x back → H x (back ++ more)) → Behind F G bytes → Behind F H (bytes ++ more)
+behind_stays F G H bytes more second b =
+    record { value = b.value; front = b.front; back = b.back ++ more; parts = more_behind bytes b.front b.back more b.parts; first = b.first; second = second b.value b.back b.second }
+
+-- a break in a part, or behind it, stays
+pub bind_stays : {A : Type 0} (f : Format A) → Law f → (G H : A → List ℕ → Type 0) (bytes : List ℕ) (e : Fault) (more : List ℕ) → (e.rule ≡ rules.Short → ⊥)
+    → ((x : A) (back : List ℕ) → G x back → H x (back ++ more)) → f.breaks bytes e ⊎ Behind f.form G bytes → f.breaks (bytes ++ more) (moved e more) ⊎ Behind f.form H (bytes ++ more)
+bind_stays f lf G H bytes e more other second (inl first) = inl (lf.stays bytes e more other first)
+bind_stays f lf G H bytes e more other second (inr b) = inr (behind_stays f.form G H bytes more second b)
 
 pub bind_law : {A B : Type 0} (f : Format A) (g : A → Format B) → Law f → ((a : A) → Law (g a)) → Law (f >>= g)
 bind_law f g lf lg = record {
@@ -113,6 +142,7 @@ bind_law f g lf lg = record {
       ];
   stops = λ bytes e h. bind_stops f lf (λ a. (g a.0).read a.1) (λ a back. (g a).breaks back e) bytes e (λ a back k. (lg a).stops back e k) h;
   broken = λ bytes e h. bind_broken f lf (λ a. (g a.0).read a.1) (λ a back. (g a).breaks back e) bytes e (λ a back k. (lg a).broken back e k) h;
+  stays = λ bytes e more other h. bind_stays f lf (λ a back. (g a).breaks back e) (λ a back. (g a).breaks back (moved e more)) bytes e more other (λ a back k. (lg a).stays back e more other k) h;
 }
 
 pub yield_law : {X : Type 0} (x : X) → Law (yield x)
@@ -122,6 +152,7 @@ yield_law x = record {
   within = λ bytes d e. absurd cc;
   stops = λ bytes d e. absurd cc;
   broken = λ bytes d h. absurd h;
+  stays = λ bytes d more other h. absurd h;
 }
 
 pub refuse_law : {X : Type 0} (rule : Rule) → Law (refuse {X = X} rule)
@@ -131,6 +162,7 @@ refuse_law rule = record {
   within = λ bytes d e. let h : length bytes ≡ d.left = cc in omega arith;
   stops = λ bytes d e. cc;
   broken = λ bytes d h. rw h refl;
+  stays = λ bytes d more other h. begins_still rule bytes d more h;
 }
 
 pub judge_law : {X : Type 0} (r : Result X Rule) → Law (judge r)
@@ -148,11 +180,12 @@ byte_law = record {
     | [] ↦ λ h. let k : 0 ≡ d.left = cc in omega arith
     | c ∷ cs ↦ λ h. absurd cc
   ] e;
-  stops = λ bytes d e. elim bytes as (λ s. byte_at s ≡ Err d → (s ≡ []) × (d ≡ fault_at rules.Short [])) [
+  stops = λ bytes d e. elim bytes as (λ s. byte_at s ≡ Err d → byte.breaks s d) [
     | [] ↦ λ h. (refl, cc)
     | c ∷ cs ↦ λ h. absurd cc
   ] e;
   broken = λ bytes d h. rw (h.0, h.1) refl;
+  stays = λ bytes d more other h. absurd (other (rule_is h.1));
 }
 
 chunk_short : (n : ℕ) (bytes : List ℕ) (e : Fault) → (chunk n).read bytes ≡ Err e → (length bytes < n) × (e ≡ fault_at rules.Short bytes)
@@ -182,6 +215,7 @@ chunk_law n = record {
   broken = λ bytes d h.
       let small : ltb (length bytes) n ≡ true = lt-ltb _ _ h.0 in
       rw (small, h.1) refl;
+  stays = λ bytes d more other h. absurd (other (rule_is h.1));
 }
 
 pub such_law : {X : Type 0} (rule : Rule) (test : X → Bool) (f : Format X) → Law f → Law (such rule test f)
@@ -205,6 +239,9 @@ such_law {X = X} rule test f lf = record {
   broken = λ bytes e h.
       bind_broken f lf (λ x. cond (test x.0) (Ok x) (wrong rule bytes)) (λ x back. (test x ≡ false) × (e ≡ fault_at rule bytes)) bytes e
       (λ x back k. rw (k.0, k.1) refl) h;
+  stays = λ bytes e more other h.
+      bind_stays f lf (λ x back. (test x ≡ false) × (e ≡ fault_at rule bytes)) (λ x back. (test x ≡ false) × (moved e more ≡ fault_at rule (bytes ++ more))) bytes e more other
+      (λ x back k. (k.0, begins_still rule bytes e more k.1)) h;
 }
 
 in_three : (bytes a b c d : List ℕ) → bytes ≡ a ++ b → b ≡ c ++ d → bytes ≡ (a ++ c) ++ d
@@ -292,6 +329,9 @@ repeat_law f lf n = record {
   within = repeat_within f lf n;
   stops = repeat_stops f lf n;
   broken = λ bytes e h. ap (repeat_at f.read n) h.parts ∙ repeat_broken f lf n h.front h.back h.value e h.first h.second.0 h.second.1;
+  stays = λ bytes e more other h.
+      behind_stays (Each f.form) (λ xs back. (length xs < n) × f.breaks back e) (λ xs back. (length xs < n) × f.breaks back (moved e more)) bytes more
+      (λ xs back k. (k.0, lf.stays back e more other k.1)) h;
 }
 
 -- ---- all of the bytes
@@ -388,6 +428,13 @@ beyond_err : {X : Type 0} (k : ℕ) (r : Result X Fault) (d : Fault) → beyond 
 beyond_err k (Ok y) d e = absurd cc
 beyond_err k (Err f) d e = (f, refl, cc)
 
+-- what is broken inside stays, whatever its rule
+pub inside_stays : (B : List ℕ → Fault → Type 0) (n : ℕ) (bytes : List ℕ) (e : Fault) (more : List ℕ) → BreaksInside B n bytes e → BreaksInside B n (bytes ++ more) (moved e more)
+inside_stays B n bytes e more h =
+    let further : length h.after + length more ≡ length (h.after ++ more) = sym (length-append h.after more) in
+    let farther : h.inner.left + length h.after + length more ≡ h.inner.left + length (h.after ++ more) = omega (arith, further) in
+    record { inside = h.inside; after = h.after ++ more; parts = more_behind bytes h.inside h.after more h.parts; size = h.size; inner = h.inner; broken = h.broken; place = rw (h.place, farther) refl }
+
 -- where reading so many bytes stops: there are fewer, or within them
 sized_stops : {X : Type 0} (w : Whole X) → WholeLaw w → (n : ℕ) (bytes : List ℕ) (e : Fault) → (sized w n).read bytes ≡ Err e → (sized w n).breaks bytes e
 sized_stops {X = X} w lw n bytes e h =
@@ -420,6 +467,10 @@ sized_broken w lw n bytes e (inr h) =
     let long : ltb (length (h.inside ++ h.after)) n ≡ false = le-ltb _ _ (omega (arith, h.size, length-append h.inside h.after)) in
     rw (h.parts, long, take_at h.inside h.after n h.size, drop_at h.inside h.after n h.size, lw.broken h.inside h.inner h.broken, h.place) refl
 
+sized_stays : {X : Type 0} (w : Whole X) (n : ℕ) (bytes : List ℕ) (e : Fault) (more : List ℕ) → (e.rule ≡ rules.Short → ⊥) → (sized w n).breaks bytes e → (sized w n).breaks (bytes ++ more) (moved e more)
+sized_stays w n bytes e more other (inl h) = absurd (other (rule_is h.1))
+sized_stays w n bytes e more other (inr h) = inr (inside_stays w.breaks n bytes e more h)
+
 pub sized_law : {X : Type 0} (w : Whole X) → WholeLaw w → (n : ℕ) → Law (sized w n)
 sized_law {X = X} w lw n = record {
   found = λ bytes x rest e.
@@ -444,4 +495,5 @@ sized_law {X = X} w lw n = record {
       ];
   stops = sized_stops w lw n;
   broken = sized_broken w lw n;
+  stays = sized_stays w n;
 }

@@ -5,7 +5,7 @@ use Rattle.std.proofs.lemmas.List.{length-append}
 use Rattle.wasm_format.specs.declared.fault.Fault.{Fault}
 use Rattle.wasm_format.specs.declared.fault.Rule.TheVariants as rules
 use Rattle.wasm_format.specs.Format.{Format, fault_at, wrong, and_then, IsLeb, AllGoOn, EndsWithin, GoesOn, BreaksU32, leb_at, u32_at, u32, vec, repeat}
-use Rattle.wasm_format.proofs.Laws.{Found, Law, bind_ok, bind_err, test_ok, test_err, left_is, ok_is, bind_law, repeat_law}
+use Rattle.wasm_format.proofs.Laws.{Found, Law, moved, bind_ok, bind_err, test_ok, test_err, left_is, rule_is, begins_still, more_behind, ok_is, bind_law, repeat_law}
 
 record Digits (k : ℕ) (bytes : List ℕ) (n : ℕ) (rest : List ℕ) : Type 0 where
   front : List ℕ
@@ -101,6 +101,13 @@ u32_broken bytes e (inr (inr h)) =
     let large : ltb h.number (2 ^ 32) ≡ false = le-ltb _ _ h.large in
     rw (one, large, h.place) refl
 
+u32_stays : (bytes : List ℕ) (e : Fault) (more : List ℕ) → (e.rule ≡ rules.Short → ⊥) → BreaksU32 bytes e → BreaksU32 (bytes ++ more) (moved e more)
+u32_stays bytes e more other (inl h) = absurd (other (rule_is h.place))
+u32_stays bytes e more other (inr (inl h)) =
+    inr (inl (record { front = h.front; back = h.back ++ more; parts = more_behind bytes h.front h.back more h.parts; digits = h.digits; many = h.many; place = begins_still rules.Number h.back e more h.place }))
+u32_stays bytes e more other (inr (inr h)) =
+    inr (inr (record { number = h.number; front = h.front; back = h.back ++ more; parts = more_behind bytes h.front h.back more h.parts; digits = h.digits; short = h.short; large = h.large; place = begins_still rules.Number bytes e more h.place }))
+
 pub u32_law : Law u32
 unfolding u32_at
 u32_law = record {
@@ -122,6 +129,7 @@ u32_law = record {
       ];
   stops = u32_stops;
   broken = u32_broken;
+  stays = u32_stays;
 }
 
 pub vec_law : {X : Type 0} (f : Format X) → Law f → Law (vec f)

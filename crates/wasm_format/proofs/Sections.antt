@@ -14,7 +14,7 @@ use Rattle.wasm_format.specs.Format.{and_then, wrong, CanMove}
 use Rattle.wasm_format.specs.Fault.{Fails}
 use Rattle.wasm_format.specs.Module.{ModuleValue, no_module}
 use Rattle.wasm_format.specs.Grammar.{content, section, section_start, Sections, ends, goes, IsModule, header, SectionsBreak, here, later, BreaksModule, sections_at, start, module_at, fault_of, IsModuleFault}
-use Rattle.wasm_format.proofs.Laws.{bind_ok, bind_err, refused, some_left, not_empty}
+use Rattle.wasm_format.proofs.Laws.{moved, bind_ok, bind_err, ok_is, more_behind, refused, some_left, not_empty}
 use Rattle.wasm_format.proofs.GrammarLaws.{content_law, section_law, start_law}
 
 ended : {A : Type 0} (b : Bool) (x y : A) (r : Result A Fault) → cond b (Ok x) r ≡ Ok y → ((b ≡ true) × (x ≡ y)) ⊎ ((b ≡ false) × (r ≡ Ok y))
@@ -144,6 +144,29 @@ pub one_break : (bytes : List ℕ) (e : Fault) → BreaksModule bytes e → ((m 
 one_break bytes e h =
     let one = module_broken bytes e h in
     ((λ m k. let two = module_again bytes m k in cc), (λ d k. let two = module_broken bytes d k in cc))
+
+-- bytes are at most one module
+pub one_module : (bytes : List ℕ) (m n : ModuleValue) → IsModule bytes m → IsModule bytes n → m ≡ n
+one_module bytes m n h k = ok_is m n (sym (module_again bytes m h) ∙ module_again bytes n k)
+
+-- sections that break a rule other than Short break it whatever stands behind
+sections_stay : (m : ModuleValue) (bytes : List ℕ) (e : Fault) (more : List ℕ) → (e.rule ≡ rules.Short → ⊥) → SectionsBreak m bytes e → SectionsBreak m (bytes ++ more) (moved e more)
+sections_stay m bytes e more other (here _ _ _ some breaks) =
+    here m (bytes ++ more) (moved e more) (omega (arith, length-append bytes more)) ((section_law m).stays bytes e more other breaks)
+sections_stay m bytes e more other (later _ next _ front back _ parts first second) =
+    later m next (bytes ++ more) front (back ++ more) (moved e more) (more_behind bytes front back more parts) first (sections_stay next back e more other second)
+
+-- bytes that break a rule other than Short break it whatever stands behind
+pub break_stays : (bytes : List ℕ) (e : Fault) (more : List ℕ) → (e.rule ≡ rules.Short → ⊥) → BreaksModule bytes e → BreaksModule (bytes ++ more) (moved e more)
+break_stays bytes e more other (inl h) = inl (start_law.stays bytes e more other h)
+break_stays bytes e more other (inr h) =
+    inr (record { back = h.back ++ more; parts = more_behind bytes header h.back more h.parts; each = sections_stay no_module h.back e more other h.each })
+
+-- no module begins with such bytes
+pub none_begins : (bytes : List ℕ) (e : Fault) (more : List ℕ) → BreaksModule bytes e → (e.rule ≡ rules.Short → ⊥) → BreaksModule (bytes ++ more) (moved e more) × ((m : ModuleValue) → IsModule (bytes ++ more) m → ⊥)
+none_begins bytes e more h other =
+    let still = break_stays bytes e more other h in
+    (still, (one_break (bytes ++ more) (moved e more) still).0)
 
 -- ---- what the loop over the sections keeps
 

@@ -4,7 +4,7 @@ use Rattle.std.proofs.lemmas.List.{take_all}
 use Rattle.component_linker.specs.World.{function_item}
 use Rattle.component_linker.specs.View as view
 use Rattle.component_linker.proofs.WrittenLinks.{wanted, wanted_are_needed}
-use Rattle.component_linker.proofs.encoder.needed_functions.Goals as goal
+use Rattle.component_linker.proofs.table.needed_functions.Goals as goal
 
 pub returns : goal.returns
 returns c =
