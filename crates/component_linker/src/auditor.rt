@@ -430,14 +430,12 @@ fn is_own_lowering(
 fn is_lowering_of(function: &Option<CoreFunction>, name: &str) -> bool
     ensures { result ≡ is_lowering_of (option_map seen.core_function function.now) name.now }
 {
-    match function {
-        Some(
-            CoreFunction {
-                end: CoreEnd::Lowered(of),
-                ..
-            },
-        ) => *of == name,
-        _ => false,
+    let Some(function) = function else {
+        return false;
+    };
+    match function.end {
+        CoreEnd::Lowered(of) => of == name,
+        CoreEnd::Exported(_) | CoreEnd::Elsewhere => false,
     }
 }
 
@@ -497,13 +495,11 @@ fn own_export<'m>(
 fn is_lift_of(item: Option<ComponentFunction>, name: &str) -> bool
     ensures { result ≡ is_lift_of (option_map seen.component_function item.entry) name.now }
 {
-    match item {
-        Some(
-            ComponentFunction {
-                end: FunctionEnd::Lifted(of),
-                ..
-            },
-        ) => of == name,
-        _ => false,
+    let Some(function) = item else {
+        return false;
+    };
+    match function.end {
+        FunctionEnd::Lifted(of) => of == name,
+        FunctionEnd::Imported(_) | FunctionEnd::Elsewhere => false,
     }
 }

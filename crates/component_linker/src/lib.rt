@@ -42,8 +42,18 @@ pub use world::{Function, Package, PackageName, Param, World};
 #[cfg(test)]
 mod tests;
 #[cfg(test)]
+mod tests_emit;
+#[cfg(test)]
+mod tests_forms;
+#[cfg(test)]
+mod tests_memory;
+#[cfg(test)]
 mod tests_program;
 #[cfg(test)]
 mod tests_rows;
 #[cfg(test)]
+mod tests_table;
+#[cfg(test)]
 mod tests_text;
+#[cfg(test)]
+mod tests_writers;

@@ -1,0 +1,87 @@
+#!/bin/sh
+# checks/memory.sh
+#
+# Refuses each request for memory in turn, from the first on, until a run meets no refusal: in the tests of
+# `component_linker` that are made for it (src/tests_memory.rt), which are to pass each time, and in the program, which
+# is to give its whole answer, or `error: out of memory`, status 1 and no answer. It needs a C compiler, cc, for the
+# library that refuses, and the kit's command `rt` where the program or the tests aren't built yet.
+set -u
+
+top=$(CDPATH='' cd -- "$(dirname -- "$0")/.." && pwd) || exit 2
+crates=$top/crates
+program=$crates/component_linker_program/out/component_linker_program
+tests=$crates/component_linker/out/component_linker_tests
+example=$top/examples/first
+folder=$(mktemp -d) || exit 2
+trap 'rm -rf "$folder"' EXIT
+
+fail() {
+    printf 'checks/memory.sh: %s\n' "$1" >&2
+    exit 1
+}
+
+# refused N WORD..: runs the words with the Nth request refused, and says whether one was
+refused() {
+    rm -f "$folder/note"
+    at=$1
+    shift
+    REFUSE_AT=$at REFUSE_NOTE=$folder/note LD_PRELOAD=$folder/refuse.so "$@" >"$folder/out" 2>"$folder/err"
+    status=$?
+    [ -e "$folder/note" ]
+}
+
+# check_test NAME
+check_test() {
+    at=1
+    while refused "$at" "$tests" "$1"; do
+        [ "$status" -eq 0 ] || fail "$1: status $status where request $at is refused: $(cat "$folder/out" "$folder/err")"
+        at=$((at + 1))
+    done
+    [ "$status" -eq 0 ] || fail "$1: status $status where nothing is refused"
+    [ "$at" -gt 1 ] || fail "$1: no request was refused"
+    echo "$1: $((at - 1)) requests, ok"
+}
+
+# check_program ANSWER WORD..: the answer is a file
+check_program() {
+    answer=$1
+    shift
+    at=1
+    while refused "$at" "$program" "$@"; do
+        if [ "$status" -eq 0 ]; then
+            cmp -s "$answer" "$folder/out" || fail "$1: another answer where request $at is refused"
+        else
+            [ "$status" -eq 1 ] || fail "$1: status $status where request $at is refused"
+            [ ! -s "$folder/out" ] || fail "$1: a part of the answer where request $at is refused"
+            [ "$(cat "$folder/err")" = 'error: out of memory' ] || fail "$1: request $at: $(cat "$folder/err")"
+        fi
+        at=$((at + 1))
+    done
+    [ "$status" -eq 0 ] || fail "$1: status $status where nothing is refused"
+    cmp -s "$answer" "$folder/out" || fail "$1: another answer where nothing is refused"
+    [ "$at" -gt 1 ] || fail "$1: no request was refused"
+    echo "$1: $((at - 1)) requests, ok"
+}
+
+cc -O1 -shared -fPIC -o "$folder/refuse.so" "$top/checks/refuse.c" -ldl || exit 2
+"$top/component_linker" >"$folder/log" || exit 2
+(cd "$crates/component_linker" && rt test -- where_memory_is_refused) >"$folder/log" 2>&1 || fail "$(tail -n 20 "$folder/log")"
+
+for name in takes_inputs links builds audits; do
+    check_test "tests_memory::${name}_where_memory_is_refused"
+done
+
+printf 'import main $root f lower $root f - - - - -\n' >"$folder/links"
+printf 'yes\n' >"$folder/audit"
+{
+    printf '\0asm\015\0\001\0\007\005\001\100\0\001\0\012\006\001\0\001f\001\0\001\033'
+    cat "$example/m.wasm"
+    printf '\010\005\001\001\0\0\0\002\022\002\001\001\001f\0\0\0\0\001\005$root\022\0'
+} >"$folder/build"
+for action in links build audit; do
+    component=
+    [ "$action" != audit ] || component=component=$folder/build
+    # An absent component is no word.
+    check_program "$folder/$action" "$action" --world w "text=$example/a.wit" "main==$example/m.wasm" \
+        ${component:+"$component"}
+done
