@@ -28,3 +28,5 @@ pub mod Searching
 pub mod JudgedLinks
 pub mod Walked
 pub mod Exact
+pub mod LineWords
+pub mod Files

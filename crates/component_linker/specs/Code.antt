@@ -49,3 +49,7 @@ name faults.WrongCoreType = codes "WrongCoreType"
 name faults.MissingCoreExport = codes "MissingCoreExport"
 name faults.TooLarge = codes "TooLarge"
 name faults.OutOfMemory = codes "OutOfMemory"
+
+-- its place in a text: none has one
+abbrev pub place : Fault → Option (List ℕ)
+place fault = None

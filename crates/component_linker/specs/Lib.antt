@@ -20,6 +20,7 @@ pub mod Meaning
 pub mod Right
 pub mod Line
 pub mod Program
+pub mod Stops
 pub mod Texts
 pub mod Answered
 pub mod Judged

@@ -1,7 +1,7 @@
 -- The command line: its options and positionals, and what they say.
-use Rattle.std.specs.Prelude.{◌≡◌, ◌≢◌, ℕ, ◌<◌, Bool, true, false, List, ◌∷◌, ◌++◌, Some, codes, length, slice_index, string_bytes, option_map, map, filter}
+use Rattle.std.specs.Prelude.{◌≡◌, ◌≢◌, ℕ, ◌<◌, Bool, true, false, List, [], ◌∷◌, ◌++◌, Some, codes, length, slice_index, string_bytes, option_map, map, filter}
 use Rattle.std.specs.List.{AllByRecursion as Each}
-use Rattle.clap.specs.Words.{App, Row, Rule, Text, new_app, new_rule, with_rule, first_of, all_of, takes, matches_of}
+use Rattle.clap.specs.Words.{App, Row, Rule, Text, new_app, new_rule, with_rule, first_of, all_of, fault_of, matches_of}
 use Rattle.clap.specs.declared.builder.ArgAction.TheVariants.{Set, Append}
 use Rattle.component_linker.specs.declared.line.Action.{Action}
 use Rattle.component_linker.specs.declared.line.Action.TheVariants.{Build, Links, Audit}
@@ -87,24 +87,30 @@ pub record HasFields (rows : List Row) (l : Line) : Type 0 where
   pub out : first_of (codes "out") rows ≡ option_map string_bytes l.out
   pub inputs : (words : List Text) × (all_of (codes "input") rows ≡ Some words) × AreInputs words l.inputs.items
 
+-- clap takes the words: no step of its parse fails
+abbrev pub IsTaken : List Text → Type 0
+IsTaken words = fault_of line_app words ≡ []
+
 -- the line is that of the words, and its inputs fit its action
 pub record IsLine (words : List Text) (l : Line) : Type 0 where
+  pub taken : IsTaken words
   pub fields : HasFields (matches_of line_app words) l
   pub fits : Fits l
 
 -- clap's text is given only for words that don't fit the command
 abbrev pub IsClapCause : List Text → LineFault → Type 0
-IsClapCause words (faults.Clap text) = takes line_app words ≢ true
+IsClapCause words (faults.Clap text) = IsTaken words → ⊥
 IsClapCause words faults.Usage = ⊥
 IsClapCause words faults.OutOfMemory = Unit {0}
 
--- as `IsClapCause`, and usage where the fields give no line
+-- as `IsClapCause`, and usage only where clap takes the words and they are no line
 abbrev pub IsLineCause : List Text → LineFault → Type 0
-IsLineCause words (faults.Clap text) = takes line_app words ≢ true
-IsLineCause words faults.Usage = Unit {0}
+IsLineCause words (faults.Clap text) = IsTaken words → ⊥
+IsLineCause words faults.Usage = IsTaken words × ((l : Line) → IsLine words l → ⊥)
 IsLineCause words faults.OutOfMemory = Unit {0}
 
-abbrev pub IsNotClap : LineFault → Type 0
-IsNotClap (faults.Clap text) = ⊥
-IsNotClap faults.Usage = Unit {0}
-IsNotClap faults.OutOfMemory = Unit {0}
+-- usage only where nothing is as wanted
+abbrev pub IsUsageCause : {T : Type 0} → (T → Type 0) → LineFault → Type 0
+IsUsageCause IsWanted (faults.Clap text) = ⊥
+IsUsageCause {T} IsWanted faults.Usage = (x : T) → IsWanted x → ⊥
+IsUsageCause IsWanted faults.OutOfMemory = Unit {0}

@@ -1,6 +1,8 @@
 -- What the program writes.
-use Rattle.std.specs.Prelude.{◌≡◌, ℕ, ◌<◌, List, [], ◌∷◌, ◌++◌, Option, Some, None, IsSome, length, map, fold, string_bytes}
+use Rattle.std.specs.Prelude.{◌≡◌, ℕ, ◌<◌, List, [], ◌∷◌, ◌++◌, Option, Some, None, IsSome, if◌then◌else◌, length, map, fold, bytes_eq, string_bytes}
 use Rattle.std.specs.List.{AllByRecursion as Each, HoldsAt, flat_map}
+use Rattle.std.specs.Option.{option_or}
+use Rattle.std.specs.Str.{is_utf8}
 use Rattle.std.specs.Borrow.{Bor}
 use Rattle.std.specs.Io.KnownBytes.{Appends}
 use Rattle.component_linker.specs.declared.line.Action.{Action}
@@ -16,6 +18,7 @@ use Rattle.component_linker.specs.Input.{Input, SourceText, ModuleInput, first_o
 use Rattle.component_linker.specs.declared.verdict.Verdict.{Verdict}
 use Rattle.component_linker.specs.declared.verdict.Verdict.TheVariants.{Yes, Finding}
 use Rattle.component_linker.specs.Answered.{IsBuilt, IsLinkTable}
+use Rattle.component_linker.specs.Judged.{IsJudged}
 use Rattle.component_linker.specs.Links.{link_value}
 use Rattle.component_linker.specs.Texts.{lines_text, verdict_text}
 
@@ -29,9 +32,34 @@ abbrev pub verdict_status : Verdict → ℕ
 verdict_status Yes = 0
 verdict_status (Finding kind offset) = 1
 
--- bytes stand among the files under a path
+-- the bytes of the first file under a path
+abbrev pub file_at : List (Bor (List ℕ) × Bor (List ℕ)) → List ℕ → Option (List ℕ)
+file_at [] path = None
+file_at (f ∷ files) path = if bytes_eq f.0.now path then Some f.1.now else file_at files path
+
 abbrev pub IsFile : List (Bor (List ℕ) × Bor (List ℕ)) → List ℕ → List ℕ → Type 0
-IsFile files path bytes = (k : ℕ) × (k < length files) × HoldsAt (λ f. (f.0.now ≡ path) × (f.1.now ≡ bytes)) files k
+IsFile files path bytes = file_at files path ≡ Some bytes
+
+-- the path, if no file is there
+abbrev pub missing_path : List ℕ → Option (List ℕ) → Option (List ℕ)
+missing_path path None = Some path
+missing_path path (Some bytes) = None
+
+-- the path, if no text is there
+abbrev pub textless_path : List ℕ → Option (List ℕ) → Option (List ℕ)
+textless_path path None = Some path
+textless_path path (Some bytes) = if is_utf8 bytes then None else Some path
+
+-- the path of an input whose file isn't there, or is to be a text and isn't one
+abbrev pub input_fault : List (Bor (List ℕ) × Bor (List ℕ)) → LineInput → Option (List ℕ)
+input_fault files (inputs.Text path) = textless_path (string_bytes path) (file_at files (string_bytes path))
+input_fault files (inputs.Main world path) = missing_path (string_bytes path) (file_at files (string_bytes path))
+input_fault files (inputs.Component path) = missing_path (string_bytes path) (file_at files (string_bytes path))
+
+-- the first such path of the inputs
+abbrev pub file_fault : List (Bor (List ℕ) × Bor (List ℕ)) → List LineInput → Option (List ℕ)
+file_fault files [] = None
+file_fault files (i ∷ is) = option_or (input_fault files i) (file_fault files is)
 
 abbrev pub text_path : LineInput → List (List ℕ)
 text_path (inputs.Text path) = string_bytes path ∷ []
@@ -100,9 +128,9 @@ WritesComponent given status old new = (status ≡ 0) × ((bytes : List ℕ) × 
 abbrev pub WritesLinks : Input → ℕ → Option (List ℕ) → Option (List ℕ) → Type 0
 WritesLinks given status old new = (status ≡ 0) × ((links : List Link) × IsLinkTable given (map link_value links) × Appends old new (lines_text links))
 
--- what the writer has more is a verdict on a component, and the exit status is its
+-- what the writer has more is a verdict on a component, which is so of its bytes, and the exit status is its
 abbrev pub WritesVerdict : Input → List ℕ → ℕ → Option (List ℕ) → Option (List ℕ) → Type 0
-WritesVerdict given bytes status old new = (verdict : Verdict) × (status ≡ verdict_status verdict) × Appends old new (verdict_text verdict ++ 10 ∷ [])
+WritesVerdict given bytes status old new = (verdict : Verdict) × IsJudged given bytes verdict × (status ≡ verdict_status verdict) × Appends old new (verdict_text verdict ++ 10 ∷ [])
 
 -- the answer to an input that an action gives
 abbrev pub IsAnswer : List (Bor (List ℕ) × Bor (List ℕ)) → List LineInput → Input → Action → ℕ → Option (List ℕ) → Option (List ℕ) → Type 0

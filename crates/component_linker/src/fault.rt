@@ -1,6 +1,6 @@
 //! Why a call of a session is refused.
 
-ghost use Rattle.std.specs.Prelude.{◌≡◌, None, option_map};
+ghost use Rattle.std.specs.Prelude.{◌≡◌, option_map};
 ghost use Rattle.component_linker.specs.Code as spec;
 
 use std::alloc::{AllocError, AllocFailed};
@@ -128,7 +128,7 @@ impl Fault {
 
     /// Its place in a text, as `PATH:LINE:COLUMN`; no fault of this stage has one.
     pub fn place(&self) -> Option<&str>
-        ensures { result ≡ None }
+        ensures { option_map (λ s. s.now) result ≡ spec.place self.now }
     {
         None
     }

@@ -2,7 +2,7 @@
 
 ghost use Rattle.std.specs.Prelude.{◌≡◌, ◌≢◌, ◌<◌, ◌++◌, ◌∷◌, false, codes, map, filter, length, IfOk, IfErr, IfSome, IfNone, MatchOption, option_map, string_bytes};
 ghost use Rattle.clap.specs.Words.{rule_of, app_of, rows_of, found_of, first_of, all_of, matches_of};
-ghost use Rattle.component_linker.specs.Line.{action_rule, world_rule, out_rule, input_rule, line_app, action_named, HasNoEquals, IsInput, AreInputs, HasFields, IsLine, IsClapCause, IsLineCause, IsNotClap, is_text, is_component, components_of, Fits};
+ghost use Rattle.component_linker.specs.Line.{action_rule, world_rule, out_rule, input_rule, line_app, action_named, HasNoEquals, IsInput, AreInputs, HasFields, IsLine, IsTaken, IsClapCause, IsLineCause, IsUsageCause, is_text, is_component, components_of, Fits};
 
 use clap::error::ErrorKind;
 use clap::{Arg, ArgAction, ArgMatches, Command};
@@ -132,6 +132,7 @@ fn command<'a>(alloc: Global) -> Result<Command<'a>, AllocError>
 
 fn matches<'a>(alloc: Global, words: &'a [&'a str]) -> Result<ArgMatches<'a>, LineFault>
     ensures ok { IfOk result (λ m. rows_of (found_of m) ≡ matches_of line_app (map (λ w. w.now) words.entry.now)) }
+    ensures taken { IfOk result (λ _. IsTaken (map (λ w. w.now) words.entry.now)) }
     ensures err { IfErr result (IsClapCause (map (λ w. w.now) words.entry.now)) }
 {
     let command = command(alloc)?;
@@ -173,7 +174,7 @@ fn cut(text: &str) -> Option<(&str, &str)>
 /// The input that is a main module, from what stands behind `main=`.
 fn main_of(alloc: Global, rest: &str) -> Result<Input, LineFault>
     ensures ok { IfOk result (IsInput (codes "main=" ++ rest.now)) }
-    ensures err { IfErr result IsNotClap }
+    ensures err { IfErr result (IsUsageCause (IsInput (codes "main=" ++ rest.now))) }
 {
     let Some((world, path)) = cut(rest) else {
         return Err(LineFault::Usage);
@@ -187,7 +188,7 @@ fn main_of(alloc: Global, rest: &str) -> Result<Input, LineFault>
 /// The input that a word is.
 fn input_of(alloc: Global, word: &str) -> Result<Input, LineFault>
     ensures ok { IfOk result (IsInput word.now) }
-    ensures err { IfErr result IsNotClap }
+    ensures err { IfErr result (IsUsageCause (IsInput word.now)) }
 {
     let Some((kind, rest)) = cut(word) else {
         return Err(LineFault::Usage);
@@ -203,7 +204,7 @@ fn input_of(alloc: Global, word: &str) -> Result<Input, LineFault>
 /// The inputs that words are, in order.
 fn inputs_of(alloc: Global, words: &[&str]) -> Result<Vec<Input>, LineFault>
     ensures ok { IfOk result (λ v. AreInputs (map (λ w. w.now) words.now) v.items) }
-    ensures err { IfErr result IsNotClap }
+    ensures err { IfErr result (IsUsageCause (AreInputs (map (λ w. w.now) words.now))) }
 {
     let mut inputs = Vec::new(alloc);
     for word in words {
@@ -234,7 +235,7 @@ fn values_at<'a, 'f>(found: &'f ArgMatches<'a>, id: &str) -> Option<&'f [&'a str
 /// The line that matches hold.
 fn line_of(alloc: Global, found: &ArgMatches<'_>) -> Result<Line, LineFault>
     ensures ok { IfOk result (HasFields (rows_of (found_of found.now))) }
-    ensures err { IfErr result IsNotClap }
+    ensures err { IfErr result (IsUsageCause (HasFields (rows_of (found_of found.now)))) }
 {
     let Some(action) = value_at(found, "action") else {
         return Err(LineFault::Usage);

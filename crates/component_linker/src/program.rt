@@ -1,8 +1,10 @@
 //! The program over two writers and the files that could be read.
 
-ghost use Rattle.std.specs.Prelude.{◌≡◌, ◌<◌, ◌++◌, ◌∷◌, [], None, IfErr, OnErr, IfOk, OnOk};
+ghost use Rattle.std.specs.Prelude.{◌≡◌, ◌<◌, ◌++◌, ◌∷◌, ◌⊎◌, [], None, Some, IfErr, OnErr, IfOk, OnOk, option_map};
+ghost use Rattle.std.specs.List.{flat_map};
 ghost use Rattle.std.specs.Io.KnownBytes.{Appends};
-ghost use Rattle.component_linker.specs.Program.{line_status, verdict_status, IsAnswer, IsFile, AreSources, AddsSource, ReplacesMain, last_main, IsMain, HasComponent, WritesComponent, WritesLinks, WritesVerdict, Handed, IsOutcome};
+ghost use Rattle.component_linker.specs.Program.{line_status, verdict_status, IsAnswer, IsFile, file_at, missing_path, textless_path, input_fault, file_fault, AreSources, AddsSource, ReplacesMain, last_main, IsMain, HasComponent, WritesComponent, WritesLinks, WritesVerdict, Handed, IsOutcome};
+ghost use Rattle.component_linker.specs.Stops.{AppendsFront, refusal_text, fault_text, stop_text, stop_status, line_fault_text, out_path, IsFileStop, IsInputStop, IsHandStop, IsPrepareStop, IsComponentStop, IsAnswerStop, IsStop, IsStopped};
 ghost use Rattle.component_linker.specs.Input.{empty_input, first_options};
 ghost use Rattle.component_linker.specs.declared.line.Action.TheVariants.{Build, Links, Audit};
 
@@ -64,7 +66,8 @@ impl<'a, T: Drop> From<AllocFailed<T>> for Stop<'a> {
 
 /// The bytes of the file at a path.
 fn bytes_at<'a>(files: &'a [(&'a str, &'a [u8])], path: &'a str) -> Result<&'a [u8], Stop<'a>>
-    ensures { IfOk result (λ b. IsFile files.entry.now path.entry.now b.now) }
+    ensures ok { IfOk result (λ b. IsFile files.entry.now path.entry.now b.now) }
+    ensures err { IfErr result (IsFileStop (λ p. missing_path path.entry.now (file_at files.entry.now path.entry.now) ≡ Some p)) }
 {
     for (name, bytes) in files {
         if *name == path {
@@ -76,7 +79,9 @@ fn bytes_at<'a>(files: &'a [(&'a str, &'a [u8])], path: &'a str) -> Result<&'a [
 
 /// The text of the file at a path.
 fn text_at<'a>(files: &'a [(&'a str, &'a [u8])], path: &'a str) -> Result<&'a str, Stop<'a>>
-    ensures { IfOk result (λ t. IsFile files.entry.now path.entry.now t.now) }
+    ensures ok { IfOk result (λ t. IsFile files.entry.now path.entry.now t.now) }
+    ensures text { IfOk result (λ _. textless_path path.entry.now (file_at files.entry.now path.entry.now) ≡ None) }
+    ensures err { IfErr result (IsFileStop (λ p. textless_path path.entry.now (file_at files.entry.now path.entry.now) ≡ Some p)) }
 {
     let bytes = bytes_at(files, path)?;
     match str::from_utf8(bytes) {
@@ -85,20 +90,29 @@ fn text_at<'a>(files: &'a [(&'a str, &'a [u8])], path: &'a str) -> Result<&'a st
     }
 }
 
-/// Looks at all files of the line, in order.
-fn look_at_files<'a>(
-    inputs: &'a [Input],
-    files: &'a [(&'a str, &'a [u8])],
-) -> Result<(), Stop<'a>> {
-    for input in inputs {
-        match input {
-            Input::Text(path) => {
-                text_at(files, path.as_str())?;
-            }
-            Input::Main { path, .. } | Input::Component(path) => {
-                bytes_at(files, path.as_str())?;
-            }
+/// Looks at the file of an input.
+fn look_at<'a>(input: &'a Input, files: &'a [(&'a str, &'a [u8])]) -> Result<(), Stop<'a>>
+    ensures ok { OnOk result (input_fault files.entry.now input.entry.now ≡ None) }
+    ensures err { IfErr result (IsFileStop (λ p. input_fault files.entry.now input.entry.now ≡ Some p)) }
+{
+    match input {
+        Input::Text(path) => {
+            text_at(files, path.as_str())?;
         }
+        Input::Main { path, .. } | Input::Component(path) => {
+            bytes_at(files, path.as_str())?;
+        }
+    }
+    Ok(())
+}
+
+/// Looks at all files of the line, in order.
+fn look_at_files<'a>(inputs: &'a [Input], files: &'a [(&'a str, &'a [u8])]) -> Result<(), Stop<'a>>
+    ensures ok { OnOk result (file_fault files.entry.now inputs.entry.now ≡ None) }
+    ensures err { IfErr result (IsFileStop (λ p. file_fault files.entry.now inputs.entry.now ≡ Some p)) }
+{
+    for input in inputs {
+        look_at(input, files)?;
     }
     Ok(())
 }
@@ -112,6 +126,7 @@ fn push_text<'a>(
 ) -> Result<(), Stop<'a>>
     ensures sources { OnOk result (AddsSource files.entry.now input.entry.now session.old.sources session.new.sources) }
     ensures rest { OnOk result ((session.new.main ≡ session.old.main) × (session.new.options ≡ session.old.options)) }
+    ensures err { IfErr result (IsInputStop files.entry.now input.entry.now) }
 {
     if let Input::Text(path) = input {
         let contents = text_at(files, path.as_str())?;
@@ -130,6 +145,7 @@ fn push_texts<'a>(
     requires { session.old.sources ≡ [] }
     ensures sources { OnOk result (AreSources files.entry.now inputs.entry.now session.new.sources) }
     ensures rest { OnOk result ((session.new.main ≡ session.old.main) × (session.new.options ≡ session.old.options)) }
+    ensures err { IfErr result (IsHandStop files.entry.now inputs.entry.now) }
 {
     let mut packages = Vec::new(alloc);
     for input in inputs {
@@ -148,6 +164,7 @@ fn hand_in_one<'a>(
 ) -> Result<(), Stop<'a>>
     ensures main { OnOk result (ReplacesMain files.entry.now input.entry.now session.old.main session.new.main) }
     ensures rest { OnOk result ((session.new.sources ≡ session.old.sources) × (session.new.world ≡ session.old.world) × (session.new.options ≡ session.old.options)) }
+    ensures err { IfErr result (IsInputStop files.entry.now input.entry.now) }
 {
     if let Input::Main { world, path } = input {
         let named = if world.is_empty() {
@@ -173,6 +190,7 @@ fn hand_in<'a>(
     requires { session.old.main ≡ None }
     ensures main { OnOk result (IsMain files.entry.now (last_main inputs.entry.now) session.new.main) }
     ensures rest { OnOk result ((session.new.sources ≡ session.old.sources) × (session.new.world ≡ session.old.world) × (session.new.options ≡ session.old.options)) }
+    ensures err { IfErr result (IsHandStop files.entry.now inputs.entry.now) }
 {
     for input in inputs {
         hand_in_one(session, packages, chosen, input, files)?;
@@ -185,7 +203,8 @@ fn component_in<'a>(
     inputs: &'a [Input],
     files: &'a [(&'a str, &'a [u8])],
 ) -> Result<&'a [u8], Stop<'a>>
-    ensures { IfOk result (λ b. HasComponent files.entry.now inputs.entry.now b.now) }
+    ensures ok { IfOk result (λ b. HasComponent files.entry.now inputs.entry.now b.now) }
+    ensures err { IfErr result (IsComponentStop files.entry.now inputs.entry.now) }
 {
     for input in inputs {
         if let Input::Component(path) = input {
@@ -197,7 +216,8 @@ fn component_in<'a>(
 
 /// Writes an answer, whose fault is one of OUT.
 fn put<'a, O: Write>(bytes: &[u8], line: &'a Line, out: &mut O) -> Result<(), Stop<'a>>
-    ensures { OnOk result (Appends (O.contents out.old) (O.contents out.new) bytes.now) }
+    ensures ok { OnOk result (Appends (O.contents out.old) (O.contents out.new) bytes.now) }
+    ensures err { IfErr result (IsFileStop (λ p. p ≡ out_path line.entry.now)) }
 {
     match emit(bytes, out) {
         Ok(()) => Ok(()),
@@ -210,7 +230,8 @@ fn put<'a, O: Write>(bytes: &[u8], line: &'a Line, out: &mut O) -> Result<(), St
 
 /// Writes the component.
 fn build<'a, O: Write>(session: &Session<'a>, line: &'a Line, out: &mut O) -> Result<u8, Stop<'a>>
-    ensures { IfOk result (λ s. WritesComponent session.now s (O.contents out.old) (O.contents out.new)) }
+    ensures ok { IfOk result (λ s. WritesComponent session.now s (O.contents out.old) (O.contents out.new)) }
+    ensures err { IfErr result (IsAnswerStop line.entry.now.inputs.items session.now Build (out_path line.entry.now) (out.new ≡ out.old)) }
 {
     let bytes = session.build()?;
     put(&bytes, line, out)?;
@@ -224,7 +245,8 @@ fn list<'a, O: Write>(
     line: &'a Line,
     out: &mut O,
 ) -> Result<u8, Stop<'a>>
-    ensures { IfOk result (λ s. WritesLinks session.now s (O.contents out.old) (O.contents out.new)) }
+    ensures ok { IfOk result (λ s. WritesLinks session.now s (O.contents out.old) (O.contents out.new)) }
+    ensures err { IfErr result (IsAnswerStop line.entry.now.inputs.items session.now Links (out_path line.entry.now) (out.new ≡ out.old)) }
 {
     let links = session.links()?;
     let text = lines_of(alloc, &links)?;
@@ -249,7 +271,8 @@ fn judge<'a, O: Write>(
     line: &'a Line,
     out: &mut O,
 ) -> Result<u8, Stop<'a>>
-    ensures { IfOk result (λ s. WritesVerdict session.now component.now s (O.contents out.old) (O.contents out.new)) }
+    ensures ok { IfOk result (λ s. WritesVerdict session.now component.now s (O.contents out.old) (O.contents out.new)) }
+    ensures err { IfErr result (IsAnswerStop line.entry.now.inputs.items session.now Audit (out_path line.entry.now) (out.new ≡ out.old)) }
 {
     let verdict = audit(session, component)?;
     let mut text = verdict.to_text(alloc)?;
@@ -266,7 +289,9 @@ fn act<'a, O: Write>(
     files: &'a [(&'a str, &'a [u8])],
     out: &mut O,
 ) -> Result<u8, Stop<'a>>
-    ensures { IfOk result (λ s. IsAnswer files.entry.now line.entry.now.inputs.items session.now line.entry.now.action s (O.contents out.old) (O.contents out.new)) }
+    requires { file_fault files.now line.now.inputs.items ≡ None }
+    ensures ok { IfOk result (λ s. IsAnswer files.entry.now line.entry.now.inputs.items session.now line.entry.now.action s (O.contents out.old) (O.contents out.new)) }
+    ensures err { IfErr result (IsAnswerStop line.entry.now.inputs.items session.now line.entry.now.action (out_path line.entry.now) (out.new ≡ out.old)) }
 {
     match line.action {
         Action::Build => build(session, line, out),
@@ -284,7 +309,9 @@ fn prepare<'a>(
     line: &'a Line,
     files: &'a [(&'a str, &'a [u8])],
 ) -> Result<Session<'a>, Stop<'a>>
-    ensures { IfOk result (Handed files.entry.now line.entry.now.inputs.items) }
+    ensures ok { IfOk result (Handed files.entry.now line.entry.now.inputs.items) }
+    ensures files { IfOk result (λ _. file_fault files.entry.now line.entry.now.inputs.items ≡ None) }
+    ensures err { IfErr result (IsPrepareStop files.entry.now line.entry.now.inputs.items) }
 {
     look_at_files(&line.inputs, files)?;
     let mut session = Session::new(alloc);
@@ -302,29 +329,48 @@ fn perform<'a, O: Write>(
     files: &'a [(&'a str, &'a [u8])],
     out: &mut O,
 ) -> Result<u8, Stop<'a>>
-    ensures { IfOk result (λ s. IsOutcome files.entry.now line.entry.now s (O.contents out.old) (O.contents out.new)) }
+    ensures ok { IfOk result (λ s. IsOutcome files.entry.now line.entry.now s (O.contents out.old) (O.contents out.new)) }
+    ensures err { IfErr result (IsStop files.entry.now line.entry.now (out.new ≡ out.old)) }
 {
     let session = prepare(alloc, line, files)?;
     act(alloc, &session, line, files, out)
 }
 
+/// Writes texts in order, as far as the writer takes them.
+fn write_texts<E: Write>(texts: &[&str], err: &mut E)
+    ensures { AppendsFront (E.contents err.old) (E.contents err.new) (flat_map (λ t. t.now) texts.now) }
+{
+    for text in texts {
+        if emit(text.as_bytes(), err).is_err() {
+            return;
+        }
+    }
+}
+
+/// Writes the line of a refusal that has a code.
+fn report_coded<'a, E: Write>(code: &'a str, name: &'a str, place: Option<&'a str>, err: &mut E)
+    ensures { AppendsFront (E.contents err.old) (E.contents err.new) (refusal_text (Some code.now) name.now (option_map (λ p. p.now) place.entry)) }
+{
+    match place {
+        Some(place) => write_texts(&["error: ", code, " ", name, " at ", place, "\n"], err),
+        None => write_texts(&["error: ", code, " ", name, "\n"], err),
+    }
+}
+
 /// Writes the line of a refusal.
-fn report_fault<E: Write>(fault: &Fault, err: &mut E) {
-    let Some(code) = fault.code() else {
-        let _ = writeln!(err, "error: out of memory");
-        return;
-    };
-    let name = fault.name();
-    let _ = match fault.place() {
-        Some(place) => writeln!(err, "error: {code} {name} at {place}"),
-        None => writeln!(err, "error: {code} {name}"),
-    };
+fn report_fault<E: Write>(fault: &Fault, err: &mut E)
+    ensures { AppendsFront (E.contents err.old) (E.contents err.new) (fault_text fault.now) }
+{
+    match fault.code() {
+        Some(code) => report_coded(code, fault.name(), fault.place(), err),
+        None => write_texts(&["error: out of memory\n"], err),
+    }
 }
 
 /// Writes why the program ends, and answers the exit status.
 fn report<E: Write>(stop: &Stop<'_>, err: &mut E) -> u8
-    ensures stopped { 0 < result }
-    ensures known { result < 4 }
+    ensures status { result ≡ stop_status stop.now }
+    ensures text { AppendsFront (E.contents err.old) (E.contents err.new) (stop_text stop.now) }
 {
     match stop {
         Stop::Refused(fault) => {
@@ -332,11 +378,11 @@ fn report<E: Write>(stop: &Stop<'_>, err: &mut E) -> u8
             1
         }
         Stop::File(path) => {
-            let _ = writeln!(err, "error: file {path}");
+            write_texts(&["error: file ", path, "\n"], err);
             3
         }
         Stop::Usage => {
-            let _ = writeln!(err, "error: usage");
+            write_texts(&["error: usage\n"], err);
             2
         }
     }
@@ -344,19 +390,20 @@ fn report<E: Write>(stop: &Stop<'_>, err: &mut E) -> u8
 
 /// Writes why the words are no line, and answers the exit status.
 fn report_line<E: Write>(fault: &LineFault, err: &mut E) -> u8
-    ensures { result ≡ line_status fault.now }
+    ensures status { result ≡ line_status fault.now }
+    ensures text { AppendsFront (E.contents err.old) (E.contents err.new) (line_fault_text fault.now) }
 {
     match fault {
         LineFault::Clap(text) => {
-            let _ = write!(err, "{text}");
+            write_texts(&[text.as_str()], err);
             2
         }
         LineFault::Usage => {
-            let _ = writeln!(err, "error: usage");
+            write_texts(&["error: usage\n"], err);
             2
         }
         LineFault::OutOfMemory => {
-            let _ = writeln!(err, "error: out of memory");
+            write_texts(&["error: out of memory\n"], err);
             1
         }
     }
@@ -377,6 +424,8 @@ pub fn run<O: Write, E: Write>(
     ensures done { result ≡ 0 → IfOk line.now (λ l. IsOutcome files.now l 0 (O.contents out.old) (O.contents out.new)) }
     ensures line { IfErr line.now (λ fault. result ≡ line_status fault) }
     ensures silent { OnErr line.now (out.new ≡ out.old) }
+    ensures says { IfErr line.now (λ fault. AppendsFront (E.contents err.old) (E.contents err.new) (line_fault_text fault)) }
+    ensures ends { IfOk line.now (λ l. (IsOutcome files.now l result (O.contents out.old) (O.contents out.new) × (err.new ≡ err.old)) ⊎ IsStopped files.now l (out.new ≡ out.old) result (E.contents err.old) (E.contents err.new)) }
 {
     let line = match line {
         Ok(line) => line,

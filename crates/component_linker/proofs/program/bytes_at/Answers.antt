@@ -1,13 +1,11 @@
-use Rattle.std.proofs.Common.{◌≡◌, ◌∙◌, List, ℕ, Bor, [], sym, ap, slice_index_or}
-use Rattle.std.proofs.lemmas.List.{get_or_default}
-use Rattle.std.proofs.lemmas.Slice.Eq.{bytes_eq-Decides}
+use Rattle.std.proofs.Common.{◌∙◌, sym}
+use Rattle.component_linker.proofs.Files.{file_here, file_later}
 use Rattle.component_linker.proofs.program.bytes_at.Goals as goal
 
-pub returns-then-eq : goal.returns-then-eq
-returns-then-eq c =
-    let files = c.args.files.now in
-    let k = c.loop-name.name-index in
-    let none : Bor (List ℕ) × Bor (List ℕ) = (record { ref_ptr = (0, 0); now = [] }, record { ref_ptr = (0, 0); now = [] }) in
-    let same : (d : Bor (List ℕ) × Bor (List ℕ)) → slice_index_or files k d ≡ slice_index_or files k none = λ d. get_or_default files k d none c.loop-name-test.true in
-    let named : (slice_index_or files k none).0.now ≡ c.args.path.now = (bytes_eq-Decides _ _).0 (sym c.eq.ensures ∙ c.if-eq.true) in
-    (k, c.loop-name-test.true, λ d. (ap (λ f. f.0.now) (same d) ∙ named, ap (λ f. f.1.now) (same d)))
+pub returns-then-eq-clause-ok : goal.returns-then-eq-clause-ok
+returns-then-eq-clause-ok c =
+    file_here c.args.files.now c.args.path.now c.loop-name.name-index _ c.loop-name-test.true c.loop-name.invariant (sym c.eq.ensures ∙ c.if-eq.true)
+
+pub loop-name-preserved : goal.loop-name-preserved
+loop-name-preserved c =
+    file_later c.args.files.now c.args.path.now c.loop-name.name-index _ c.loop-name-test.true c.loop-name.invariant (sym c.eq.ensures ∙ c.if-eq.false)

@@ -1,0 +1,9 @@
+use Rattle.component_linker.proofs.Results.{moved_up}
+use Rattle.component_linker.proofs.Files.{hand_at}
+use Rattle.component_linker.proofs.program.push_texts.Goals as goal
+
+pub returns-in_err-push_text-clause-err : goal.returns-in_err-push_text-clause-err
+returns-in_err-push_text-clause-err c =
+    let stop = c.in_err-push_text.field-0.0 in
+    moved_up c.from_residual.result stop _ c.from_residual.ensures.1
+    (hand_at c.args.files.now c.args.inputs.now c.loop-input.input-index c.input-item.result stop c.loop-input-test.true c.input-item.is c.in_err-push_text.ensures.err)
