@@ -11,3 +11,4 @@ pub mod Comments
 pub mod Lexemes
 pub mod Texts
 pub mod Versions
+pub mod Identifiers

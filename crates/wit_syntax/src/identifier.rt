@@ -1,7 +1,9 @@
 //! Identifiers.
 
 ghost use Rattle.std.specs.Prelude.{◌≡◌};
+ghost use Rattle.std.specs.Bool.{Decides};
 ghost use Rattle.wit_syntax.specs.Identifier as spec;
+ghost use Rattle.wit_syntax.specs.Identifier.{IsIdentifier};
 
 /// How much of an identifier has been read.
 #[derive(Clone, Copy, Debug, PartialEq, Eq)]
@@ -54,9 +56,18 @@ fn ends(part: Part) -> bool
     matches!(part, Part::Digits | Part::Small | Part::Capital)
 }
 
-#[tactic(auto, unfolding(crate::specs::Identifier::is_identifier))]
-/// Whether `text` is an identifier: words joined by hyphens, each of letters of one case and digits, of which the first begins with a letter.
+/// Whether `text` is an identifier: words joined by hyphens, each of letters of one case and digits, of which the first
+/// begins with a letter (WIT, Identifiers).
 pub fn is_identifier(text: &str) -> bool
+    ensures decides { Decides result (IsIdentifier text.now) }
+    ensures same { result ≡ spec.is_identifier text.now }
+{
+    goes_on_to_the_end(text)
+}
+
+/// Whether `text` goes on byte by byte as an identifier, up to the end of a word.
+#[tactic(auto, unfolding(crate::specs::Identifier::is_identifier))]
+fn goes_on_to_the_end(text: &str) -> bool
     ensures { result ≡ spec.is_identifier text.now }
 {
     let mut part = Part::Start;
