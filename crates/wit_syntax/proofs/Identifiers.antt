@@ -1,16 +1,15 @@
 -- Reading an identifier byte by byte finds the words that it is made of.
-use Rattle.std.proofs.Common.{◌≡◌, ℕ, suc, ◌≤◌, ◌<◌, ◌⊎◌, Bool, true, false, ◌&&◌, ◌||◌, List, [], ◌∷◌, ◌++◌, length, Option, Some, None, refl, sym, ap, subst, ◌∙◌, arith, inl, inr}
+use Rattle.std.proofs.Common.{◌≡◌, ℕ, ◌≤◌, ◌<◌, ◌⊎◌, Bool, true, false, List, [], ◌∷◌, Some, refl, sym, ap, ◌∙◌, arith, inl, inr}
 use Rattle.std.specs.Prelude.{◌==◌, nat_le}
 use Rattle.std.specs.Bool.{Decides}
 use Rattle.std.specs.Int.{is_in_range}
 use Rattle.std.specs.Char.{is_ascii_digit, is_ascii_lowercase, is_ascii_uppercase}
 use Rattle.std.specs.List.{AllByRecursion as Each, list_all}
-use Rattle.std.proofs.lemmas.Bool.{cases_Bool, and_parts, and_from, leb-true, lt-leb, leb-false}
+use Rattle.std.proofs.lemmas.Bool.{cases_Bool, and_parts, leb-true, lt-leb}
 use Rattle.std.proofs.lemmas.Bool.Decides.{Decides-eqb}
-use Rattle.std.proofs.lemmas.Option.{same_Some}
 use Rattle.wit_syntax.specs.declared.identifier.Part.{Part}
 use Rattle.wit_syntax.specs.declared.identifier.Part.TheVariants.{Start, Hyphen, Digits, Small, Capital}
-use Rattle.wit_syntax.specs.Identifier.{is_small, is_capital, HasOneCase, IsWord, BeginsWithLetter, joined, IsIdentifier, letter, next, ends, and_then, goes_on, is_identifier}
+use Rattle.wit_syntax.specs.Identifier.{is_small, is_capital, HasOneCase, IsWord, BeginsWithLetter, joined, IsIdentifier, next, and_then, goes_on, is_identifier}
 
 -- ---- classes of bytes
 

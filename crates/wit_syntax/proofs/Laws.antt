@@ -8,7 +8,7 @@ use Rattle.wit_syntax.specs.declared.fault.Rule.{Rule}
 use Rattle.wit_syntax.specs.declared.fault.Rule.TheVariants as rule
 use Rattle.wit_syntax.specs.declared.token.Kind.{Kind}
 use Rattle.wit_syntax.specs.Token.{What, Tok, plain, number, version, ident, same_kind}
-use Rattle.wit_syntax.specs.Production.{Outcome, Production, wrong, and_then, ◌>>=◌, yield, refuse, is_kind, sees, after, Stands, sign, judged, one_at, one, branch, Next, none, goes, next_at, next_front}
+use Rattle.wit_syntax.specs.Production.{Outcome, Production, wrong, and_then, ◌>>=◌, yield, refuse, is_kind, sees, after, Stands, sign, judged, one_at, one, branch, Next, none, goes}
 use Rattle.wit_syntax.specs.Place.{ahead}
 
 -- ---- what stands next

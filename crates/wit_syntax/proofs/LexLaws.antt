@@ -1,5 +1,5 @@
 -- Going over a text lexeme by lexeme.
-use Rattle.std.proofs.Common.{◌≡◌, ℕ, zero, suc, ◌-◌, ◌<◌, ◌≤◌, List, [], ◌∷◌, ◌++◌, length, take, drop, Option, Some, None, Result, Ok, Err, refl, sym, ap, ◌∙◌, arith, append_assoc, append-nil}
+use Rattle.std.proofs.Common.{◌≡◌, ℕ, zero, suc, ◌-◌, ◌<◌, ◌≤◌, List, [], ◌∷◌, ◌++◌, length, take, drop, Result, Ok, Err, refl, sym, ap, ◌∙◌, arith, append_assoc, append-nil}
 use Rattle.wit_syntax.specs.declared.fault.Fault.{Fault}
 use Rattle.wit_syntax.specs.declared.fault.Rule.{Rule}
 use Rattle.wit_syntax.specs.declared.fault.ReadError.{ReadError}
@@ -7,7 +7,7 @@ use Rattle.wit_syntax.specs.declared.fault.ReadError.TheVariants as errors
 use Rattle.wit_syntax.specs.declared.lex.Lexeme.{Lexeme}
 use Rattle.wit_syntax.specs.Outcome.{Fails}
 use Rattle.wit_syntax.specs.Token.{What, Tok}
-use Rattle.wit_syntax.specs.Lex.{Text, lexeme_at, Piece, nothing, doc, token, piece, piece_of, piece_at, behind, placed, and_then, put, prepend, lex_step, lex_from, lex_bare, Kept, with_last, with_docs, with_front}
+use Rattle.wit_syntax.specs.Lex.{Text, lexeme_at, Piece, nothing, doc, token, piece, piece_of, piece_at, behind, placed, and_then, prepend, lex_step, lex_from, lex_bare, Kept, with_last, with_docs, with_front}
 
 pub lex_from-drop : (n : ℕ) (z : Text) → lex_from n z ≡ lex_from 0 (drop n z)
 lex_from-drop zero z = refl

@@ -22,7 +22,7 @@ use Rattle.wit_syntax.specs.Version.{IsVersion, IsVersionFront, HasNoVersion, ve
 use Rattle.wit_syntax.proofs.Versions.{version_found, version_only, no_version_found, no_version_only, version_digit}
 use Rattle.wit_syntax.proofs.Comments.{comment_scanned, comment_inside}
 use Rattle.wit_syntax.proofs.LexLaws.{lex_from-drop, drop-cons}
-use Rattle.wit_syntax.specs.Lexical.{IsRun, IsSign, IsBlank, IsLexeme, IsLineComment, IsComment, Adds, Lexes, LexesText, ends, goes}
+use Rattle.wit_syntax.specs.Lexical.{IsRun, IsSign, IsLexeme, Adds, Lexes, LexesText, ends, goes}
 
 abbrev given : List Tok → Result (List Tok) Fault
 given ts = Ok ts

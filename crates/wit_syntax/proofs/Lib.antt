@@ -12,3 +12,4 @@ pub mod Lexemes
 pub mod Texts
 pub mod Versions
 pub mod Identifiers
+pub mod Sources

@@ -1,5 +1,5 @@
 -- What stands for a lexeme, and for the tokens of a text.
-use Rattle.std.specs.Prelude.{◌≡◌, ℕ, ◌+◌, ◌≤◌, ◌⊎◌, Bool, true, false, ◌&&◌, ◌==◌, List, [], ◌∷◌, ◌++◌, Option, Some, None, Result, Ok, Err}
+use Rattle.std.specs.Prelude.{◌≡◌, ℕ, ◌+◌, ◌≤◌, ◌⊎◌, Bool, true, false, ◌&&◌, ◌==◌, List, [], ◌∷◌, ◌++◌, Result, Ok, Err}
 use Rattle.wit_syntax.specs.declared.fault.Rule.{Rule}
 use Rattle.wit_syntax.specs.declared.lex.Class.{Class}
 use Rattle.wit_syntax.specs.declared.lex.Class.TheVariants as class

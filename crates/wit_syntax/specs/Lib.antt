@@ -10,3 +10,4 @@ pub mod TextGrammar
 pub mod View
 pub mod Place
 pub mod Version
+pub mod Sources

@@ -1,5 +1,5 @@
 -- A token without where it lies in memory.
-use Rattle.std.specs.Prelude.{ℕ, Bool, List, [], map}
+use Rattle.std.specs.Prelude.{ℕ, Bool, List, map}
 use denote.Enum.Bare.{sameb}
 use Rattle.wit_syntax.specs.contracts.token.Kind.{the_type}
 use Rattle.wit_syntax.specs.declared.token.Kind.{Kind}

@@ -8,6 +8,7 @@ mod keyword;
 mod law;
 mod lex;
 mod parse;
+mod source_map;
 mod token;
 mod tokens;
 mod tree;
@@ -17,11 +18,14 @@ pub use fault::{Fault, ReadError, Rule};
 pub use identifier::is_identifier;
 pub use law::law_one_reading;
 pub use parse::{parse_file, parse_use_path};
+pub use source_map::{SourceFault, SourceMap, Span};
 pub use token::{DocumentedToken, Kind, Token};
 pub use tokens::read_tokens;
 pub use tree::{File, FunctionTree, ItemTree, Parameter, Primitive, Side, UsePath};
 
 #[cfg(test)]
 mod tests;
+#[cfg(test)]
+mod tests_source_map;
 #[cfg(test)]
 mod tests_version;
