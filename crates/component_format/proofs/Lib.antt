@@ -1,6 +1,7 @@
 pub mod Lists
 pub mod Parts
 pub mod Sizes
+pub mod Firsts
 pub mod Runs
 pub mod Spelled
 pub mod Adding
@@ -9,3 +10,4 @@ pub mod GrammarLaws
 pub mod Sections
 pub mod Loops
 pub mod OneList
+pub mod Distinct

@@ -1,10 +1,10 @@
 -- A section holds as many bytes as definitions, or more.
 use Rattle.std.proofs.Common.{◌≡◌, ℕ, ◌≤◌, ◌<◌, ◌^◌, true, false, not, eqb, List, [], ◌∷◌, length, refl, ap, subst, ◌∙◌, arith, length-append}
 use Rattle.std.specs.List.{flat_map, list_all}
-use Rattle.std.proofs.lemmas.Bool.{lt-ltb, ltb-true, eqb-true}
+use Rattle.std.proofs.lemmas.Bool.{lt-ltb, le-ltb, ltb-true, eqb-true}
 use Rattle.std.proofs.lemmas.List.Concat.{flat_map-cons}
 use Rattle.component_format.specs.Definition.{DefinitionValue, core_module_of, instantiation_of, inline_of, alias_of, type_of, lift_of, lower_of, import_of, export_of}
-use Rattle.component_format.specs.Spelling.{u32_bytes, vec_bytes, item_bytes, section_id, joins, section_content, fits, run_fits, IsRun}
+use Rattle.component_format.specs.Spelling.{u32_bytes, vec_bytes, item_bytes, section_id, joins, content_in, section_content, fits, run_fits}
 use Rattle.component_format.proofs.Parts.{both, tested}
 
 pub below : (n : ℕ) → fits n ≡ true → n < 2 ^ 32
@@ -55,7 +55,7 @@ count_fits d ds join small =
     let inside : section_content (d ∷ ds) ≡ vec_bytes item_bytes (d ∷ ds) = rw t refl in
     lt-ltb _ _ (omega (arith, below _ small, ap length inside, length-append (u32_bytes (length (d ∷ ds))) (flat_map item_bytes (d ∷ ds)), items_long (section_id d) (d ∷ ds) t (refl, run_in (section_id d) ds join))))
 
-pub count_is_large : (run : List DefinitionValue) → IsRun run → 2 ^ 32 ≤ length run → run_fits run ≡ false
-count_is_large [] one large = absurd (omega arith)
-count_is_large (d ∷ ds) one large =
-    tested (run_fits (d ∷ ds)) (run_fits (d ∷ ds) ≡ false) (λ t. absurd (omega (arith, below _ (count_fits d ds one t)))) (λ t. t)
+pub vector_is_large : (id : ℕ) (run : List DefinitionValue) → eqb id 1 ≡ false → list_all (joins id) run ≡ true → 2 ^ 32 ≤ length run → fits (length (content_in id run)) ≡ false
+vector_is_large id run other one large =
+    let inside : content_in id run ≡ vec_bytes item_bytes run = rw other refl in
+    le-ltb _ _ (omega (arith, ap length inside, length-append (u32_bytes (length run)) (flat_map item_bytes run), items_long id run other (run_in id run one)))

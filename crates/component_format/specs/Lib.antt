@@ -4,3 +4,5 @@ pub mod Found
 pub mod Grammar
 pub mod Spelling
 pub mod Fault
+pub mod Room
+pub mod Distinct

@@ -5,6 +5,7 @@ ghost use Rattle.wasm_format.specs.declared.fault.Fault.{Fault};
 ghost use Rattle.wasm_format.specs.declared.fault.Rule.TheVariants as rules;
 ghost use Rattle.component_format.specs.Grammar.{IsComponent, BreaksComponent};
 ghost use Rattle.component_format.specs.Definition.{DefinitionValue, definition_values};
+ghost use Rattle.component_format.specs.Distinct.{NamesAreDistinct};
 
 use crate::building::ComponentBuilder;
 use crate::component::{Component, read_component};
@@ -25,6 +26,12 @@ pub fn law_a_break_is_one()
 /// is left out, since more bytes may mend it; that no component ends so is `law_a_break_is_one`.
 pub fn law_a_break_stays()
     ensures { (bytes : List ℕ) (e : Fault) (more : List ℕ) → BreaksComponent bytes e → (e.rule ≡ rules.Short → ⊥) → BreaksComponent (bytes ++ more) (record e { left = e.left + length more }) × ((ds : List DefinitionValue) → IsComponent (bytes ++ more) ds → ⊥) }
+{}
+
+/// No two imports of a component have one name, no two exports, and no two parameters, arguments or inline exports of one
+/// definition.
+pub fn law_names_are_distinct()
+    ensures { (bytes : List ℕ) (ds : List DefinitionValue) → IsComponent bytes ds → NamesAreDistinct ds }
 {}
 
 /// Reading what was built gives what was added, want of memory aside: `ComponentBuilder::finish` answers bytes that

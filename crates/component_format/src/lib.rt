@@ -19,7 +19,10 @@ pub use definition::{
     PrimitiveType, SectionId,
 };
 pub use fault::{BuildFault, FormatFault};
-pub use laws::{law_a_break_is_one, law_a_break_stays, law_one_list, law_reading_what_was_built};
+pub use laws::{
+    law_a_break_is_one, law_a_break_stays, law_names_are_distinct, law_one_list,
+    law_reading_what_was_built,
+};
 pub use names::Names;
 
 #[cfg(test)]

@@ -13,7 +13,7 @@ use Rattle.component_format.proofs.section_writing.write_component.Goals as goal
 pub loop-at-init : goal.loop-at-init
 loop-at-init c =
     let ds = definition_values c.args.definitions.now in
-    let is_header : c.extend_from_slice.new.self.items ≡ header = c.in_ok-extend_from_slice.ensures.items ∙ ap (λ s. s ++ header) c.new-out.ensures.items in
+    let is_header : c.extend_from_slice.new.self.items ≡ header = c.in_ok-extend_from_slice.ensures.items ∙ ap (λ s. s ++ header) c.in_ok-out.ensures.items in
     subst (λ s. Written ds s 0) (sym is_header) (none_written ds)
 
 pub put_section-requires : goal.put_section-requires
