@@ -14,11 +14,13 @@ use Rattle.std.specs.Result.{is_err}
 use Rattle.std.proofs.lemmas.Str.{IsUtf8-from_is_utf8, is_utf8-from_IsUtf8}
 use Rattle.component_linker.specs.declared.line.Input.{Input}
 use Rattle.component_linker.specs.declared.line.Input.TheVariants as inputs
+use Rattle.component_linker.specs.declared.fault.Fault.{Fault}
+use Rattle.component_linker.specs.declared.line.Line.{Line}
 use Rattle.component_linker.specs.declared.output.EmitFault.{EmitFault}
 use Rattle.component_linker.specs.declared.program.Stop.{Stop}
 use Rattle.component_linker.specs.declared.program.Stop.TheVariants as stops
 use Rattle.component_linker.specs.Program.{file_at, missing_path, textless_path, input_fault, file_fault}
-use Rattle.component_linker.specs.Stops.{AppendsFront, IsInputCause, IsInputStop, IsFileStop, IsHandStop, IsPrepareStop, IsComponentStop}
+use Rattle.component_linker.specs.Stops.{AppendsFront, HasCause, IsInputStop, IsFileStop, IsHandCause, IsHandStop, IsPrepareStop, IsComponentStop}
 use Rattle.component_linker.specs.Line.{is_component}
 use Rattle.component_linker.proofs.PlacesLists.{filter_no}
 
@@ -74,10 +76,10 @@ module _ (files : List (Bor (List ℕ) × Bor (List ℕ))) where
   faulty (i ∷ is) zero d p lt some none = let bad : Some p ≡ None = sym (rw some refl) ∙ none in cc
   faulty (i ∷ is) (suc k) d p lt some none = faulty is k d p (omega arith) some (or_none (input_fault files i) (file_fault files is) none)
 
-  pub hand_at : (is : List Input) (k : ℕ) (x : Input) (s : Stop) → k < length is → x ≡ get_or is k x → IsInputStop files x s → IsHandStop files is s
-  hand_at is k x (stops.Refused fault) lt at why = inr (inr (k, lt, λ e. subst (IsInputCause files fault) (at ∙ get_or_default is k x e lt) why))
-  hand_at is k x (stops.File path) lt at why = faulty is k x path.now lt (ap (input_fault files) (sym at) ∙ why)
-  hand_at is k x stops.Usage lt at why = why
+  pub hand_at : (Cause : Fault → Input → Type 0) (is : List Input) (k : ℕ) (x : Input) (s : Stop) → k < length is → x ≡ get_or is k x → IsInputStop files Cause x s → IsHandStop files Cause is s
+  hand_at Cause is k x (stops.Refused fault) lt at why = (k, lt, λ e. subst (Cause fault) (at ∙ get_or_default is k x e lt) why)
+  hand_at Cause is k x (stops.File path) lt at why = faulty is k x path.now lt (ap (input_fault files) (sym at) ∙ why)
+  hand_at Cause is k x stops.Usage lt at why = why
 
   pub no_component_file : {T : Type 0} (is : List Input) (k : ℕ) (x : Input) (path : String Global) (p : List ℕ) (r : Result T Stop) → k < length is → x ≡ get_or is k x → x ≡ inputs.Component path
       → p ≡ string_bytes path → IfErr r (IsFileStop (λ q. missing_path p (file_at files p) ≡ Some q)) → IfErr r (IsComponentStop files is)
@@ -87,10 +89,11 @@ module _ (files : List (Bor (List ℕ) × Bor (List ℕ))) where
       faulty is k x q.now lt (ap (input_fault files) (sym at ∙ this) ∙ ap (λ b. missing_path b (file_at files b)) (sym same) ∙ why)
   no_component_file is k x path p (Err stops.Usage) lt at this same why = absurd why
 
-  pub prepared : (is : List Input) (s : Stop) → file_fault files is ≡ None → IsHandStop files is s → IsPrepareStop files is s
-  prepared is (stops.Refused fault) none why = why
-  prepared is (stops.File path) none why = absurd (why none)
-  prepared is stops.Usage none why = why
+  pub prepared : (Cause : Fault → Input → Type 0) (l : Line) (s : Stop) → file_fault files l.inputs.items ≡ None → ((fault : Fault) → HasCause Cause l.inputs.items fault → IsHandCause files l fault)
+      → IsHandStop files Cause l.inputs.items s → IsPrepareStop files l s
+  prepared Cause l (stops.Refused fault) none causes why = causes fault why
+  prepared Cause l (stops.File path) none causes why = absurd (why none)
+  prepared Cause l stops.Usage none causes why = why
 
 -- ---- components
 

@@ -30,3 +30,5 @@ pub mod Walked
 pub mod Exact
 pub mod LineWords
 pub mod Files
+pub mod Handing
+pub mod Answering

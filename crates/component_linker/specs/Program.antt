@@ -1,10 +1,11 @@
 -- What the program writes.
-use Rattle.std.specs.Prelude.{◌≡◌, ℕ, ◌<◌, List, [], ◌∷◌, ◌++◌, Option, Some, None, IsSome, if◌then◌else◌, length, map, fold, bytes_eq, string_bytes}
-use Rattle.std.specs.List.{AllByRecursion as Each, HoldsAt, flat_map}
+use Rattle.std.specs.Prelude.{◌≡◌, ℕ, ◌<◌, List, [], ◌∷◌, ◌++◌, Option, Some, None, if◌then◌else◌, length, map, fold, bytes_eq, string_bytes}
+use Rattle.std.specs.List.{AllByRecursion as Each, AllZip, HoldsAt, flat_map, range_with_len}
 use Rattle.std.specs.Option.{option_or}
 use Rattle.std.specs.Str.{is_utf8}
 use Rattle.std.specs.Borrow.{Bor}
 use Rattle.std.specs.Io.KnownBytes.{Appends}
+use Rattle.wit_syntax.specs.Tree.{FileTree}
 use Rattle.component_linker.specs.declared.line.Action.{Action}
 use Rattle.component_linker.specs.declared.line.Action.TheVariants.{Build, Links, Audit}
 use Rattle.component_linker.specs.declared.line.Line.{Line}
@@ -15,6 +16,9 @@ use Rattle.component_linker.specs.declared.line.Input.TheVariants as inputs
 use Rattle.component_linker.specs.declared.link.Link.{Link}
 use Rattle.component_linker.specs.declared.options.StringEncoding.TheVariants.{UTF8}
 use Rattle.component_linker.specs.Input.{Input, SourceText, ModuleInput, first_options}
+use Rattle.component_linker.specs.World.{PackageMeaning, package_of}
+use Rattle.component_linker.specs.Pushed.{IsInShape}
+use Rattle.component_linker.specs.Choice.{NamesWorld}
 use Rattle.component_linker.specs.declared.verdict.Verdict.{Verdict}
 use Rattle.component_linker.specs.declared.verdict.Verdict.TheVariants.{Yes, Finding}
 use Rattle.component_linker.specs.Answered.{IsBuilt, IsLinkTable}
@@ -74,40 +78,76 @@ text_paths = flat_map text_path
 abbrev pub AreSources : List (Bor (List ℕ) × Bor (List ℕ)) → List LineInput → List SourceText → Type 0
 AreSources files is sources = (map (λ s. s.path) sources ≡ text_paths is) × Each (λ s. IsFile files s.path s.contents) sources
 
--- an input that is a text adds its source, and another adds none
-abbrev pub AddsSource : List (Bor (List ℕ) × Bor (List ℕ)) → LineInput → List SourceText → List SourceText → Type 0
-AddsSource files (inputs.Text path) old new = (s : SourceText) × (new ≡ old ++ s ∷ []) × (s.path ≡ string_bytes path) × IsFile files s.path s.contents
+-- a source's text has a tree within the shape, whose package this is
+abbrev pub IsPackage : SourceText → PackageMeaning → Type 0
+IsPackage s p = (tree : FileTree) × IsInShape s.contents tree × (p ≡ package_of tree)
+
+-- the packages of sources, in order
+abbrev pub ArePackages : List SourceText → List PackageMeaning → Type 0
+ArePackages = AllZip IsPackage
+
+-- an input that is a text adds its source and its package, and another changes nothing
+abbrev pub AddsSource : List (Bor (List ℕ) × Bor (List ℕ)) → LineInput → Input → Input → Type 0
+AddsSource files (inputs.Text path) old new =
+    (s : SourceText) × (p : PackageMeaning) × (new ≡ record old { sources = old.sources ++ s ∷ []; packages = old.packages ++ p ∷ [] })
+    × (s.path ≡ string_bytes path)
+    × IsFile files s.path s.contents
+    × IsPackage s p
 AddsSource files (inputs.Main world path) old new = new ≡ old
 AddsSource files (inputs.Component path) old new = new ≡ old
 
--- the path of a module, where one is handed in later than what is there
-abbrev pub later_main : Option (List ℕ) → LineInput → Option (List ℕ)
+-- the places of packages, from 0
+abbrev pub places : List PackageMeaning → List ℕ
+places ps = range_with_len 0 (length ps)
+
+-- a text names this world, where each package is a main one
+abbrev pub IsNamed : Input → List ℕ → ℕ → Type 0
+IsNamed given text k = NamesWorld given (places given.packages) (Some text) k
+
+-- the chosen world is the one that a text names
+abbrev pub IsChosen : Input → List ℕ → Type 0
+IsChosen given text = (k : ℕ) × (given.world ≡ Some k) × IsNamed given text k
+
+-- what a line says of a module: the text that names its world, and its path
+pub record MainWords : Type 0 where
+  pub world : List ℕ
+  pub path : List ℕ
+
+-- what is said of a module, where one is handed in later than what is there
+abbrev pub later_main : Option MainWords → LineInput → Option MainWords
 later_main old (inputs.Text path) = old
-later_main old (inputs.Main world path) = Some (string_bytes path)
+later_main old (inputs.Main world path) = Some (record { world = string_bytes world; path = string_bytes path })
 later_main old (inputs.Component path) = old
 
--- the path of the last module
-abbrev pub last_main : List LineInput → Option (List ℕ)
+-- what is said of the last module
+abbrev pub last_main : List LineInput → Option MainWords
 last_main = fold later_main None
 
--- a module has the bytes of the file at a path
-abbrev pub IsMain : List (Bor (List ℕ) × Bor (List ℕ)) → Option (List ℕ) → Option ModuleInput → Type 0
-IsMain files None None = Unit {0}
-IsMain files None (Some m) = ⊥
-IsMain files (Some path) None = ⊥
-IsMain files (Some path) (Some m) = IsFile files path m.bytes × (m.encoding ≡ UTF8)
+-- an empty text stands for the chosen world's
+abbrev pub text_or : List ℕ → List ℕ → List ℕ
+text_or [] chosen = chosen
+text_or (b ∷ bs) chosen = b ∷ bs
+
+-- a module is what is said of it: it has the bytes of the file at the path, and the world that the text names
+abbrev pub IsMain : List (Bor (List ℕ) × Bor (List ℕ)) → Input → List ℕ → Option MainWords → Option ModuleInput → Type 0
+IsMain files given chosen None None = Unit {0}
+IsMain files given chosen None (Some m) = ⊥
+IsMain files given chosen (Some words) None = ⊥
+IsMain files given chosen (Some words) (Some m) = IsFile files words.path m.bytes × IsNamed given (text_or words.world chosen) m.world × (m.encoding ≡ UTF8)
 
 -- an input that is a module stands in the place of the old one, and another changes nothing
-abbrev pub ReplacesMain : List (Bor (List ℕ) × Bor (List ℕ)) → LineInput → Option ModuleInput → Option ModuleInput → Type 0
-ReplacesMain files (inputs.Text path) old new = new ≡ old
-ReplacesMain files (inputs.Main world path) old new = IsMain files (Some (string_bytes path)) new
-ReplacesMain files (inputs.Component path) old new = new ≡ old
+abbrev pub ReplacesMain : List (Bor (List ℕ) × Bor (List ℕ)) → Input → List ℕ → LineInput → Option ModuleInput → Option ModuleInput → Type 0
+ReplacesMain files given chosen (inputs.Text path) old new = new ≡ old
+ReplacesMain files given chosen (inputs.Main world path) old new = IsMain files given chosen (later_main None (inputs.Main world path)) new
+ReplacesMain files given chosen (inputs.Component path) old new = new ≡ old
 
--- what is handed to a session: the texts of a line, a world and the last module, with the first options
-pub record Handed (files : List (Bor (List ℕ) × Bor (List ℕ))) (is : List LineInput) (given : Input) : Type 0 where
-  pub sources : AreSources files is given.sources
-  pub world : IsSome given.world
-  pub main : IsMain files (last_main is) given.main
+-- What is handed to a session: the texts of a line with their packages, the world that the line names and the last
+-- module, with the first options.
+pub record Handed (files : List (Bor (List ℕ) × Bor (List ℕ))) (line : Line) (given : Input) : Type 0 where
+  pub sources : AreSources files line.inputs.items given.sources
+  pub packages : ArePackages given.sources given.packages
+  pub world : IsChosen given (string_bytes line.world)
+  pub main : IsMain files given (string_bytes line.world) (last_main line.inputs.items) given.main
   pub options : given.options ≡ first_options
 
 -- an input is the component with these bytes
@@ -120,24 +160,32 @@ IsComponentInput files bytes (inputs.Component path) = IsFile files (string_byte
 abbrev pub HasComponent : List (Bor (List ℕ) × Bor (List ℕ)) → List LineInput → List ℕ → Type 0
 HasComponent files is bytes = (k : ℕ) × (k < length is) × HoldsAt (IsComponentInput files bytes) is k
 
--- what the writer has more is the bytes of a component that is right for the input
-abbrev pub WritesComponent : Input → ℕ → Option (List ℕ) → Option (List ℕ) → Type 0
-WritesComponent given status old new = (status ≡ 0) × ((bytes : List ℕ) × IsBuilt given bytes × Appends old new bytes)
+-- the text is the bytes of a component that is right for the input
+abbrev pub IsComponentAnswer : Input → ℕ → List ℕ → Type 0
+IsComponentAnswer given status text = (status ≡ 0) × IsBuilt given text
 
--- what the writer has more is the lines of the input's links, in order
-abbrev pub WritesLinks : Input → ℕ → Option (List ℕ) → Option (List ℕ) → Type 0
-WritesLinks given status old new = (status ≡ 0) × ((links : List Link) × IsLinkTable given (map link_value links) × Appends old new (lines_text links))
+-- the text is the lines of the input's links, in order
+abbrev pub IsLinksAnswer : Input → ℕ → List ℕ → Type 0
+IsLinksAnswer given status text = (status ≡ 0) × ((links : List Link) × IsLinkTable given (map link_value links) × (text ≡ lines_text links))
 
--- what the writer has more is a verdict on a component, which is so of its bytes, and the exit status is its
-abbrev pub WritesVerdict : Input → List ℕ → ℕ → Option (List ℕ) → Option (List ℕ) → Type 0
-WritesVerdict given bytes status old new = (verdict : Verdict) × IsJudged given bytes verdict × (status ≡ verdict_status verdict) × Appends old new (verdict_text verdict ++ 10 ∷ [])
+-- the text is a verdict on a component, which is so of its bytes, and the exit status is its
+abbrev pub IsVerdictAnswer : Input → List ℕ → ℕ → List ℕ → Type 0
+IsVerdictAnswer given bytes status text = (verdict : Verdict) × IsJudged given bytes verdict × (status ≡ verdict_status verdict) × (text ≡ verdict_text verdict ++ 10 ∷ [])
 
--- the answer to an input that an action gives
-abbrev pub IsAnswer : List (Bor (List ℕ) × Bor (List ℕ)) → List LineInput → Input → Action → ℕ → Option (List ℕ) → Option (List ℕ) → Type 0
-IsAnswer files is given Build status old new = WritesComponent given status old new
-IsAnswer files is given Links status old new = WritesLinks given status old new
-IsAnswer files is given Audit status old new = (bytes : List ℕ) × HasComponent files is bytes × WritesVerdict given bytes status old new
+-- the text of an action's answer to an input, and its exit status
+abbrev pub IsAnswer : List (Bor (List ℕ) × Bor (List ℕ)) → List LineInput → Input → Action → ℕ → List ℕ → Type 0
+IsAnswer files is given Build status text = IsComponentAnswer given status text
+IsAnswer files is given Links status text = IsLinksAnswer given status text
+IsAnswer files is given Audit status text = (bytes : List ℕ) × HasComponent files is bytes × IsVerdictAnswer given bytes status text
 
--- the answer to what is handed to a session
+-- the text of a line's answer, to what is handed to a session, and its exit status
+abbrev pub IsLineAnswer : List (Bor (List ℕ) × Bor (List ℕ)) → Line → ℕ → List ℕ → Type 0
+IsLineAnswer files line status text = (given : Input) × Handed files line given × IsAnswer files line.inputs.items given line.action status text
+
+-- what the writer has more is such a text
+abbrev pub Writes : (List ℕ → Type 0) → Option (List ℕ) → Option (List ℕ) → Type 0
+Writes IsWanted old new = (text : List ℕ) × IsWanted text × Appends old new text
+
+-- what the writer has more is the line's answer
 abbrev pub IsOutcome : List (Bor (List ℕ) × Bor (List ℕ)) → Line → ℕ → Option (List ℕ) → Option (List ℕ) → Type 0
-IsOutcome files line status old new = (given : Input) × Handed files line.inputs.items given × IsAnswer files line.inputs.items given line.action status old new
+IsOutcome files line status old new = Writes (IsLineAnswer files line status) old new

@@ -18,9 +18,10 @@ use Rattle.component_linker.specs.declared.program.Stop.TheVariants as stops
 use Rattle.component_linker.specs.Input.{Input}
 use Rattle.component_linker.specs.Code.{code, name, place}
 use Rattle.component_linker.specs.Cause.{IsCause, IsBuildCause}
+use Rattle.component_linker.specs.Judged.{IsAuditCause}
 use Rattle.component_linker.specs.ModuleCause.{IsModuleCause}
 use Rattle.component_linker.specs.Line.{is_component}
-use Rattle.component_linker.specs.Program.{IsFile, input_fault, file_fault, Handed}
+use Rattle.component_linker.specs.Program.{IsFile, input_fault, file_fault, AreSources, ArePackages, IsNamed, text_or, HasComponent, Handed, IsAnswer, IsLineAnswer}
 
 -- ---- lines
 
@@ -57,6 +58,14 @@ line_fault_text faults.OutOfMemory = memory_text
 abbrev pub AppendsFront : Option (List ℕ) → Option (List ℕ) → List ℕ → Type 0
 AppendsFront old new text = (k : ℕ) × Appends old new (take k text)
 
+-- what a writer has more is a front of a text, and not the whole of it
+abbrev pub AppendsPart : Option (List ℕ) → Option (List ℕ) → List ℕ → Type 0
+AppendsPart old new text = (k : ℕ) × (k < length text) × Appends old new (take k text)
+
+-- what a writer has more is a part of such a text, whatever the exit status with the whole
+abbrev pub WritesPart : (ℕ → List ℕ → Type 0) → Option (List ℕ) → Option (List ℕ) → Type 0
+WritesPart IsWanted old new = (status : ℕ) × (text : List ℕ) × IsWanted status text × AppendsPart old new text
+
 -- ---- stops
 
 abbrev pub stop_status : Stop → ℕ
@@ -70,34 +79,55 @@ IsFileStop IsWanted (stops.Refused fault) = ⊥
 IsFileStop IsWanted (stops.File path) = IsWanted path.now
 IsFileStop IsWanted stops.Usage = ⊥
 
--- why one input isn't taken: want of memory, its text, its world, or what is said of its module
-abbrev pub IsInputCause : List (Bor (List ℕ) × Bor (List ℕ)) → Fault → LineInput → Type 0
-IsInputCause files fault (inputs.Text path) = (fault ≡ causes.OutOfMemory) ⊎ (fault ≡ causes.NotYet)
-IsInputCause files fault (inputs.Main world path) =
-    (fault ≡ causes.OutOfMemory) ⊎ ((fault ≡ causes.WorldNotFound) ⊎ ((bytes : List ℕ) × IsFile files (string_bytes path) bytes × IsModuleCause bytes fault))
-IsInputCause files fault (inputs.Component path) = ⊥
+-- the text names no world of what is handed in, and the fault is that
+abbrev pub IsUnnamed : Input → List ℕ → Fault → Type 0
+IsUnnamed given text fault = (fault ≡ causes.WorldNotFound) × ((k : ℕ) → IsNamed given text k → ⊥)
 
-abbrev pub IsInputStop : List (Bor (List ℕ) × Bor (List ℕ)) → LineInput → Stop → Type 0
-IsInputStop files i (stops.Refused fault) = IsInputCause files fault i
-IsInputStop files i (stops.File path) = input_fault files i ≡ Some path.now
-IsInputStop files i stops.Usage = ⊥
+-- why a text isn't taken
+abbrev pub IsTextCause : Fault → LineInput → Type 0
+IsTextCause fault (inputs.Text path) = (fault ≡ causes.OutOfMemory) ⊎ (fault ≡ causes.NotYet)
+IsTextCause fault (inputs.Main world path) = ⊥
+IsTextCause fault (inputs.Component path) = ⊥
 
--- why the inputs aren't taken: one of them isn't, or the chosen world isn't found
-abbrev pub IsHandCause : List (Bor (List ℕ) × Bor (List ℕ)) → List LineInput → Fault → Type 0
-IsHandCause files is fault =
-    (fault ≡ causes.OutOfMemory) ⊎ ((fault ≡ causes.WorldNotFound) ⊎ ((k : ℕ) × (k < length is) × HoldsAt (IsInputCause files fault) is k))
+-- why a module isn't taken: want of memory, its world, or what is said of its bytes
+abbrev pub IsMainCause : List (Bor (List ℕ) × Bor (List ℕ)) → Input → List ℕ → Fault → LineInput → Type 0
+IsMainCause files given chosen fault (inputs.Text path) = ⊥
+IsMainCause files given chosen fault (inputs.Main world path) =
+    (fault ≡ causes.OutOfMemory)
+    ⊎ (IsUnnamed given (text_or (string_bytes world) chosen) fault ⊎ ((bytes : List ℕ) × IsFile files (string_bytes path) bytes × IsModuleCause bytes fault))
+IsMainCause files given chosen fault (inputs.Component path) = ⊥
+
+abbrev pub IsInputStop : List (Bor (List ℕ) × Bor (List ℕ)) → (Fault → LineInput → Type 0) → LineInput → Stop → Type 0
+IsInputStop files Cause i (stops.Refused fault) = Cause fault i
+IsInputStop files Cause i (stops.File path) = input_fault files i ≡ Some path.now
+IsInputStop files Cause i stops.Usage = ⊥
+
+-- one of the inputs isn't taken
+abbrev pub HasCause : (Fault → LineInput → Type 0) → List LineInput → Fault → Type 0
+HasCause Cause is fault = (k : ℕ) × (k < length is) × HoldsAt (Cause fault) is k
 
 -- the inputs aren't taken, or a file isn't there
-abbrev pub IsHandStop : List (Bor (List ℕ) × Bor (List ℕ)) → List LineInput → Stop → Type 0
-IsHandStop files is (stops.Refused fault) = IsHandCause files is fault
-IsHandStop files is (stops.File path) = file_fault files is ≢ None
-IsHandStop files is stops.Usage = ⊥
+abbrev pub IsHandStop : List (Bor (List ℕ) × Bor (List ℕ)) → (Fault → LineInput → Type 0) → List LineInput → Stop → Type 0
+IsHandStop files Cause is (stops.Refused fault) = HasCause Cause is fault
+IsHandStop files Cause is (stops.File path) = file_fault files is ≢ None
+IsHandStop files Cause is stops.Usage = ⊥
 
--- the same, with the first path at fault
-abbrev pub IsPrepareStop : List (Bor (List ℕ) × Bor (List ℕ)) → List LineInput → Stop → Type 0
-IsPrepareStop files is (stops.Refused fault) = IsHandCause files is fault
-IsPrepareStop files is (stops.File path) = file_fault files is ≡ Some path.now
-IsPrepareStop files is stops.Usage = ⊥
+-- why the texts are taken and the rest isn't: the line's world isn't found, or a module isn't taken
+abbrev pub IsRestCause : List (Bor (List ℕ) × Bor (List ℕ)) → Line → Input → Fault → Type 0
+IsRestCause files l given fault = IsUnnamed given (string_bytes l.world) fault ⊎ HasCause (IsMainCause files given (string_bytes l.world)) l.inputs.items fault
+
+-- why the inputs aren't taken: want of memory, a text, or, with the texts and their packages, what is left
+abbrev pub IsHandCause : List (Bor (List ℕ) × Bor (List ℕ)) → Line → Fault → Type 0
+IsHandCause files l fault =
+    (fault ≡ causes.OutOfMemory)
+    ⊎ (HasCause IsTextCause l.inputs.items fault
+    ⊎ ((given : Input) × AreSources files l.inputs.items given.sources × ArePackages given.sources given.packages × IsRestCause files l given fault))
+
+-- the inputs aren't taken, or a file isn't there, the first at fault
+abbrev pub IsPrepareStop : List (Bor (List ℕ) × Bor (List ℕ)) → Line → Stop → Type 0
+IsPrepareStop files l (stops.Refused fault) = IsHandCause files l fault
+IsPrepareStop files l (stops.File path) = file_fault files l.inputs.items ≡ Some path.now
+IsPrepareStop files l stops.Usage = ⊥
 
 -- no component is named, or its file isn't there
 abbrev pub IsComponentStop : List (Bor (List ℕ) × Bor (List ℕ)) → List LineInput → Stop → Type 0
@@ -106,10 +136,10 @@ IsComponentStop files is (stops.File path) = file_fault files is ≢ None
 IsComponentStop files is stops.Usage = filter is_component is ≡ []
 
 -- why an action has no answer to an input
-abbrev pub IsAnswerCause : Input → Action → Fault → Type 0
-IsAnswerCause given Build fault = IsBuildCause given fault
-IsAnswerCause given Links fault = IsCause given fault
-IsAnswerCause given Audit fault = Unit {0}
+abbrev pub IsAnswerCause : List (Bor (List ℕ) × Bor (List ℕ)) → List LineInput → Input → Action → Fault → Type 0
+IsAnswerCause files is given Build fault = IsBuildCause given fault
+IsAnswerCause files is given Links fault = IsCause given fault
+IsAnswerCause files is given Audit fault = (bytes : List ℕ) × HasComponent files is bytes × IsAuditCause given bytes fault
 
 -- a path, or `-` for standard output
 abbrev pub written_path : Option (String Global) → List ℕ
@@ -120,22 +150,30 @@ written_path (Some path) = string_bytes path
 abbrev pub out_path : Line → List ℕ
 out_path l = written_path l.out
 
--- as `IsStop`, of what is handed to a session
-abbrev pub IsAnswerStop : List LineInput → Input → Action → List ℕ → Type 0 → Stop → Type 0
-IsAnswerStop is given action out Untouched (stops.Refused fault) = Untouched × IsAnswerCause given action fault
-IsAnswerStop is given action out Untouched (stops.File path) = path.now ≡ out
-IsAnswerStop is given action out Untouched stops.Usage = Untouched × (action ≡ Audit) × (filter is_component is ≡ [])
+-- why an answer isn't written: nothing is and it is refused, or OUT can't be written and a part of it is
+abbrev pub IsWriteStop : (Fault → Type 0) → List ℕ → Type 0 → Type 0 → Stop → Type 0
+IsWriteStop Cause out Untouched Part (stops.Refused fault) = Untouched × Cause fault
+IsWriteStop Cause out Untouched Part (stops.File path) = (path.now ≡ out) × Part
+IsWriteStop Cause out Untouched Part stops.Usage = ⊥
 
--- why a line has no answer; only where OUT can't be written may a front of the answer have been
-abbrev pub IsStop : List (Bor (List ℕ) × Bor (List ℕ)) → Line → Type 0 → Stop → Type 0
-IsStop files l Untouched (stops.Refused fault) =
-    Untouched × (IsHandCause files l.inputs.items fault ⊎ ((given : Input) × Handed files l.inputs.items given × IsAnswerCause given l.action fault))
-IsStop files l Untouched (stops.File path) = (Untouched × (file_fault files l.inputs.items ≡ Some path.now)) ⊎ ((file_fault files l.inputs.items ≡ None) × (path.now ≡ out_path l))
-IsStop files l Untouched stops.Usage = Untouched × (l.action ≡ Audit) × (filter is_component l.inputs.items ≡ [])
+-- as `IsStop`, of what is handed to a session
+abbrev pub IsAnswerStop : List (Bor (List ℕ) × Bor (List ℕ)) → Line → Input → Type 0 → Option (List ℕ) → Option (List ℕ) → Stop → Type 0
+IsAnswerStop files l given Untouched old new (stops.Refused fault) = Untouched × IsAnswerCause files l.inputs.items given l.action fault
+IsAnswerStop files l given Untouched old new (stops.File path) = (path.now ≡ out_path l) × WritesPart (IsAnswer files l.inputs.items given l.action) old new
+IsAnswerStop files l given Untouched old new stops.Usage = Untouched × (l.action ≡ Audit) × (filter is_component l.inputs.items ≡ [])
+
+-- why a line has no answer; only where OUT can't be written a part of the answer is
+abbrev pub IsStop : List (Bor (List ℕ) × Bor (List ℕ)) → Line → Type 0 → Option (List ℕ) → Option (List ℕ) → Stop → Type 0
+IsStop files l Untouched old new (stops.Refused fault) =
+    Untouched × (IsHandCause files l fault ⊎ ((given : Input) × Handed files l given × IsAnswerCause files l.inputs.items given l.action fault))
+IsStop files l Untouched old new (stops.File path) =
+    (Untouched × (file_fault files l.inputs.items ≡ Some path.now))
+    ⊎ ((file_fault files l.inputs.items ≡ None) × (path.now ≡ out_path l) × WritesPart (IsLineAnswer files l) old new)
+IsStop files l Untouched old new stops.Usage = Untouched × (l.action ≡ Audit) × (filter is_component l.inputs.items ≡ [])
 
 -- the program ends without its answer, with the status and the line of why
-pub record IsStopped (files : List (Bor (List ℕ) × Bor (List ℕ))) (l : Line) (Untouched : Type 0) (status : ℕ) (old new : Option (List ℕ)) : Type 0 where
+pub record IsStopped (files : List (Bor (List ℕ) × Bor (List ℕ))) (l : Line) (Untouched : Type 0) (out_old out_new : Option (List ℕ)) (status : ℕ) (err_old err_new : Option (List ℕ)) : Type 0 where
   pub stop : Stop
-  pub why : IsStop files l Untouched stop
+  pub why : IsStop files l Untouched out_old out_new stop
   pub status_is : status ≡ stop_status stop
-  pub says : AppendsFront old new (stop_text stop)
+  pub says : AppendsFront err_old err_new (stop_text stop)

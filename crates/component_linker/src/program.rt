@@ -3,10 +3,10 @@
 ghost use Rattle.std.specs.Prelude.{◌≡◌, ◌<◌, ◌++◌, ◌∷◌, ◌⊎◌, [], None, Some, IfErr, OnErr, IfOk, OnOk, option_map};
 ghost use Rattle.std.specs.List.{flat_map};
 ghost use Rattle.std.specs.Io.KnownBytes.{Appends};
-ghost use Rattle.component_linker.specs.Program.{line_status, verdict_status, IsAnswer, IsFile, file_at, missing_path, textless_path, input_fault, file_fault, AreSources, AddsSource, ReplacesMain, last_main, IsMain, HasComponent, WritesComponent, WritesLinks, WritesVerdict, Handed, IsOutcome};
-ghost use Rattle.component_linker.specs.Stops.{AppendsFront, refusal_text, fault_text, stop_text, stop_status, line_fault_text, out_path, IsFileStop, IsInputStop, IsHandStop, IsPrepareStop, IsComponentStop, IsAnswerStop, IsStop, IsStopped};
-ghost use Rattle.component_linker.specs.Input.{empty_input, first_options};
-ghost use Rattle.component_linker.specs.declared.line.Action.TheVariants.{Build, Links, Audit};
+ghost use Rattle.component_linker.specs.Program.{line_status, verdict_status, IsFile, file_at, missing_path, textless_path, input_fault, file_fault, AreSources, ArePackages, AddsSource, places, text_or, ReplacesMain, last_main, IsMain, HasComponent, Handed, IsComponentAnswer, IsLinksAnswer, IsVerdictAnswer, IsAnswer, Writes, IsOutcome};
+ghost use Rattle.component_linker.specs.Stops.{AppendsFront, AppendsPart, WritesPart, refusal_text, fault_text, stop_text, stop_status, line_fault_text, out_path, IsFileStop, IsTextCause, IsMainCause, IsInputStop, IsHandStop, IsPrepareStop, IsComponentStop, IsWriteStop, IsAnswerStop, IsStop, IsStopped};
+ghost use Rattle.component_linker.specs.Cause.{IsCause, IsBuildCause};
+ghost use Rattle.component_linker.specs.Judged.{IsAuditCause};
 
 use crate::auditor::audit;
 use crate::fault::Fault;
@@ -124,9 +124,10 @@ fn push_text<'a>(
     input: &'a Input,
     files: &'a [(&'a str, &'a [u8])],
 ) -> Result<(), Stop<'a>>
-    ensures sources { OnOk result (AddsSource files.entry.now input.entry.now session.old.sources session.new.sources) }
-    ensures rest { OnOk result ((session.new.main ≡ session.old.main) × (session.new.options ≡ session.old.options)) }
-    ensures err { IfErr result (IsInputStop files.entry.now input.entry.now) }
+    requires { packages.old.items ≡ places session.old.packages }
+    ensures source { OnOk result (AddsSource files.entry.now input.entry.now session.old session.new) }
+    ensures places { OnOk result (packages.new.items ≡ places session.new.packages) }
+    ensures err { IfErr result (IsInputStop files.entry.now IsTextCause input.entry.now) }
 {
     if let Input::Text(path) = input {
         let contents = text_at(files, path.as_str())?;
@@ -142,16 +143,25 @@ fn push_texts<'a>(
     inputs: &'a [Input],
     files: &'a [(&'a str, &'a [u8])],
 ) -> Result<Vec<PackageId>, Stop<'a>>
-    requires { session.old.sources ≡ [] }
+    requires { (session.old.sources ≡ []) × (session.old.packages ≡ []) }
     ensures sources { OnOk result (AreSources files.entry.now inputs.entry.now session.new.sources) }
+    ensures packages { OnOk result (ArePackages session.new.sources session.new.packages) }
+    ensures places { IfOk result (λ v. v.items ≡ places session.new.packages) }
     ensures rest { OnOk result ((session.new.main ≡ session.old.main) × (session.new.options ≡ session.old.options)) }
-    ensures err { IfErr result (IsHandStop files.entry.now inputs.entry.now) }
+    ensures err { IfErr result (IsHandStop files.entry.now IsTextCause inputs.entry.now) }
 {
     let mut packages = Vec::new(alloc);
     for input in inputs {
         push_text(session, &mut packages, input, files)?;
     }
     Ok(packages)
+}
+
+/// A text, or the chosen one where it is empty.
+fn text_or<'t>(text: &'t str, chosen: &'t str) -> &'t str
+    ensures { result.now ≡ text_or text.now chosen.now }
+{
+    if text.is_empty() { chosen } else { text }
 }
 
 /// Hands in the module that an input may be; an empty world is the chosen one.
@@ -162,20 +172,17 @@ fn hand_in_one<'a>(
     input: &'a Input,
     files: &'a [(&'a str, &'a [u8])],
 ) -> Result<(), Stop<'a>>
-    ensures main { OnOk result (ReplacesMain files.entry.now input.entry.now session.old.main session.new.main) }
-    ensures rest { OnOk result ((session.new.sources ≡ session.old.sources) × (session.new.world ≡ session.old.world) × (session.new.options ≡ session.old.options)) }
-    ensures err { IfErr result (IsInputStop files.entry.now input.entry.now) }
+    requires { packages.now ≡ places session.old.packages }
+    ensures main { OnOk result (ReplacesMain files.entry.now session.old chosen.now input.entry.now session.old.main session.new.main) }
+    ensures rest { OnOk result (session.new ≡ record session.old { main = session.new.main }) }
+    ensures err { IfErr result (IsInputStop files.entry.now (IsMainCause files.entry.now session.old chosen.now) input.entry.now) }
 {
-    if let Input::Main { world, path } = input {
-        let named = if world.is_empty() {
-            chosen
-        } else {
-            world.as_str()
-        };
-        let world = session.world_named(packages, Some(named))?;
-        let bytes = bytes_at(files, path.as_str())?;
-        session.module(bytes, world, StringEncoding::UTF8)?;
-    }
+    let Input::Main { world, path } = input else {
+        return Ok(());
+    };
+    let world = session.world_named(packages, Some(text_or(world.as_str(), chosen)))?;
+    let bytes = bytes_at(files, path.as_str())?;
+    session.module(bytes, world, StringEncoding::UTF8)?;
     Ok(())
 }
 
@@ -187,10 +194,11 @@ fn hand_in<'a>(
     inputs: &'a [Input],
     files: &'a [(&'a str, &'a [u8])],
 ) -> Result<(), Stop<'a>>
-    requires { session.old.main ≡ None }
-    ensures main { OnOk result (IsMain files.entry.now (last_main inputs.entry.now) session.new.main) }
-    ensures rest { OnOk result ((session.new.sources ≡ session.old.sources) × (session.new.world ≡ session.old.world) × (session.new.options ≡ session.old.options)) }
-    ensures err { IfErr result (IsHandStop files.entry.now inputs.entry.now) }
+    requires first { session.old.main ≡ None }
+    requires places { packages.now ≡ places session.old.packages }
+    ensures main { OnOk result (IsMain files.entry.now session.old chosen.now (last_main inputs.entry.now) session.new.main) }
+    ensures rest { OnOk result (session.new ≡ record session.old { main = session.new.main }) }
+    ensures err { IfErr result (IsHandStop files.entry.now (IsMainCause files.entry.now session.old chosen.now) inputs.entry.now) }
 {
     for input in inputs {
         hand_in_one(session, packages, chosen, input, files)?;
@@ -218,6 +226,7 @@ fn component_in<'a>(
 fn put<'a, O: Write>(bytes: &[u8], line: &'a Line, out: &mut O) -> Result<(), Stop<'a>>
     ensures ok { OnOk result (Appends (O.contents out.old) (O.contents out.new) bytes.now) }
     ensures err { IfErr result (IsFileStop (λ p. p ≡ out_path line.entry.now)) }
+    ensures part { OnErr result (AppendsPart (O.contents out.old) (O.contents out.new) bytes.now) }
 {
     match emit(bytes, out) {
         Ok(()) => Ok(()),
@@ -230,8 +239,8 @@ fn put<'a, O: Write>(bytes: &[u8], line: &'a Line, out: &mut O) -> Result<(), St
 
 /// Writes the component.
 fn build<'a, O: Write>(session: &Session<'a>, line: &'a Line, out: &mut O) -> Result<u8, Stop<'a>>
-    ensures ok { IfOk result (λ s. WritesComponent session.now s (O.contents out.old) (O.contents out.new)) }
-    ensures err { IfErr result (IsAnswerStop line.entry.now.inputs.items session.now Build (out_path line.entry.now) (out.new ≡ out.old)) }
+    ensures ok { IfOk result (λ s. Writes (IsComponentAnswer session.now s) (O.contents out.old) (O.contents out.new)) }
+    ensures err { IfErr result (IsWriteStop (IsBuildCause session.now) (out_path line.entry.now) (out.new ≡ out.old) (WritesPart (IsComponentAnswer session.now) (O.contents out.old) (O.contents out.new))) }
 {
     let bytes = session.build()?;
     put(&bytes, line, out)?;
@@ -245,8 +254,8 @@ fn list<'a, O: Write>(
     line: &'a Line,
     out: &mut O,
 ) -> Result<u8, Stop<'a>>
-    ensures ok { IfOk result (λ s. WritesLinks session.now s (O.contents out.old) (O.contents out.new)) }
-    ensures err { IfErr result (IsAnswerStop line.entry.now.inputs.items session.now Links (out_path line.entry.now) (out.new ≡ out.old)) }
+    ensures ok { IfOk result (λ s. Writes (IsLinksAnswer session.now s) (O.contents out.old) (O.contents out.new)) }
+    ensures err { IfErr result (IsWriteStop (IsCause session.now) (out_path line.entry.now) (out.new ≡ out.old) (WritesPart (IsLinksAnswer session.now) (O.contents out.old) (O.contents out.new))) }
 {
     let links = session.links()?;
     let text = lines_of(alloc, &links)?;
@@ -271,8 +280,8 @@ fn judge<'a, O: Write>(
     line: &'a Line,
     out: &mut O,
 ) -> Result<u8, Stop<'a>>
-    ensures ok { IfOk result (λ s. WritesVerdict session.now component.now s (O.contents out.old) (O.contents out.new)) }
-    ensures err { IfErr result (IsAnswerStop line.entry.now.inputs.items session.now Audit (out_path line.entry.now) (out.new ≡ out.old)) }
+    ensures ok { IfOk result (λ s. Writes (IsVerdictAnswer session.now component.now s) (O.contents out.old) (O.contents out.new)) }
+    ensures err { IfErr result (IsWriteStop (IsAuditCause session.now component.now) (out_path line.entry.now) (out.new ≡ out.old) (WritesPart (IsVerdictAnswer session.now component.now) (O.contents out.old) (O.contents out.new))) }
 {
     let verdict = audit(session, component)?;
     let mut text = verdict.to_text(alloc)?;
@@ -290,8 +299,8 @@ fn act<'a, O: Write>(
     out: &mut O,
 ) -> Result<u8, Stop<'a>>
     requires { file_fault files.now line.now.inputs.items ≡ None }
-    ensures ok { IfOk result (λ s. IsAnswer files.entry.now line.entry.now.inputs.items session.now line.entry.now.action s (O.contents out.old) (O.contents out.new)) }
-    ensures err { IfErr result (IsAnswerStop line.entry.now.inputs.items session.now line.entry.now.action (out_path line.entry.now) (out.new ≡ out.old)) }
+    ensures ok { IfOk result (λ s. Writes (IsAnswer files.entry.now line.entry.now.inputs.items session.now line.entry.now.action s) (O.contents out.old) (O.contents out.new)) }
+    ensures err { IfErr result (IsAnswerStop files.entry.now line.entry.now session.now (out.new ≡ out.old) (O.contents out.old) (O.contents out.new)) }
 {
     match line.action {
         Action::Build => build(session, line, out),
@@ -309,9 +318,9 @@ fn prepare<'a>(
     line: &'a Line,
     files: &'a [(&'a str, &'a [u8])],
 ) -> Result<Session<'a>, Stop<'a>>
-    ensures ok { IfOk result (Handed files.entry.now line.entry.now.inputs.items) }
+    ensures ok { IfOk result (Handed files.entry.now line.entry.now) }
     ensures files { IfOk result (λ _. file_fault files.entry.now line.entry.now.inputs.items ≡ None) }
-    ensures err { IfErr result (IsPrepareStop files.entry.now line.entry.now.inputs.items) }
+    ensures err { IfErr result (IsPrepareStop files.entry.now line.entry.now) }
 {
     look_at_files(&line.inputs, files)?;
     let mut session = Session::new(alloc);
@@ -330,7 +339,7 @@ fn perform<'a, O: Write>(
     out: &mut O,
 ) -> Result<u8, Stop<'a>>
     ensures ok { IfOk result (λ s. IsOutcome files.entry.now line.entry.now s (O.contents out.old) (O.contents out.new)) }
-    ensures err { IfErr result (IsStop files.entry.now line.entry.now (out.new ≡ out.old)) }
+    ensures err { IfErr result (IsStop files.entry.now line.entry.now (out.new ≡ out.old) (O.contents out.old) (O.contents out.new)) }
 {
     let session = prepare(alloc, line, files)?;
     act(alloc, &session, line, files, out)
@@ -425,7 +434,7 @@ pub fn run<O: Write, E: Write>(
     ensures line { IfErr line.now (λ fault. result ≡ line_status fault) }
     ensures silent { OnErr line.now (out.new ≡ out.old) }
     ensures says { IfErr line.now (λ fault. AppendsFront (E.contents err.old) (E.contents err.new) (line_fault_text fault)) }
-    ensures ends { IfOk line.now (λ l. (IsOutcome files.now l result (O.contents out.old) (O.contents out.new) × (err.new ≡ err.old)) ⊎ IsStopped files.now l (out.new ≡ out.old) result (E.contents err.old) (E.contents err.new)) }
+    ensures ends { IfOk line.now (λ l. (IsOutcome files.now l result (O.contents out.old) (O.contents out.new) × (err.new ≡ err.old)) ⊎ IsStopped files.now l (out.new ≡ out.old) (O.contents out.old) (O.contents out.new) result (E.contents err.old) (E.contents err.new)) }
 {
     let line = match line {
         Ok(line) => line,

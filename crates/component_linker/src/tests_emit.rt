@@ -1,6 +1,6 @@
 //! Writers that fail, or take nothing, in the middle of a component.
 
-use crate::line::read_line;
+use crate::line::{LineFault, read_line};
 use crate::output::emit;
 use crate::program::run;
 use std::alloc::Global;
@@ -202,16 +202,81 @@ fn writes_each_answer(rt: HostRuntime) -> Result<(), Fail> {
 }
 
 #[test]
-fn keeps_its_status_where_the_refusal_cannot_be_written(rt: HostRuntime) -> Result<(), Fail> {
-    let words = words(rt.alloc(), "build", None)?;
-    let line = read_line(rt.alloc(), &words);
+fn writes_the_front_of_a_refusal(rt: HostRuntime) -> Result<(), Fail> {
+    let rows: [(&[&str], &[u8], u8); 5] = [
+        (
+            &["frob", "--world", "w", "text=a.wit"],
+            b"error: usage\n",
+            2,
+        ),
+        (
+            &["build", "--world", "v", "text=a.wit", "main==m.wasm"],
+            b"error: G8 WorldNotFound\n",
+            1,
+        ),
+        (
+            &["links", "--world", "w", "text=b.wit"],
+            b"error: file b.wit\n",
+            3,
+        ),
+        // OUT takes no byte of these answers.
+        (
+            &["build", "--world", "w", "text=a.wit", "main==m.wasm"],
+            b"error: file -\n",
+            3,
+        ),
+        (
+            &[
+                "links",
+                "--world",
+                "w",
+                "-o",
+                "x",
+                "text=a.wit",
+                "main==m.wasm",
+            ],
+            b"error: file x\n",
+            3,
+        ),
+    ];
+    for (words, text, want) in rows {
+        let line = read_line(rt.alloc(), words);
+        for (most, then) in WAYS {
+            for left in 0..32usize {
+                let mut out = Stops::after(rt.alloc(), 0, most, then);
+                let mut err = Stops::after(rt.alloc(), left, most, then);
+                let status = run(rt.alloc(), &line, &FILES, &mut out, &mut err);
+                assert_eq!(rt; status, want, "{words:?}, {then:?} after {left}");
+                assert_eq!(rt; out.held.len(), 0, "{words:?}");
+                let (front, _) = text.split_at(left.min(text.len()));
+                assert_eq!(rt;
+                    err.held.as_slice(),
+                    front,
+                    "{words:?}, {then:?} after {left}"
+                );
+                assert!(rt; !err.again, "{words:?}, {then:?} after {left}");
+            }
+        }
+    }
+    Ok(())
+}
+
+#[test]
+fn writes_the_front_of_what_clap_says(rt: HostRuntime) -> Result<(), Fail> {
+    let line = read_line(rt.alloc(), &["build", "text=a.wit"]);
+    let Err(LineFault::Clap(text)) = &line else {
+        return Ok(assert!(rt; false, "clap took the words"));
+    };
+    let text = text.as_str().as_bytes();
     for (most, then) in WAYS {
-        for left in 0..16usize {
-            let mut out = Stops::after(rt.alloc(), 0, most, then);
+        for left in [0, 1, 7, text.len() / 2, text.len()] {
+            let mut out: Vec<u8> = Vec::new(rt.alloc());
             let mut err = Stops::after(rt.alloc(), left, most, then);
             let status = run(rt.alloc(), &line, &FILES, &mut out, &mut err);
-            assert_eq!(rt; status, 3, "{then:?} after {left}, {most} a call");
-            assert_eq!(rt; out.held.len(), 0);
+            assert_eq!(rt; status, 2, "{then:?} after {left}");
+            assert_eq!(rt; out.len(), 0);
+            let (front, _) = text.split_at(left.min(text.len()));
+            assert_eq!(rt; err.held.as_slice(), front, "{then:?} after {left}");
         }
     }
     Ok(())

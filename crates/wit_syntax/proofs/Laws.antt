@@ -231,7 +231,7 @@ judged_ok : {X : Type 0} (whole : List Tok) (r : Result X Rule) (ts : List Tok) 
 judged_ok whole (Ok y) ts x rest e = let q = ok_parts y x ts rest e in (ap (λ t. Ok t) q.0, q.1)
 judged_ok whole (Err r) ts x rest e = absurd cc
 
-judged_err : {X : Type 0} (whole : List Tok) (r : Result X Rule) (ts : List Tok) (e : Fault) → judged whole r ts ≡ Err e → (r ≡ Err e.rule) × (length whole ≡ e.left)
+pub judged_err : {X : Type 0} (whole : List Tok) (r : Result X Rule) (ts : List Tok) (e : Fault) → judged whole r ts ≡ Err e → (r ≡ Err e.rule) × (length whole ≡ e.left)
 judged_err whole (Ok y) ts e h = absurd cc
 judged_err {X = X} whole (Err r) ts e h = let q = err_is {A = X} (record { rule = r; left = length whole }) e h in (ap (λ (f : Fault). Err f.rule) q, ap (λ (f : Fault). f.left) q)
 

@@ -13,3 +13,8 @@ pub mod Texts
 pub mod Versions
 pub mod Identifiers
 pub mod Sources
+pub mod Decimals
+pub mod TypeLaws
+pub mod TypeViews
+pub mod BracketLaws
+pub mod TypeBreaks

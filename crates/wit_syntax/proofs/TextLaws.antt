@@ -1,5 +1,5 @@
 -- Each production of texts is read as it says.
-use Rattle.std.proofs.Common.{◌≡◌, ℕ, List, [], ◌∷◌, refl, true, Some, None, Ok, length, ◌<◌, inl, inr}
+use Rattle.std.proofs.Common.{◌≡◌, ℕ, List, [], ◌∷◌, refl, true, Option, Some, None, Ok, length, ◌<◌, inl, inr}
 use Rattle.wit_syntax.specs.declared.fault.Rule.TheVariants as rules
 use Rattle.wit_syntax.specs.declared.token.Kind.{Kind}
 use Rattle.wit_syntax.specs.declared.token.Kind.TheVariants as kind
@@ -12,21 +12,21 @@ use Rattle.wit_syntax.specs.TextGrammar.{name_in, name, primitive_in, primitive,
 use Rattle.wit_syntax.proofs.Laws.{Clear, Law, Avoids, NextLaw, bind_law, bind_open, yield_law, refuse_law, sign_law, one_law, branch_law}
 use Rattle.wit_syntax.proofs.Choices.{Goes, by_law, avoid_yield, avoid_sign, avoid_one, avoid_first, avoid_branch, avoid_by, goes_one, goes_first, goes_by, is_within}
 use Rattle.wit_syntax.proofs.Texts.{Whole, whole_finish, whole_bind, whole_branch}
-use Rattle.wit_syntax.proofs.Turns.{until_law, commas_law, at_end_law, comma_turn, until_turn}
+use Rattle.wit_syntax.proofs.Turns.{until_law, commas_law, at_end_law, comma_turn, until_turn, weaken}
 
 ruleset laws = (bind_law, yield_law, refuse_law, sign_law, branch_law, commas_law, until_law)
 
 ruleset avoids = (avoid_yield, avoid_sign, avoid_first, avoid_branch)
 
-name_law : (ends : List Kind) → Law ends name
+pub name_law : (ends : List Kind) → Law ends name
 unfolding name
 name_law ends = one_law ends name_in
 
-name_avoids : (ends begins : List Kind) → Avoids ends begins name
+pub name_avoids : (ends begins : List Kind) → Avoids ends begins name
 unfolding name
 name_avoids ends begins = avoid_one ends begins name_in rules.Unexpected (λ k. refl)
 
-name_goes : (ends : List Kind) → Goes ends name
+pub name_goes : (ends : List Kind) → Goes ends name
 unfolding name
 name_goes ends = goes_one ends name_in
 
@@ -35,10 +35,24 @@ unfolding primitive
 primitive_law ends = one_law ends primitive_in
 
 -- an optional part, if what follows doesn't begin as it does
-optional_law : {A : Type 0} (ends : List Kind) (k : Kind) (p : Production A) → Law ends p → is_within (k ∷ []) ends ≡ true → is_within ends ends ≡ true → Law ends (optional k p)
+pub optional_law : {A : Type 0} (ends : List Kind) (k : Kind) (p : Production A) → Law ends p → is_within (k ∷ []) ends ≡ true → is_within ends ends ≡ true → Law ends (optional k p)
 optional_law ends k p l e f = branch_law ends k (p >>= (λ x. yield (Some x))) (yield None) (bind_open ends ends p (λ x. yield (Some x)) l (λ x. yield_law ends (Some x)) (λ x. avoid_yield ends ends (Some x) f)) (yield_law ends None) (avoid_yield ends (k ∷ []) None e)
 
-finish_law : {X : Type 0} (ends : List Kind) (x : X) → Law ends (finish x)
+-- the same, and what follows it
+pub bind_optional : {A B : Type 0} (ends : List Kind) (k : Kind) (p : Production A) (g : Option A → Production B) → Law [] p → ((a : Option A) → Law ends (g a)) → ((a : Option A) → Avoids ends (k ∷ []) (g a)) → is_within (k ∷ []) (k ∷ []) ≡ true
+    → Law ends (optional k p >>= g)
+bind_optional ends k p g l lg av e = bind_open ends (k ∷ []) (optional k p) g (optional_law (k ∷ []) k p (weaken (k ∷ []) p l) e e) lg av
+
+-- the same with a part that is open itself
+pub bind_optional_open : {A B : Type 0} (ends inner : List Kind) (k : Kind) (p : Production A) (g : Option A → Production B) → Law inner p → ((a : Option A) → Law ends (g a)) → ((a : Option A) → Avoids ends (k ∷ inner) (g a))
+    → Law ends (optional k p >>= g)
+bind_optional_open ends inner k p g l lg av = bind_open ends (k ∷ inner) (optional k p) g optional_open lg av
+  where
+    optional_open : Law (k ∷ inner) (optional k p)
+    optional_open = branch_law (k ∷ inner) k (p >>= (λ x. yield (Some x))) (yield None)
+        (bind_open (k ∷ inner) inner p (λ x. yield (Some x)) l (λ x. yield_law (k ∷ inner) (Some x)) (λ x. record { clear = λ ts y rest h c. rw (h.0) (c.1) })) (yield_law (k ∷ inner) None) (record { clear = λ ts y rest h c. rw (h.0) (c.0, tt) })
+
+pub finish_law : {X : Type 0} (ends : List Kind) (x : X) → Law ends (finish x)
 finish_law ends x = at_end_law ends x (refuse rules.Unexpected) (refuse_law ends rules.Unexpected) (record { shorter = λ ts y rest h. absurd h })
 
 none_clear : (ks : List Kind) → Clear ks []
@@ -46,7 +60,7 @@ unfolding sees
 none_clear [] = tt
 none_clear (k ∷ ks) = (refl, none_clear ks)
 
-finish_avoids : {X : Type 0} (ends begins : List Kind) (x : X) → Avoids ends begins (finish x)
+pub finish_avoids : {X : Type 0} (ends begins : List Kind) (x : X) → Avoids ends begins (finish x)
 finish_avoids ends begins x = record { clear = λ ts y rest h c. elim h [ inl done ↦ rw (done.0) (none_clear begins) | inr no_way ↦ absurd no_way ] }
 
 -- ---- functions

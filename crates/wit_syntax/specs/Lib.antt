@@ -11,3 +11,7 @@ pub mod View
 pub mod Place
 pub mod Version
 pub mod Sources
+pub mod TypeTree
+pub mod TypeGrammar
+pub mod TypeView
+pub mod Broken

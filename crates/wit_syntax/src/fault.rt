@@ -21,6 +21,12 @@ pub enum Rule {
     /// Another token, or the text's end, had to stand here.
     #[error("something else has to stand here")]
     Unexpected,
+    /// The length of a list is 0 or above 4,294,967,295.
+    #[error("a list's length is from 1 to 4,294,967,295")]
+    BadNumber,
+    /// A type stands in more than 100 angle brackets.
+    #[error("a type stands in at most 100 angle brackets")]
+    TooDeep,
 }
 
 /// A broken rule, and where.
@@ -29,7 +35,7 @@ pub enum Rule {
 pub struct Fault {
     /// The rule that is broken.
     pub rule: Rule,
-    /// What is left of the text from there: in tokens for `Rule::Unexpected`, and else in bytes.
+    /// What is left of the text from there: in tokens for `Rule::Unexpected`, `Rule::BadNumber` and `Rule::TooDeep`, and else in bytes.
     pub left: usize,
 }
 

@@ -1,0 +1,129 @@
+-- Each production of types is read as it says.
+use Rattle.std.proofs.Common.{◌≡◌, ℕ, zero, suc, List, [], ◌∷◌, refl, Option, Ok, length, ◌<◌}
+use Rattle.wit_syntax.specs.declared.token.Kind.{Kind}
+use Rattle.wit_syntax.specs.declared.token.Kind.TheVariants as kind
+use Rattle.wit_syntax.specs.Token.{What, Tok, plain, ident, same_kind}
+use Rattle.wit_syntax.specs.TypeTree.{TypeTree}
+use Rattle.wit_syntax.specs.Production.{Production, ◌>>=◌, yield, commas, comma_step}
+use Rattle.wit_syntax.specs.TypeGrammar.{length_in, list_len, list_after, option_after, tuple_after, result_parts, result_after, handle_of, payload, type_after, too_deep, type_in, any_type, whole_type}
+use Rattle.wit_syntax.proofs.Laws.{Law, Avoids, NextLaw, bind_law, bind_open, yield_law, sign_law, one_law, branch_law}
+use Rattle.wit_syntax.proofs.Choices.{Goes, by_law, avoid_yield, avoid_sign, avoid_first, avoid_skip, avoid_branch, avoid_by, goes_one, goes_by, leads_nowhere}
+use Rattle.wit_syntax.proofs.Texts.{Whole, whole_finish, whole_bind}
+use Rattle.wit_syntax.proofs.TextLaws.{name_law, bind_optional, bind_optional_open, finish_law, finish_avoids}
+use Rattle.wit_syntax.proofs.Turns.{commas_open, comma_turn}
+
+ruleset laws = (bind_law, yield_law, sign_law, branch_law)
+
+ruleset avoids = (avoid_yield, avoid_sign, avoid_first, avoid_skip, avoid_branch)
+
+-- what must not follow a type: `result`, `future` and `stream` go on with it
+abbrev pub open_type : List Kind
+open_type = kind.LessThan ∷ []
+
+list_len_law : (ends : List Kind) → Law ends list_len
+unfolding list_len
+list_len_law ends = one_law ends length_in
+
+handle_of_law : (ends : List Kind) → Law ends handle_of
+unfolding handle_of
+handle_of_law ends = search (laws, name_law)
+
+module _ (inner : Production TypeTree) (l : Law open_type inner) where
+  list_after_law : Law open_type (list_after inner)
+  unfolding list_after same_kind
+  list_after_law = search (laws, bind_open, bind_optional, avoids, l, list_len_law)
+
+  option_after_law : Law open_type (option_after inner)
+  unfolding option_after same_kind
+  option_after_law = search (laws, bind_open, avoids, l)
+
+  tuple_after_law : Goes open_type inner → Avoids [] (kind.GreaterThan ∷ []) inner → Law open_type (tuple_after inner)
+  unfolding tuple_after same_kind
+  tuple_after_law g a = search (laws, commas_open, l, g, a)
+
+  result_parts_law : Avoids [] (kind.Underscore ∷ []) inner → Law open_type (result_parts inner)
+  unfolding result_parts same_kind
+  result_parts_law a = branch_law open_type kind.Underscore _ _ (search (laws, bind_open, avoids, l))
+      (bind_open open_type open_type inner _ l (λ t. bind_optional_open open_type open_type kind.Comma inner _ l (λ e. search laws) (λ e. search avoids)) (λ t. search avoids)) (search (avoids, a))
+
+  result_after_law : Avoids [] (kind.Underscore ∷ []) inner → Law open_type (result_after inner)
+  unfolding result_after same_kind
+  result_after_law a = branch_law open_type kind.LessThan _ _ (result_parts_law a) (search laws) (search avoids)
+
+  payload_law : Law open_type (payload inner)
+  unfolding payload same_kind
+  payload_law = branch_law open_type kind.LessThan _ _ (search (laws, bind_open, avoids, l)) (search laws) (search avoids)
+
+  carrier_law : (carrier : Option TypeTree → TypeTree) → Law open_type (payload inner >>= (λ t. yield (carrier t)))
+  unfolding same_kind
+  carrier_law carrier = bind_open open_type open_type (payload inner) _ payload_law (λ t. yield_law open_type (carrier t)) (λ t. avoid_yield open_type open_type (carrier t) refl)
+
+type_next : (inner : Production TypeTree) → Law open_type inner → Goes open_type inner → Avoids [] (kind.GreaterThan ∷ []) inner → Avoids [] (kind.Underscore ∷ []) inner → (t : What) → NextLaw open_type (type_after inner t)
+type_next inner l g a b (ident s) = yield_law open_type _
+type_next inner l g a b (plain kind.Bool) = yield_law open_type _
+type_next inner l g a b (plain kind.U8) = yield_law open_type _
+type_next inner l g a b (plain kind.U16) = yield_law open_type _
+type_next inner l g a b (plain kind.U32) = yield_law open_type _
+type_next inner l g a b (plain kind.U64) = yield_law open_type _
+type_next inner l g a b (plain kind.S8) = yield_law open_type _
+type_next inner l g a b (plain kind.S16) = yield_law open_type _
+type_next inner l g a b (plain kind.S32) = yield_law open_type _
+type_next inner l g a b (plain kind.S64) = yield_law open_type _
+type_next inner l g a b (plain kind.F32) = yield_law open_type _
+type_next inner l g a b (plain kind.F64) = yield_law open_type _
+type_next inner l g a b (plain kind.Char) = yield_law open_type _
+type_next inner l g a b (plain kind.StringKeyword) = yield_law open_type _
+type_next inner l g a b (plain kind.ListKeyword) = list_after_law inner l
+type_next inner l g a b (plain kind.OptionKeyword) = option_after_law inner l
+type_next inner l g a b (plain kind.Tuple) = tuple_after_law inner l g a
+type_next inner l g a b (plain kind.ResultKeyword) = result_after_law inner l b
+type_next inner l g a b (plain kind.Own) = bind_law open_type handle_of _ (handle_of_law []) (λ n. yield_law open_type _)
+type_next inner l g a b (plain kind.Borrow) = bind_law open_type handle_of _ (handle_of_law []) (λ n. yield_law open_type _)
+type_next inner l g a b (plain kind.Future) = carrier_law inner l _
+type_next inner l g a b (plain kind.Stream) = carrier_law inner l _
+type_next inner l g a b (plain kind.ErrorContext) = yield_law open_type _
+type_next inner l g a b _ = tt
+
+type_avoids : (d : ℕ) (begins : List Kind) → ((d : ℕ) → leads_nowhere begins (type_after (type_in d))) → Avoids [] begins (type_in d)
+unfolding type_in
+type_avoids zero begins n = record { clear = λ ts x rest h c. absurd (let bad = h.good in cc) }
+type_avoids (suc d) begins n = avoid_by [] begins (type_after (type_in d)) (n d)
+
+type_laws : (d : ℕ) → Law open_type (type_in d) × Goes open_type (type_in d)
+unfolding type_in
+type_laws zero = (one_law open_type too_deep, goes_one open_type too_deep)
+type_laws (suc d) =
+    let below = type_laws d in
+    let next = type_next (type_in d) below.0 below.1 (type_avoids d (kind.GreaterThan ∷ []) (λ d. (refl, tt))) (type_avoids d (kind.Underscore ∷ []) (λ d. (refl, tt))) in
+    (by_law open_type (type_after (type_in d)) next, goes_by open_type (type_after (type_in d)) next)
+
+pub any_type_law : Law open_type any_type
+unfolding any_type
+any_type_law = (type_laws 101).0
+
+pub any_type_goes : Goes open_type any_type
+unfolding any_type
+any_type_goes = (type_laws 101).1
+
+-- a type begins with none of these
+pub any_type_avoids : (begins : List Kind) → ((d : ℕ) → leads_nowhere begins (type_after (type_in d))) → Avoids [] begins any_type
+unfolding any_type
+any_type_avoids begins n = type_avoids 101 begins n
+
+-- ---- whole texts
+
+pub whole_type_law : Law [] whole_type
+unfolding whole_type
+whole_type_law = bind_open [] open_type any_type _ any_type_law (λ t. finish_law [] t) (λ t. finish_avoids [] open_type t)
+
+pub whole_type_whole : Whole whole_type
+unfolding whole_type
+whole_type_whole = search (whole_bind, whole_finish) depth 8
+
+-- ---- what loops want
+
+pub type_shorter : (d : ℕ) (ts : List Tok) (t : TypeTree) (rest : List Tok) → (type_in d).read ts ≡ Ok (t, rest) → length rest < length ts
+type_shorter d ts t rest e = (type_laws d).1.shorter ts t rest ((type_laws d).0.found ts t rest e)
+
+pub types_turn : (d : ℕ) (ts : List Tok) → (commas (type_in d) kind.GreaterThan).read ts ≡ (comma_step (type_in d) kind.GreaterThan (commas (type_in d) kind.GreaterThan)).read ts
+types_turn d ts = comma_turn open_type (type_in d) kind.GreaterThan (type_laws d).0 (type_laws d).1 ts
