@@ -101,9 +101,6 @@ module _ (fs : List FunctionItem) (distinct : all_new [] (names_of fs) ≡ true)
         ap (is_listed fs) from.2 ∙ (ap (λ o. is_type_of o (Some from.0.ty)) (named_in fs distinct from.0 from.1) ∙ (type_of_function_decides from.0.ty from.0.ty).1 refl),
   )
 
-  pub all_listed_decides : (es : List ImportEntry) → Decides (list_all (is_listed fs) es) (Each (λ e. IsIn e (map listed fs)) es)
-  all_listed_decides es = list_all_decides (is_listed fs) (λ e. IsIn e (map listed fs)) listed_decides es
-
   -- ---- what is there
 
   -- where all entries are listed, one of a function's name is the function's

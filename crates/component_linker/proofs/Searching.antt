@@ -23,9 +23,6 @@ module _ {A X : Type 0} (view : A → X) (offset : A → ℕ) (P : X → Type 0)
     here : drop i xs ≡ a ∷ drop (i + 1) xs
     here = drop_more xs i a lt ∙ ap (λ (x : A). x ∷ drop (i + 1) xs) (sym is)
 
-    seen_here : Each P (map view (drop i xs)) ≡ Each P (map view (a ∷ drop (i + 1) xs))
-    seen_here = ap (λ ys. Each P (map view ys)) here
-
     pub going_on : Going i → P (view a) → Going (i + 1)
     going_on h p = record {
       back = λ rest. h.back (subst (λ ys. Each P (map view ys)) (sym here) (p, rest));

@@ -60,7 +60,7 @@ Says l bytes (Finding kind offset) = (offset ≤ length bytes) × IsFinding l by
 -- yes is said of bytes that are right for the input alone, and a finding names what fails of them
 abbrev pub IsVerdict : Input → Linking → List ℕ → Verdict → Type 0
 IsVerdict input l bytes Yes = IsRight input bytes
-IsVerdict input l bytes (Finding kind offset) = (offset ≤ length bytes) × IsFinding l bytes kind offset
+IsVerdict input l bytes verdict = Says l bytes verdict
 
 -- a verdict on bytes, for an input in whose way nothing stands
 pub record IsJudged (input : Input) (bytes : List ℕ) (verdict : Verdict) : Type 0 where

@@ -1,6 +1,6 @@
 //! Whether a component is right for its input.
 
-ghost use Rattle.std.specs.Prelude.{◌≡◌, ◌≢◌, ◌⊎◌, ◌≤◌, nat_le, ℕ, List, [], None, Any, bytes_eq, map, option_map, slice_get, string_bytes, true, false, length, IfOk, IfErr, IfSome, IfNone, OnOk, Err};
+ghost use Rattle.std.specs.Prelude.{◌≡◌, ◌≢◌, ◌⊎◌, nat_le, ℕ, [], None, Any, bytes_eq, map, option_map, slice_get, string_bytes, true, length, IfOk, IfErr, Err};
 ghost use Rattle.std.specs.Bool.{Decides};
 ghost use Rattle.std.specs.Cmp.Lexicographic.{pointwise};
 ghost use Rattle.std.specs.List.{list_all, AllByRecursion as Each};
@@ -8,18 +8,15 @@ ghost use Rattle.wasm_format.specs.Module.{module_value, import_value, export_va
 ghost use Rattle.component_format.specs.Definition.{function_type_value, parameter_value, definition_values};
 ghost use Rattle.component_format.specs.Found.{AreWithin as DefinitionsWithin};
 ghost use Rattle.component_format.specs.Names.{all_new};
-ghost use Rattle.component_linker.specs.Cause.{IsLinkable, IsLinkCause};
-ghost use Rattle.component_linker.specs.FirstPlaces.{place_of};
-ghost use Rattle.component_linker.specs.Input.{Input};
-ghost use Rattle.component_linker.specs.Judged.{Finds, IsOnce, IsOutside, IsJudged, IsAuditCause, IsJudgeCause, Says, SaysOf, MeetsAll, function_named, is_listed, is_there, is_lift_of, is_lowering_of, IsOwnExport};
+ghost use Rattle.component_linker.specs.Cause.{IsLinkable};
+ghost use Rattle.component_linker.specs.Judged.{Finds, IsOnce, IsOutside, IsJudged, IsAuditCause, IsJudgeCause, Says, SaysOf, function_named, is_listed, is_there, is_lift_of, is_lowering_of, IsOwnExport};
 ghost use Rattle.component_linker.specs.Linking.{core_import, core_export};
 ghost use Rattle.component_linker.specs.Meaning as meant;
 ghost use Rattle.component_linker.specs.Places.{ArePlaces, ImportPlace};
 ghost use Rattle.component_linker.specs.Right as right;
-ghost use Rattle.component_linker.specs.Right.{IsIn, IsGiven, EachGiven, LiftsOwn, ImportsRight, ExportsRight, LinksRight, type_seen};
+ghost use Rattle.component_linker.specs.Right.{IsIn, IsGiven, EachGiven, LiftsOwn, ImportsRight, LinksRight, type_seen};
 ghost use Rattle.component_linker.specs.SpacesView as seen;
 ghost use Rattle.component_linker.specs.View as view;
-ghost use Rattle.component_linker.specs.WalkView.{spaces_of};
 ghost use Rattle.component_linker.specs.World.{FunctionItem, function_item, param_item, world_fits};
 
 use crate::fault::Fault;
@@ -39,6 +36,9 @@ use std::alloc::{AllocError, Global};
 use wasm_format::{Export, Import};
 
 /// Judges any bytes against a session's input, whatever order, numbering or spare definitions they use.
+///
+/// Answers yes exactly where they are right for the input, and else a finding: a condition that fails of them, and
+/// where, counted in bytes from the start, or their length where something is absent.
 ///
 /// Answers X1 where the bytes have a section or form that is still to come, or a core module that wasn't handed
 /// in, and refuses as `Session::links` does.

@@ -8,10 +8,12 @@ use std::alloc::{AllocError, AllocFailed, Global};
 use std::marker::Model;
 use thiserror::Error;
 
-/// A range of bytes: from `start` up to `end`, which isn't in it.
+/// A range of bytes of a source map's texts, counted from the first text's start.
 #[derive(Clone, Copy, Debug, PartialEq, Eq)]
 pub struct Span {
+    /// The first byte.
     pub start: u32,
+    /// The byte behind the last.
     pub end: u32,
 }
 
@@ -86,7 +88,8 @@ impl SourceMap {
         }
     }
 
-    /// Adds a text behind the others, and answers where it begins.
+    /// Adds a text behind the others, and answers where it begins, counted in bytes from the first text's start. Answers
+    /// `TooLarge` where all of them would have more than 4,294,967,295 bytes; a text that isn't taken changes nothing.
     pub fn push(&mut self, path: &str, contents: &str) -> Result<u32, SourceFault>
         ensures offset { IfOk result (λ o. o ≡ total self.old) }
         ensures added { OnOk result (self.new ≡ self.old ++ record { path = path.now; contents = contents.now } ∷ []) }
