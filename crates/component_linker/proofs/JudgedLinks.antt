@@ -117,9 +117,6 @@ module _ {A B : Type 0} (l : Linking) (view : A → CoreImport) (look : B → Op
     pub back : EachGiven l (map view (drop k is)) (map look (drop k gs)) → EachGiven l (map view is) (map look gs)
     pub on : EachGiven l (map view is) (map look gs) → EachGiven l (map view (drop k is)) (map look (drop k gs))
 
-  pub giving_start : Giving 0
-  giving_start = record { back = λ h. h; on = λ h. h }
-
   module _ (k : ℕ) (i : A) (g : B) (lt : k < length is) (lg : k < length gs) (ii : i ≡ get_or is k i) (gg : g ≡ get_or gs k g) where
     imports_here : drop k is ≡ i ∷ drop (k + 1) is
     imports_here = drop_more is k i lt ∙ ap (λ (x : A). x ∷ drop (k + 1) is) (sym ii)
