@@ -1,8 +1,8 @@
 //! The words of the program's command line.
 
-ghost use Rattle.std.specs.Prelude.{◌≡◌, ◌≢◌, ◌<◌, ◌++◌, ◌∷◌, false, codes, map, filter, length, IfOk, IfErr, IfSome, IfNone, MatchOption, option_map, string_bytes};
+ghost use Rattle.std.specs.Prelude.{◌≡◌, ◌≢◌, ◌++◌, ◌∷◌, false, codes, map, filter, length, IfOk, IfErr, IfSome, IfNone, MatchOption, option_map, string_bytes};
 ghost use Rattle.clap.specs.Words.{rule_of, app_of, rows_of, found_of, first_of, all_of, matches_of};
-ghost use Rattle.component_linker.specs.Line.{action_rule, world_rule, out_rule, input_rule, line_app, action_named, HasNoEquals, IsInput, AreInputs, HasFields, IsLine, IsTaken, IsClapCause, IsLineCause, IsUsageCause, is_text, is_component, components_of, Fits};
+ghost use Rattle.component_linker.specs.Line.{action_rule, world_rule, out_rule, input_rule, line_app, action_named, HasNoEquals, IsInput, AreInputs, HasFields, IsLine, IsTaken, IsClapCause, IsLineCause, IsUsageCause, is_text, is_component, components_of};
 
 use clap::error::ErrorKind;
 use clap::{Arg, ArgAction, ArgMatches, Command};

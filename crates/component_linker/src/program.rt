@@ -1,6 +1,6 @@
 //! The program over two writers and the files that could be read.
 
-ghost use Rattle.std.specs.Prelude.{◌≡◌, ◌<◌, ◌++◌, ◌∷◌, ◌⊎◌, [], None, Some, IfErr, OnErr, IfOk, OnOk, option_map};
+ghost use Rattle.std.specs.Prelude.{◌≡◌, ◌<◌, ◌⊎◌, [], None, Some, IfErr, OnErr, IfOk, OnOk, option_map};
 ghost use Rattle.std.specs.List.{flat_map};
 ghost use Rattle.std.specs.Io.KnownBytes.{Appends};
 ghost use Rattle.component_linker.specs.Program.{line_status, verdict_status, IsFile, file_at, missing_path, textless_path, input_fault, file_fault, AreSources, ArePackages, AddsSource, places, text_or, ReplacesMain, last_main, IsMain, HasComponent, Handed, IsComponentAnswer, IsLinksAnswer, IsVerdictAnswer, IsAnswer, Writes, IsOutcome};

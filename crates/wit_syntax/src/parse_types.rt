@@ -1,6 +1,6 @@
 //! From tokens to a type.
 
-ghost use Rattle.std.specs.Prelude.{◌≡◌, List, length, map, option_map, suc, IfOk};
+ghost use Rattle.std.specs.Prelude.{◌≡◌, List, length, map, option_map, IfOk};
 ghost use Rattle.wit_syntax.specs.Broken.{HasBreak};
 ghost use Rattle.wit_syntax.specs.Lexical.{LexesText};
 ghost use Rattle.wit_syntax.specs.Outcome.{Gives, Answers};
