@@ -1,14 +1,13 @@
 -- A world that is named is there.
 use Rattle.std.proofs.Common.{◌≡◌, ℕ, ◌<◌, cond, ltb, List, [], ◌∷◌, length, Option, Some, None, slice_get, refl, ap, subst, ◌∙◌, arith, inl, inr}
 use Rattle.std.specs.Prelude.{option_map, option_and_then, bytes_eq}
-use Rattle.std.specs.List.{position_from}
 use Rattle.std.proofs.lemmas.Bool.{ltb-true, cases_Bool}
 use Rattle.std.proofs.lemmas.Option.{slice_get_within}
-use Rattle.wit_syntax.specs.Tree.{UsePathTree, id, in_package}
-use Rattle.wit_syntax.specs.TextGrammar.{IsUsePath}
+use Rattle.wit_syntax.specs.Ast.{UsePathTree, id, in_package}
+use Rattle.wit_syntax.specs.WholeText.{IsUsePath}
 use Rattle.component_linker.specs.World.{WorldMeaning, PackageMeaning}
 use Rattle.component_linker.specs.Input.{Input}
-use Rattle.component_linker.specs.Choice.{main_world, if_named, world_of_path, NamesWorld, is_package}
+use Rattle.component_linker.specs.Choice.{main_world, if_named, world_of_path, NamesWorld, package_named}
 
 some_is : (j k : ℕ) → Some j ≡ Some k → j ≡ k
 some_is j k e = cc
@@ -35,8 +34,8 @@ named_there input name (Some j) k e = place_there input name j k (slice_get inpu
 
 pub world_there : (input : Input) (mains : List ℕ) (text : Option (List ℕ)) (k : ℕ) → NamesWorld input mains text k → k < length input.packages
 world_there input mains None k h = main_there input mains k h
-world_there input mains (Some text) k ((id name, is, e)) = named_there input name (main_world input mains) k e
-world_there input mains (Some text) k ((in_package namespace p name, is, e)) = named_there input name (position_from (is_package namespace p) 0 input.packages) k e
+world_there input mains (Some text) k ((id name, is, e)) = named_there input name.text (main_world input mains) k e
+world_there input mains (Some text) k ((in_package p name, is, e)) = named_there input name.text (package_named input p) k e
 
 -- a text that is a path names the world of that path, and another text none
 pub path_names : (input : Input) (mains : List ℕ) (text : Option (List ℕ)) (t : List ℕ) (path : UsePathTree) (r : Option ℕ) → text ≡ Some t

@@ -4,7 +4,7 @@ use Rattle.std.specs.Prelude.{option_map, option_and_then, slice_get, bytes_eq}
 use Rattle.std.specs.List.{AllByRecursion as Each, AllZip, position_from}
 use Rattle.std.proofs.lemmas.List.{append-nil, map-append, take_more}
 use Rattle.std.proofs.lemmas.Grind.{flat_map-append}
-use Rattle.wit_syntax.specs.Tree.{UsePathTree, id, in_package}
+use Rattle.wit_syntax.specs.Ast.{PackageNameTree, UsePathTree, id, in_package}
 use Rattle.component_linker.specs.declared.fault.Fault.{Fault}
 use Rattle.component_linker.specs.declared.fault.Fault.TheVariants as causes
 use Rattle.component_linker.specs.declared.line.Input.{Input as LineInput}
@@ -12,9 +12,9 @@ use Rattle.component_linker.specs.declared.line.Input.TheVariants as inputs
 use Rattle.component_linker.specs.declared.line.Line.{Line}
 use Rattle.component_linker.specs.declared.program.Stop.{Stop}
 use Rattle.component_linker.specs.declared.program.Stop.TheVariants as stops
-use Rattle.component_linker.specs.World.{WorldMeaning, PackageMeaning}
+use Rattle.component_linker.specs.World.{WorldMeaning, PackageMeaning, if_unversioned}
 use Rattle.component_linker.specs.Input.{Input, SourceText, ModuleInput, first_options}
-use Rattle.component_linker.specs.Choice.{main_world, if_named, world_of_path, NamesWorld, is_package}
+use Rattle.component_linker.specs.Choice.{main_world, if_named, package_named, world_of_path, NamesWorld, is_package}
 use Rattle.component_linker.specs.Program.{IsFile, text_path, text_paths, AreSources, ArePackages, AddsSource, IsPackage, places, text_or, IsNamed, IsMain, MainWords, last_main, Handed}
 use Rattle.component_linker.specs.Stops.{IsUnnamed, IsMainCause, IsHandCause, IsInputStop}
 
@@ -83,10 +83,12 @@ module _ (a b : Input) (same : a.packages ≡ b.packages) where
   named_there name None = refl
   named_there name (Some k) = if_alike name k
 
+  package_alike : (p : PackageNameTree) → package_named a p ≡ package_named b p
+  package_alike p = ap (λ (ps : List PackageMeaning). if_unversioned p.version (position_from (is_package p.namespace.text p.name.text) 0 ps)) same
+
   path_alike : (mains : List ℕ) (path : UsePathTree) → world_of_path a mains path ≡ world_of_path b mains path
-  path_alike mains (id name) = named_there name (main_world a mains) ∙ ap (option_and_then (if_named b name)) (main_alike mains)
-  path_alike mains (in_package namespace p name) =
-      named_there name (position_from (is_package namespace p) 0 a.packages) ∙ ap (λ (ps : List PackageMeaning). option_and_then (if_named b name) (position_from (is_package namespace p) 0 ps)) same
+  path_alike mains (id name) = named_there name.text (main_world a mains) ∙ ap (option_and_then (if_named b name.text)) (main_alike mains)
+  path_alike mains (in_package p name) = named_there name.text (package_named a p) ∙ ap (option_and_then (if_named b name.text)) (package_alike p)
 
   -- what a text names follows from the packages alone
   pub named_alike : (text : List ℕ) (k : ℕ) → IsNamed a text k → IsNamed b text k

@@ -2,6 +2,7 @@ pub mod Naming
 pub mod Results
 pub mod Simple
 pub mod Choice
+pub mod Each
 pub mod Shape
 pub mod Linked
 pub mod LinkLines

@@ -1,9 +1,9 @@
 -- Which world a choice names (WIT, Package and World Names). In this shape a package has one world, at the package's place.
 use Rattle.std.specs.Prelude.{◌≡◌, ℕ, List, [], ◌∷◌, length, Option, Some, None, option_and_then, Bool, ◌&&◌, nat_lt, bytes_eq, if◌then◌else◌}
 use Rattle.std.specs.List.{position_from}
-use Rattle.wit_syntax.specs.Tree.{UsePathTree, id, in_package}
-use Rattle.wit_syntax.specs.TextGrammar.{IsUsePath}
-use Rattle.component_linker.specs.World.{PackageMeaning}
+use Rattle.wit_syntax.specs.Ast.{PackageNameTree, UsePathTree, id, in_package}
+use Rattle.wit_syntax.specs.WholeText.{IsUsePath}
+use Rattle.component_linker.specs.World.{PackageMeaning, if_unversioned}
 use Rattle.component_linker.specs.Input.{Input, world_at}
 
 -- the world of the one main package
@@ -19,10 +19,14 @@ is_package namespace name p = bytes_eq p.namespace namespace && bytes_eq p.name 
 abbrev pub if_named : Input → List ℕ → ℕ → Option ℕ
 if_named input name k = option_and_then (λ w. if bytes_eq w.name name then Some k else None) (world_at input k)
 
+-- the first package of this name; none of this shape has a version
+abbrev pub package_named : Input → PackageNameTree → Option ℕ
+package_named input p = if_unversioned p.version (position_from (is_package p.namespace.text p.name.text) 0 input.packages)
+
 -- a plain name is that of the one main package's world; a full path names a world of any package
 abbrev pub world_of_path : Input → List ℕ → UsePathTree → Option ℕ
-world_of_path input mains (id name) = option_and_then (if_named input name) (main_world input mains)
-world_of_path input mains (in_package namespace p name) = option_and_then (if_named input name) (position_from (is_package namespace p) 0 input.packages)
+world_of_path input mains (id name) = option_and_then (if_named input name.text) (main_world input mains)
+world_of_path input mains (in_package p name) = option_and_then (if_named input name.text) (package_named input p)
 
 -- the choice names this world: the one main package's, without a text, and else the one at the path that the text is
 abbrev pub NamesWorld : Input → List ℕ → Option (List ℕ) → ℕ → Type 0

@@ -5,7 +5,6 @@ use Rattle.std.specs.Option.{option_or}
 use Rattle.std.specs.Str.{is_utf8}
 use Rattle.std.specs.Borrow.{Bor}
 use Rattle.std.specs.Io.KnownBytes.{Appends}
-use Rattle.wit_syntax.specs.Tree.{FileTree}
 use Rattle.component_linker.specs.declared.line.Action.{Action}
 use Rattle.component_linker.specs.declared.line.Action.TheVariants.{Build, Links, Audit}
 use Rattle.component_linker.specs.declared.line.Line.{Line}
@@ -16,7 +15,7 @@ use Rattle.component_linker.specs.declared.line.Input.TheVariants as inputs
 use Rattle.component_linker.specs.declared.link.Link.{Link}
 use Rattle.component_linker.specs.declared.options.StringEncoding.TheVariants.{UTF8}
 use Rattle.component_linker.specs.Input.{Input, SourceText, ModuleInput, first_options}
-use Rattle.component_linker.specs.World.{PackageMeaning, package_of}
+use Rattle.component_linker.specs.World.{PackageMeaning}
 use Rattle.component_linker.specs.Pushed.{IsInShape}
 use Rattle.component_linker.specs.Choice.{NamesWorld}
 use Rattle.component_linker.specs.declared.verdict.Verdict.{Verdict}
@@ -78,9 +77,9 @@ text_paths = flat_map text_path
 abbrev pub AreSources : List (Bor (List ℕ) × Bor (List ℕ)) → List LineInput → List SourceText → Type 0
 AreSources files is sources = (map (λ s. s.path) sources ≡ text_paths is) × Each (λ s. IsFile files s.path s.contents) sources
 
--- a source's text has a tree within the shape, whose package this is
+-- a source's text is of the shape, and this is its package
 abbrev pub IsPackage : SourceText → PackageMeaning → Type 0
-IsPackage s p = (tree : FileTree) × IsInShape s.contents tree × (p ≡ package_of tree)
+IsPackage s p = IsInShape s.contents p
 
 -- the packages of sources, in order
 abbrev pub ArePackages : List SourceText → List PackageMeaning → Type 0

@@ -12,7 +12,7 @@ ghost use Rattle.component_linker.specs.Links.{link_value};
 ghost use Rattle.component_linker.specs.View as view;
 ghost use Rattle.component_linker.specs.World as spec;
 ghost use Rattle.component_linker.specs.Choice.{NamesWorld};
-ghost use Rattle.wit_syntax.specs.View as tree;
+ghost use Rattle.wit_syntax.specs.AstView as tree;
 ghost use Rattle.component_linker.specs.Names.{pairs_of};
 ghost use Rattle.component_linker.specs.ModuleCause.{refusal_of, IsModuleCause};
 ghost use Rattle.wasm_format.specs.Module.{ModuleValue};
@@ -33,7 +33,7 @@ use std::alloc::Global;
 use std::collections::HashMap;
 use std::marker::Model;
 use wasm_format::{ModuleFault, read_module};
-use wit_syntax::{ReadError, UsePath, parse_use_path};
+use wit_syntax::{PackageName, SyntaxFault, UsePath, parse_use_path};
 
 /// A text that was pushed.
 #[derive(Drop)]
@@ -86,10 +86,9 @@ impl<'a> Session<'a> {
     ghost use Rattle.std.specs.Prelude.{map};
     ghost use Rattle.std.specs.Option.{option_copied};
     ghost use Rattle.component_linker.specs.Handed.{source_text, module_input};
-    ghost use Rattle.component_linker.specs.World.{package_meaning};
+    ghost use Rattle.component_linker.specs.World.{PackageMeaning, package_meaning};
     ghost use Rattle.component_linker.specs.Input.{empty_input};
     ghost use Rattle.component_linker.specs.Pushed.{CanPush, Pushed};
-    ghost use Rattle.wit_syntax.specs.Tree.{FileTree};
 
     /// A session without texts, world and modules, with the options of `Options::new`.
     pub fn new(alloc: Global) -> Session<'a>
@@ -138,7 +137,7 @@ impl<'a> Session<'a> {
     /// Answers X1 for a text that lies outside the shape, and for a second package.
     pub fn push_source(&mut self, path: &str, contents: &str) -> Result<PackageId, Fault>
         ensures ok { IfOk result (λ id. Pushed self.old path.now contents.now id self.new) }
-        ensures only { (tree : FileTree) → CanPush self.old contents.now tree → MatchResult result (λ id. id ≡ 0) (λ e. e ≡ Fault.OutOfMemory) }
+        ensures only { (p : PackageMeaning) → CanPush self.old contents.now p → MatchResult result (λ id. id ≡ 0) (λ e. e ≡ Fault.OutOfMemory) }
         ensures cause { IfErr result (λ e. (e ≡ Fault.OutOfMemory) ⊎ (e ≡ Fault.NotYet)) }
         ensures err { OnErr result (self.new ≡ self.old) }
     {
@@ -225,8 +224,9 @@ impl<'a> Session<'a> {
         };
         match parse_use_path(self.alloc, text) {
             Ok(path) => Ok(self.world_of_path(main_packages, path)),
-            Err(ReadError::Memory) => Err(Fault::OutOfMemory),
-            Err(ReadError::Malformed(_)) => Ok(None),
+            Err(SyntaxFault::OutOfMemory) => Err(Fault::OutOfMemory),
+            Err(SyntaxFault::TooLarge) => Ok(None),
+            Err(SyntaxFault::Broken { .. }) => Ok(None),
         }
     }
 
@@ -235,12 +235,8 @@ impl<'a> Session<'a> {
         ensures { result ≡ choice.world_of_path self.now main_packages.now (tree.use_path path.entry) }
     {
         match path {
-            UsePath::Id(name) => self.if_named(name, self.main_world(main_packages)?),
-            UsePath::Package {
-                namespace,
-                package,
-                name,
-            } => self.if_named(name, self.package_named(namespace, package)?),
+            UsePath::Id(id) => self.if_named(id.name, self.main_world(main_packages)?),
+            UsePath::Package { id, name } => self.if_named(name.name, self.package_named(id)?),
         }
     }
 
@@ -254,8 +250,18 @@ impl<'a> Session<'a> {
         }
     }
 
+    /// The world of the first package of this name; none has a version.
+    fn package_named(&self, name: PackageName) -> Option<WorldId>
+        ensures { result ≡ choice.package_named self.now (tree.package_name name.entry) }
+    {
+        if name.version.is_some() {
+            return None;
+        }
+        self.package_at(name.namespace.name, name.name.name)
+    }
+
     /// The world of the first package of this namespace and name.
-    fn package_named(&self, namespace: &str, name: &str) -> Option<WorldId>
+    fn package_at(&self, namespace: &str, name: &str) -> Option<WorldId>
         ensures { result ≡ position_from (choice.is_package namespace.now name.now) 0 self.now.packages }
     {
         for (index, package) in self.packages.iter().enumerate() {

@@ -1,17 +1,23 @@
 //! Packages and their worlds.
 
-ghost use Rattle.std.specs.Prelude.{◌≡◌, ◌⊎◌, [], map, string_bytes, IfOk, IfErr, MatchResult, option_map};
-ghost use Rattle.component_linker.specs.Pushed.{IsInShape};
-ghost use Rattle.wit_syntax.specs.Tree.{FileTree};
+ghost use Rattle.std.specs.Prelude.{◌≡◌, ◌⊎◌, [], map, string_bytes, option_map, IfOk, IfErr, OnOk, MatchResult};
 ghost use Rattle.std.specs.List.{list_all};
 ghost use Rattle.component_format.specs.Names.{all_new};
+ghost use Rattle.component_linker.specs.Pushed.{IsInShape, IsShaped};
 ghost use Rattle.component_linker.specs.World as spec;
-ghost use Rattle.wit_syntax.specs.View as tree;
+ghost use Rattle.component_linker.specs.World.{PackageMeaning};
+ghost use Rattle.wit_syntax.specs.Ast.{FileTree};
+ghost use Rattle.wit_syntax.specs.AstView as view;
+ghost use Rattle.wit_syntax.specs.TypeView.{type_tree};
+ghost use Rattle.wit_syntax.specs.WholeText.{IsText};
 
 use crate::fault::Fault;
 use component_format::{Names, PrimitiveType};
 use std::alloc::{AllocError, Global};
-use wit_syntax::{File, FunctionTree, ItemTree, Parameter, Primitive, ReadError, Side, parse_file};
+use wit_syntax::{
+    AstItem, ExternKind, File, FileItem, Gated, NamedFunc, PackageHeader, SyntaxFault, Type,
+    WorldItem, parse_file,
+};
 
 /// A parameter of a function.
 #[derive(Debug, Drop)]
@@ -50,94 +56,230 @@ pub struct Package {
     pub world: World,
 }
 
-/// The type that a word of the text names.
-fn type_of(word: Primitive) -> PrimitiveType
-    ensures { result ≡ spec.type_of word }
+/// Whether a world asks for a function or offers it.
+#[derive(Clone, Copy, Debug)]
+pub enum Side {
+    /// `import`
+    Import,
+    /// `export`
+    Export,
+}
+
+/// The type, if it is `bool` or an integer.
+fn type_of(ty: &Type) -> Option<PrimitiveType>
+    ensures { result ≡ spec.type_of (type_tree ty.now) }
 {
-    match word {
-        Primitive::Bool => PrimitiveType::Bool,
-        Primitive::U8 => PrimitiveType::U8,
-        Primitive::U16 => PrimitiveType::U16,
-        Primitive::U32 => PrimitiveType::U32,
-        Primitive::U64 => PrimitiveType::U64,
-        Primitive::S8 => PrimitiveType::S8,
-        Primitive::S16 => PrimitiveType::S16,
-        Primitive::S32 => PrimitiveType::S32,
-        Primitive::S64 => PrimitiveType::S64,
+    match ty {
+        Type::Bool => Some(PrimitiveType::Bool),
+        Type::U8 => Some(PrimitiveType::U8),
+        Type::U16 => Some(PrimitiveType::U16),
+        Type::U32 => Some(PrimitiveType::U32),
+        Type::U64 => Some(PrimitiveType::U64),
+        Type::S8 => Some(PrimitiveType::S8),
+        Type::S16 => Some(PrimitiveType::S16),
+        Type::S32 => Some(PrimitiveType::S32),
+        Type::S64 => Some(PrimitiveType::S64),
+        _ => None,
     }
 }
 
-fn result_of(word: Option<Primitive>) -> Option<PrimitiveType>
-    ensures { result ≡ option_map spec.type_of word }
+/// The type of a result, if there is none or it is one of those.
+fn result_of(ty: &Option<Type>) -> Option<Option<PrimitiveType>>
+    ensures { result ≡ spec.result_of (option_map type_tree ty.now) }
 {
-    match word {
-        Some(word) => Some(type_of(word)),
-        None => None,
+    match ty {
+        Some(ty) => Some(Some(type_of(ty)?)),
+        None => Some(None),
     }
 }
 
-fn params_of(alloc: Global, params: &[Parameter]) -> Result<Vec<Param>, AllocError>
-    ensures { IfOk result (λ v. map spec.param_item v.items ≡ map spec.parameter_of (map tree.parameter params.now)) }
+/// The parameters, if all are of those types.
+fn params_of(alloc: Global, params: &[wit_syntax::Param]) -> Result<Option<Vec<Param>>, AllocError>
+    ensures { IfOk result (λ o. option_map (λ v. map spec.param_item v.items) o ≡ spec.each_of spec.parameter_of (map view.param params.now)) }
 {
     let mut found = Vec::new(alloc);
     for param in params {
-        found.push(Param {
-            name: String::from_str(alloc, param.name)?,
-            ty: type_of(param.ty),
-        })?;
+        let Some(ty) = type_of(&param.ty) else {
+            return Ok(None);
+        };
+        let name = String::from_str(alloc, param.name.name)?;
+        found.push(Param { name, ty })?;
     }
-    Ok(found)
+    Ok(Some(found))
 }
 
-fn function_of(alloc: Global, name: &str, function: &FunctionTree) -> Result<Function, AllocError>
-    ensures { IfOk result (λ f. spec.function_item f ≡ spec.function_of name.now (tree.function function.now)) }
+/// A function that isn't `async`, if its types are of those.
+fn function_of(alloc: Global, named: &NamedFunc) -> Result<Option<Function>, AllocError>
+    ensures { IfOk result (λ o. option_map spec.function_item o ≡ spec.function_of (view.named_func named.now)) }
 {
-    let params = params_of(alloc, &function.params)?;
-    Ok(Function {
-        name: String::from_str(alloc, name)?,
+    if named.func.async_ {
+        return Ok(None);
+    }
+    let Some(params) = params_of(alloc, &named.func.params)? else {
+        return Ok(None);
+    };
+    let Some(result) = result_of(&named.func.result) else {
+        return Ok(None);
+    };
+    Ok(Some(Function {
+        name: String::from_str(alloc, named.name.name)?,
         params,
-        result: result_of(function.result),
-    })
+        result,
+    }))
 }
 
-fn is_on(side: Side, item: &ItemTree) -> bool
-    ensures { result ≡ spec.is_on side (tree.item item.now) }
+/// The function that is imported or exported, if it is one.
+fn extern_of(alloc: Global, kind: &ExternKind) -> Result<Option<Function>, AllocError>
+    ensures { (side : _) → IfOk result (λ o. option_map (spec.on_side side) (option_map spec.function_item o) ≡ spec.extern_of side (view.extern_kind kind.now)) }
 {
-    match (side, item.side) {
-        (Side::Import, Side::Import) | (Side::Export, Side::Export) => true,
-        _ => false,
+    match kind {
+        ExternKind::Func(named) => function_of(alloc, named),
+        _ => Ok(None),
     }
 }
 
-/// The functions of one side.
-fn functions_of(alloc: Global, side: Side, items: &[ItemTree]) -> Result<Vec<Function>, AllocError>
-    ensures { IfOk result (λ v. map spec.function_item v.items ≡ spec.functions_of side (map tree.item items.now)) }
+/// What an item of a world imports or exports, if it is of the shape.
+fn item_of(
+    alloc: Global,
+    item: &Gated<'_, WorldItem<'_>>,
+) -> Result<Option<(Side, Function)>, AllocError>
+    ensures { IfOk result (λ o. option_map spec.side_item o ≡ spec.item_of (view.gated view.world_item item.now)) }
 {
-    let mut found = Vec::new(alloc);
+    if !item.attributes.is_empty() {
+        return Ok(None);
+    }
+    let (side, kind) = match &item.item {
+        WorldItem::Import(kind) => (Side::Import, kind),
+        WorldItem::Export(kind) => (Side::Export, kind),
+        _ => return Ok(None),
+    };
+    match extern_of(alloc, kind)? {
+        Some(function) => Ok(Some((side, function))),
+        None => Ok(None),
+    }
+}
+
+/// The functions of a world, by side.
+#[derive(Drop)]
+struct Sides {
+    imports: Vec<Function>,
+    exports: Vec<Function>,
+}
+
+/// Adds a function behind those of its side.
+fn add(sides: &mut Sides, side: Side, function: Function) -> Result<(), AllocError>
+    ensures { OnOk result (spec.sides_value sides.new ≡ spec.with_item (spec.sides_value sides.old) (spec.on_side side (spec.function_item function))) }
+{
+    match side {
+        Side::Import => sides.imports.push(function)?,
+        Side::Export => sides.exports.push(function)?,
+    }
+    Ok(())
+}
+
+/// The functions of a world's items, if all are of the shape.
+fn sides_of(alloc: Global, items: &[Gated<'_, WorldItem<'_>>]) -> Result<Option<Sides>, AllocError>
+    ensures { IfOk result (λ o. option_map spec.sides_value o ≡ option_map spec.sides_of (spec.each_of spec.item_of (map (view.gated view.world_item) items.now))) }
+{
+    let mut found = Sides {
+        imports: Vec::new(alloc),
+        exports: Vec::new(alloc),
+    };
     for item in items {
-        if is_on(side, item) {
-            found.push(function_of(alloc, item.name, &item.function)?)?;
-        }
+        let Some((side, function)) = item_of(alloc, item)? else {
+            return Ok(None);
+        };
+        add(&mut found, side, function)?;
     }
-    Ok(found)
+    Ok(Some(found))
 }
 
-/// A text's package; its names are copied.
-pub fn package_of(alloc: Global, file: &File) -> Result<Package, AllocError>
-    ensures { IfOk result (λ p. spec.package_meaning p ≡ spec.package_of (tree.file file.now)) }
+/// A world, if it is of the shape; its names are copied.
+#[tactic(auto, using(crate::proofs::Each::world_of_sides))]
+fn world_of(alloc: Global, world: wit_syntax::World) -> Result<Option<World>, AllocError>
+    ensures { IfOk result (λ o. option_map spec.world_meaning o ≡ spec.world_of (view.world world.entry)) }
 {
-    let imports = functions_of(alloc, Side::Import, &file.items)?;
-    let exports = functions_of(alloc, Side::Export, &file.items)?;
-    let world = World {
-        name: String::from_str(alloc, file.world)?,
+    let wit_syntax::World { name, items } = world;
+    let Some(Sides { imports, exports }) = sides_of(alloc, &items)? else {
+        return Ok(None);
+    };
+    Ok(Some(World {
+        name: String::from_str(alloc, name.name)?,
         imports,
         exports,
+    }))
+}
+
+/// The world that an item of a package is, if it is one.
+fn world_in(item: AstItem<'_>) -> Option<wit_syntax::World<'_>>
+    ensures { option_map view.world result ≡ spec.world_in (view.ast_item item.entry) }
+{
+    match item {
+        AstItem::World(world) => Some(world),
+        AstItem::Use(_) | AstItem::Interface(_) => None,
+    }
+}
+
+/// The world that an item of a file is, if it is one without attributes.
+fn item_world<'a>(item: Gated<'a, FileItem<'a>>) -> Option<wit_syntax::World<'a>>
+    ensures { option_map view.world result ≡ spec.item_world (view.gated view.file_item item.entry) }
+{
+    let Gated {
+        attributes,
+        item,
+        ..
+    } = item;
+    if !attributes.is_empty() {
+        return None;
+    }
+    match item {
+        FileItem::Item(item) => world_in(item),
+        FileItem::Package(_) => None,
+    }
+}
+
+/// The one item of a file, if it is a world without attributes.
+#[tactic(auto, using(crate::proofs::Shape::only_one, crate::proofs::Shape::not_one))]
+fn only_world<'a>(mut items: Vec<Gated<'a, FileItem<'a>>>) -> Option<wit_syntax::World<'a>>
+    ensures { option_map view.world result ≡ spec.only_world (map (view.gated view.file_item) items.entry.items) }
+{
+    if items.len() != 1 {
+        return None;
+    }
+    item_world(items.pop()?)
+}
+
+/// The name of a file's package, if it has one without a version.
+fn header_of(
+    alloc: Global,
+    header: &Option<PackageHeader>,
+) -> Result<Option<PackageName>, AllocError>
+    ensures { IfOk result (λ o. option_map spec.package_name o ≡ option_map spec.name_texts (spec.header_of (option_map view.header header.now))) }
+{
+    match header {
+        Some(header) if header.name.version.is_none() => Ok(Some(PackageName {
+            namespace: String::from_str(alloc, header.name.namespace.name)?,
+            name: String::from_str(alloc, header.name.name.name)?,
+        })),
+        _ => Ok(None),
+    }
+}
+
+/// A text's package, if it is of the shape; its names are copied.
+pub fn package_of(alloc: Global, file: File) -> Result<Option<Package>, AllocError>
+    ensures { IfOk result (λ o. option_map spec.package_meaning o ≡ spec.package_of (view.file file.entry)) }
+{
+    let File { package, items } = file;
+    let Some(name) = header_of(alloc, &package)? else {
+        return Ok(None);
     };
-    let name = PackageName {
-        namespace: String::from_str(alloc, file.namespace)?,
-        name: String::from_str(alloc, file.name)?,
+    let Some(world) = only_world(items) else {
+        return Ok(None);
     };
-    Ok(Package { name, world })
+    match world_of(alloc, world)? {
+        Some(world) => Ok(Some(Package { name, world })),
+        None => Ok(None),
+    }
 }
 
 /// The most parameters that a function of this stage has.
@@ -220,20 +362,41 @@ pub fn world_fits(alloc: Global, world: &World) -> Result<bool, AllocError>
     functions_fit(alloc, &world.exports)
 }
 
-/// The package of a text that lies within the shape; any other is X1.
-pub fn read_package(alloc: Global, contents: &str) -> Result<Package, Fault>
-    ensures found { IfOk result (λ p. (d : FileTree) × IsInShape contents.now d × (spec.package_meaning p ≡ spec.package_of d)) }
-    ensures only { (d : FileTree) → IsInShape contents.now d → MatchResult result (λ p. spec.package_meaning p ≡ spec.package_of d) (λ e. e ≡ Fault.OutOfMemory) }
+/// The tree of a text; a text without one is X1.
+fn file_of(alloc: Global, contents: &str) -> Result<File<'_>, Fault>
+    ensures found { IfOk result (λ f. IsText 0 contents.now (view.file f)) }
+    ensures only { (d : FileTree) → IsText 0 contents.now d → MatchResult result (λ f. view.file f ≡ d) (λ e. e ≡ Fault.OutOfMemory) }
     ensures cause { IfErr result (λ e. (e ≡ Fault.OutOfMemory) ⊎ (e ≡ Fault.NotYet)) }
 {
-    let file = match parse_file(alloc, contents) {
-        Ok(file) => file,
-        Err(ReadError::Memory) => return Err(Fault::OutOfMemory),
-        Err(ReadError::Malformed(_)) => return Err(Fault::NotYet),
+    match parse_file(alloc, contents, 0) {
+        Ok(file) => Ok(file),
+        Err(SyntaxFault::OutOfMemory) => Err(Fault::OutOfMemory),
+        Err(SyntaxFault::TooLarge) => Err(Fault::NotYet),
+        Err(SyntaxFault::Broken { .. }) => Err(Fault::NotYet),
+    }
+}
+
+/// The package of a file that lies within the shape; any other is X1.
+fn shaped(alloc: Global, file: File) -> Result<Package, Fault>
+    ensures found { IfOk result (λ p. IsShaped (view.file file.entry) (spec.package_meaning p)) }
+    ensures only { (q : PackageMeaning) → IsShaped (view.file file.entry) q → MatchResult result (λ p. spec.package_meaning p ≡ q) (λ e. e ≡ Fault.OutOfMemory) }
+    ensures cause { IfErr result (λ e. (e ≡ Fault.OutOfMemory) ⊎ (e ≡ Fault.NotYet)) }
+{
+    let Some(package) = package_of(alloc, file)? else {
+        return Err(Fault::NotYet);
     };
-    let package = package_of(alloc, &file)?;
     if !world_fits(alloc, &package.world)? {
         return Err(Fault::NotYet);
     }
     Ok(package)
+}
+
+/// The package of a text that lies within the shape; any other is X1.
+pub fn read_package(alloc: Global, contents: &str) -> Result<Package, Fault>
+    ensures found { IfOk result (λ p. IsInShape contents.now (spec.package_meaning p)) }
+    ensures only { (q : PackageMeaning) → IsInShape contents.now q → MatchResult result (λ p. spec.package_meaning p ≡ q) (λ e. e ≡ Fault.OutOfMemory) }
+    ensures cause { IfErr result (λ e. (e ≡ Fault.OutOfMemory) ⊎ (e ≡ Fault.NotYet)) }
+{
+    let file = file_of(alloc, contents)?;
+    shaped(alloc, file)
 }

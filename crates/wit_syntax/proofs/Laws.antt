@@ -1,5 +1,5 @@
 -- A production whose reading finds what its front says, and nothing else.
-use Rattle.std.proofs.Common.{◌≡◌, ◌⊎◌, Bool, true, false, cond, List, [], ◌∷◌, ◌++◌, length, Option, Some, None, Result, Ok, Err, refl, sym, ap, subst, ◌∙◌, inl, inr, rules, append_assoc}
+use Rattle.std.proofs.Common.{◌≡◌, ◌⊎◌, ℕ, Bool, true, false, cond, List, [], ◌∷◌, ◌++◌, length, Option, Some, None, Result, Ok, Err, refl, sym, ap, subst, ◌∙◌, inl, inr, rules, append_assoc}
 use Rattle.std.proofs.lemmas.Bool.{cases_Bool}
 use denote.Enum.Bare.{same_true, true_same}
 use Rattle.wit_syntax.specs.contracts.token.Kind.{the_type}
@@ -7,8 +7,10 @@ use Rattle.wit_syntax.specs.declared.fault.Fault.{Fault}
 use Rattle.wit_syntax.specs.declared.fault.Rule.{Rule}
 use Rattle.wit_syntax.specs.declared.fault.Rule.TheVariants as rule
 use Rattle.wit_syntax.specs.declared.token.Kind.{Kind}
-use Rattle.wit_syntax.specs.Token.{What, Tok, plain, number, version, ident, same_kind}
-use Rattle.wit_syntax.specs.Production.{Outcome, Production, wrong, and_then, ◌>>=◌, yield, refuse, is_kind, sees, after, Stands, sign, judged, one_at, one, branch, Next, none, goes}
+use Rattle.wit_syntax.specs.declared.source_map.Span.{Span}
+use Rattle.wit_syntax.specs.Slice.{Slice}
+use Rattle.wit_syntax.specs.Token.{What, Tok, plain, number, version, ident, explicit, same_kind}
+use Rattle.wit_syntax.specs.Production.{Outcome, Production, wrong, and_then, ◌>>=◌, yield, refuse, is_kind, sees, after, Stands, sign, judged, one_at, one, spanned, slice_at, slice, branch, Next, none, goes}
 use Rattle.wit_syntax.specs.Place.{ahead}
 
 -- ---- what stands next
@@ -56,6 +58,9 @@ pub same_self : (k : Kind) → same_kind k k ≡ true
 unfolding same_kind
 same_self k = true_same the_type k k refl
 
+abbrev given : Slice → Result Slice Rule
+given s = Ok s
+
 abbrev done : {A : Type 0} → A → Result A Fault
 done p = Ok p
 
@@ -100,6 +105,7 @@ kind_is k (plain j) e = ap (λ i. plain i) (same_is j k e)
 kind_is k (number s) e = absurd cc
 kind_is k (version s) e = absurd cc
 kind_is k (ident s) e = absurd cc
+kind_is k (explicit s) e = absurd cc
 
 pub sees_ahead : (k : Kind) (ts us : List Tok) → ahead ts ≡ ahead us → sees k ts ≡ sees k us
 sees_ahead k ts us e = sees_in k ts ∙ ap (seen_in k) e ∙ sym (sees_in k us)
@@ -182,6 +188,14 @@ yield_law ends x = record {
   stuck = λ ts e h. absurd cc;
 }
 
+-- a value made of what is read
+
+pub map_law : {A B : Type 0} (ends : List Kind) (p : Production A) (f : A → B) → Law ends p → Law ends (p >>= (λ x. yield (f x)))
+map_law ends p f l = bind_open ends ends p (λ x. yield (f x)) l (λ x. yield_law ends (f x)) (λ x. record { clear = λ ts y rest h c. rw (h.0) c })
+
+pub map_avoids : {A B : Type 0} (ends begins : List Kind) (p : Production A) (f : A → B) → Avoids ends begins p → Avoids ends begins (p >>= (λ x. yield (f x)))
+map_avoids ends begins p f av = record { clear = λ ts x rest h c. av.clear ts h.value h.mid h.first (rw (h.second.0) c) }
+
 pub refuse_law : {X : Type 0} (ends : List Kind) (r : Rule) → Law ends (refuse {X = X} r)
 refuse_law {X = X} ends r = record {
   found = λ ts y rest e. absurd cc;
@@ -227,7 +241,7 @@ sign_law ends k = record {
   ];
 }
 
-judged_ok : {X : Type 0} (whole : List Tok) (r : Result X Rule) (ts : List Tok) (x : X) (rest : List Tok) → judged whole r ts ≡ Ok (x, rest) → (r ≡ Ok x) × (ts ≡ rest)
+pub judged_ok : {X : Type 0} (whole : List Tok) (r : Result X Rule) (ts : List Tok) (x : X) (rest : List Tok) → judged whole r ts ≡ Ok (x, rest) → (r ≡ Ok x) × (ts ≡ rest)
 judged_ok whole (Ok y) ts x rest e = let q = ok_parts y x ts rest e in (ap (λ t. Ok t) q.0, q.1)
 judged_ok whole (Err r) ts x rest e = absurd cc
 
@@ -262,6 +276,47 @@ one_law ends judge = record {
   suffix = λ ts x rest h. record { taken = h.token ∷ []; parts = h.first };
   steady = λ ts x rest e. let h = one_found judge ts x rest e in record { taken = h.token ∷ []; parts = h.first; ever = λ next same. rw (h.good) refl };
   stuck = one_stuck judge;
+}
+
+-- the same with the place of the token
+
+spanned_ok : (span : Span) (r : Result (List ℕ) Rule) (s : Slice) → spanned span r ≡ Ok s → (r ≡ Ok s.text) × (s.span ≡ span)
+spanned_ok span (Ok x) s e = let q = slice_is (record { text = x; span = span }) s e in (ap (λ (t : Slice). Ok t.text) q, sym (ap (λ (t : Slice). t.span) q))
+  where
+    slice_is : (s t : Slice) → given s ≡ given t → s ≡ t
+    slice_is s t e = cc
+spanned_ok span (Err r) s e = absurd cc
+
+pub spanned_err : (span : Span) (r : Result (List ℕ) Rule) (e : Rule) → spanned span r ≡ Err e → r ≡ Err e
+spanned_err span (Ok x) e h = absurd cc
+spanned_err span (Err r) e h = let q : r ≡ e = cc in ap (λ (t : Rule). Err t) q
+
+slice_found : (judge : What → Result (List ℕ) Rule) (ts : List Tok) (x : Slice) (rest : List Tok) → slice_at judge ts ≡ Ok (x, rest) → (slice judge).front x ts rest
+slice_found judge [] x rest e = absurd cc
+slice_found judge (t ∷ ts) x rest e =
+    let q = judged_ok (t ∷ ts) (spanned t.span (judge t.what)) ts x rest e in
+    let s = spanned_ok t.span (judge t.what) x q.0 in
+    record { token = t; first = ap (λ (us : List Tok). t ∷ us) q.1; good = s.0; there = s.1 }
+
+slice_read : (judge : What → Result (List ℕ) Rule) (t : Tok) (ts : List Tok) (x : Slice) → judge t.what ≡ Ok x.text → x.span ≡ t.span → slice_at judge (t ∷ ts) ≡ Ok (x, ts)
+slice_read judge t ts x good there = rw (good, ← there) refl
+
+slice_stuck : (judge : What → Result (List ℕ) Rule) (ts : List Tok) (e : Fault) → slice_at judge ts ≡ Err e → Stuck (slice_at judge) ts e
+slice_stuck judge [] e h =
+    let w = err_is {A = Slice} (record { rule = rule.Unexpected; left = 0 }) e h in
+    record { place = []; left = ap (λ (f : Fault). f.left) w; moves = record { taken = []; parts = refl; ever = λ next same. let q : rule.Unexpected ≡ e.rule = ap (λ (f : Fault). f.rule) w in rw (ahead_none next same, ← q) refl } }
+slice_stuck judge (t ∷ ts) e h =
+    let w = judged_err (t ∷ ts) (spanned t.span (judge t.what)) ts e h in
+    let r = spanned_err t.span (judge t.what) e.rule w.0 in
+    record { place = t ∷ ts; left = w.1; moves = record { taken = []; parts = refl; ever = λ next same. let a = ahead_is t ts next same in rw (a.2, a.3, r) refl } }
+
+pub slice_law : (ends : List Kind) (judge : What → Result (List ℕ) Rule) → Law ends (slice judge)
+slice_law ends judge = record {
+  found = slice_found judge;
+  again = λ ts x rest h clear. rw (h.first) (slice_read judge h.token rest x h.good h.there);
+  suffix = λ ts x rest h. record { taken = h.token ∷ []; parts = h.first };
+  steady = λ ts x rest e. let h = slice_found judge ts x rest e in record { taken = h.token ∷ []; parts = h.first; ever = λ next same. slice_read judge h.token next x h.good h.there };
+  stuck = slice_stuck judge;
 }
 
 -- ---- choices

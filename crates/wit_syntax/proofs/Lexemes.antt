@@ -1,10 +1,9 @@
 -- What stands for a lexeme is cut, and what is cut stands for one.
-use Rattle.std.proofs.Common.{◌≡◌, ℕ, zero, suc, ◌+◌, ◌-◌, ◌≤◌, true, false, eqb, ◌&&◌, List, [], ◌∷◌, ◌++◌, length, take, drop, Option, Some, None, Result, Ok, Err, refl, sym, ap, subst, ◌∙◌, arith, inl, inr, length-append, length-take, length-drop, take-append-drop}
+use Rattle.std.proofs.Common.{◌≡◌, ℕ, suc, ◌+◌, ◌-◌, ◌≤◌, true, false, eqb, ◌&&◌, List, [], ◌∷◌, ◌++◌, length, take, drop, Option, Some, None, Result, Ok, Err, refl, sym, ap, subst, ◌∙◌, arith, inl, inr, length-append, length-take, take-append-drop}
 use Rattle.std.specs.List.{prefix_len}
 use Rattle.std.proofs.lemmas.Bool.{cases_Bool, eqb-true}
 use Rattle.std.proofs.lemmas.Bool.Decides.{nat_tests}
 use Rattle.std.proofs.lemmas.List.{take_at, drop_at}
-use Rattle.wit_syntax.specs.declared.fault.Fault.{Fault}
 use Rattle.wit_syntax.specs.declared.fault.Rule.{Rule}
 use Rattle.wit_syntax.specs.declared.lex.Class.{Class}
 use Rattle.wit_syntax.specs.declared.lex.Class.TheVariants as class
@@ -12,20 +11,18 @@ use Rattle.wit_syntax.specs.declared.lex.Lexeme.{Lexeme}
 use Rattle.wit_syntax.specs.declared.lex.Lexeme.TheVariants as lexeme
 use Rattle.wit_syntax.specs.declared.token.Kind.{Kind}
 use Rattle.wit_syntax.specs.declared.token.Kind.TheVariants as kind
-use Rattle.std.specs.Prelude.{IfOk}
-use Rattle.wit_syntax.specs.declared.fault.ReadError.{ReadError}
-use Rattle.wit_syntax.specs.declared.fault.ReadError.TheVariants as errors
-use Rattle.wit_syntax.specs.Outcome.{Gives, Answers}
+use Rattle.wit_syntax.specs.declared.fault.Rule.TheVariants.{BadCharacter}
+use Rattle.wit_syntax.specs.declared.fault.SyntaxFault.{SyntaxFault}
+use Rattle.wit_syntax.specs.declared.fault.SyntaxFault.TheVariants as faults
+use Rattle.wit_syntax.specs.declared.source_map.Span.{Span}
+use Rattle.wit_syntax.specs.Outcome.{AnswersText}
 use Rattle.wit_syntax.specs.Token.{Tok}
-use Rattle.wit_syntax.specs.Lex.{Text, Cut, is_in, comment_from, closed, slash, minus, percent, sign, digits, version_or_number, lexeme_at, Piece, piece_of, put, placed, lex_token, lex_step, lex_from, lex_bare, lex}
+use Rattle.wit_syntax.specs.Lex.{Text, Cut, is_in, comment_from, closed, slash, minus, percent, sign, digits, version_or_number, lexeme_at, Piece, piece_of, span_of, Reading, stops, read_piece, read_bare, read, GivesReading}
 use Rattle.wit_syntax.specs.Version.{IsVersion, IsVersionFront, HasNoVersion, version_len}
 use Rattle.wit_syntax.proofs.Versions.{version_found, version_only, no_version_found, no_version_only, version_digit}
 use Rattle.wit_syntax.proofs.Comments.{comment_scanned, comment_inside}
-use Rattle.wit_syntax.proofs.LexLaws.{lex_from-drop, drop-cons}
+use Rattle.wit_syntax.proofs.LexLaws.{read_from-drop, drop-cons}
 use Rattle.wit_syntax.specs.Lexical.{IsRun, IsSign, IsLexeme, Adds, Lexes, LexesText, ends, goes}
-
-abbrev given : List Tok → Result (List Tok) Fault
-given ts = Ok ts
 
 abbrev cut : Lexeme → ℕ → Cut
 cut l n = Ok (l, n)
@@ -138,7 +135,7 @@ sign_some kind.Underscore x rest h = rw h (omega arith)
 sign_some kind.RightArrow x rest h = rw h (omega arith)
 sign_some _ x rest h = absurd h
 
-lexeme_some : (l : Lexeme) (x rest : Text) → IsLexeme l x rest → 1 ≤ length x
+pub lexeme_some : (l : Lexeme) (x rest : Text) → IsLexeme l x rest → 1 ≤ length x
 lexeme_some lexeme.Blank x rest ((b, is, blank)) = rw is (omega arith)
 lexeme_some lexeme.Comment x rest (inl (y, is, run)) = rw is (omega arith)
 lexeme_some lexeme.Comment x rest (inr (y, is, whole)) = rw is (omega arith)
@@ -151,23 +148,59 @@ lexeme_some lexeme.Word [] rest h = absurd h
 lexeme_some lexeme.Word (b ∷ x) rest h = omega arith
 lexeme_some lexeme.Marked x rest (y, is, h) = rw is (omega arith)
 
-pub lex_at : (z : Text) (l : Lexeme) (n : ℕ) → 1 ≤ length z → lexeme_at z ≡ Ok (l, n) → 1 ≤ n → lex_bare z ≡ lex_token (lex_bare (drop n z)) (placed z (piece_of l (take n z)))
-unfolding lex_bare
-lex_at [] l n long e some = absurd (omega arith)
-lex_at (b ∷ z) l n long e some = rw (e, lex_from-drop (n - 1) z, drop-cons n b z some) refl
+pub reads_lexeme : (at : ℕ) (z : Text) (l : Lexeme) (n : ℕ) → 1 ≤ length z → lexeme_at z ≡ Ok (l, n) → 1 ≤ n
+    → read_bare at z ≡ read_piece at (span_of l at (take n z)) (read_bare (at + length (take n z)) (drop n z)) (piece_of l (take n z))
+unfolding read_bare
+reads_lexeme at [] l n long e some = absurd (omega arith)
+reads_lexeme at (b ∷ z) l n long e some = rw (e, read_from-drop (n - 1) (at + length (take n (b ∷ z))) z, drop-cons n b z some) refl
 
-piece_adds : (z : Text) (o : Result Piece Rule) (ts us : List Tok) → Adds o ts us → lex_token (given ts) (placed z o) ≡ given us
-piece_adds z (Ok p) ts us h = ap given (sym h)
-piece_adds z (Err rule) ts us h = absurd h
+abbrev pub whole : List Tok → Reading
+whole ts = record { tokens = ts; broken = None }
 
-pub lexes_only : {text : Text} {us : List Tok} → Lexes text us → lex_bare text ≡ Ok us
-unfolding lex_bare
-lexes_only ends = refl
-lexes_only (goes l x rest text ts us is h more adds) =
+piece_adds : (at : ℕ) (span : Span) (o : Result Piece Rule) (ts us : List Tok) → Adds span o ts us → read_piece at span (whole ts) o ≡ whole us
+piece_adds at span (Ok p) ts us h = ap whole (sym h)
+piece_adds at span (Err rule) ts us h = absurd h
+
+pub lexes_only : {at : ℕ} {text : Text} {us : List Tok} → Lexes at text us → read_bare at text ≡ whole us
+unfolding read_bare
+lexes_only (ends at) = refl
+lexes_only (goes at l x rest text ts us is h more adds) =
     let some = lexeme_some l x rest h in
-    let one : lex_bare text ≡ lex_token (lex_bare rest) (placed (x ++ rest) (piece_of l x)) =
-    rw is (lex_at (x ++ rest) l (length x) (omega (arith, length-append x rest)) (lexeme_only l x rest h) some ∙ rw (take_at x rest (length x) refl, drop_at x rest (length x) refl) refl) in
-    one ∙ rw (lexes_only more) (piece_adds (x ++ rest) (piece_of l x) ts us adds)
+    let one : read_bare at text ≡ read_piece at (span_of l at x) (read_bare (at + length x) rest) (piece_of l x) =
+    rw is (reads_lexeme at (x ++ rest) l (length x) (omega (arith, length-append x rest)) (lexeme_only l x rest h) some ∙ rw (take_at x rest (length x) refl, drop_at x rest (length x) refl) refl) in
+    one ∙ rw (lexes_only more) (piece_adds at (span_of l at x) (piece_of l x) ts us adds)
+
+unbroken : (rule : Rule) (at : ℕ) (us : List Tok) → stops rule at ≡ whole us → ⊥
+unbroken rule at us e = let none = ap (λ (r : Reading). r.broken) e in absurd cc
+
+-- a byte order mark begins no lexeme
+no_mark : (at : ℕ) (z : Text) (us : List Tok) → Lexes at (239 ∷ z) us → ⊥
+unfolding read_bare lexeme_at
+no_mark at z us h = unbroken BadCharacter at us (lexes_only h)
+
+pub text_only : (at : ℕ) (text : Text) (ts : List Tok) → LexesText at text ts → read at text ≡ whole ts
+unfolding read
+text_only at text ts (inl (rest, is, h)) = rw is (lexes_only h)
+text_only at [] ts (inr h) = lexes_only h
+text_only at (a ∷ []) ts (inr h) = lexes_only h
+text_only at (a ∷ b ∷ []) ts (inr h) = lexes_only h
+text_only at (a ∷ b ∷ c ∷ z) ts (inr h) = elim (cases_Bool (eqb a 239)) [
+  | inl is ↦ absurd (no_mark at (b ∷ c ∷ z) ts (subst (λ d. Lexes at (d ∷ b ∷ c ∷ z) ts) (eqb-true a 239 is) h))
+  | inr other ↦ rw other (lexes_only h)
+]
+
+tokens_same : (ts us : List Tok) → whole ts ≡ whole us → ts ≡ us
+tokens_same ts us e = ap (λ (r : Reading). r.tokens) e
+
+-- a text is one list of tokens at most
+pub one_lexing : (at : ℕ) (text : Text) (ts us : List Tok) → LexesText at text ts → LexesText at text us → ts ≡ us
+one_lexing at text ts us h k = tokens_same ts us (sym (text_only at text ts h) ∙ text_only at text us k)
+
+pub answers_only : {X : Type 0} (view : X → List Tok) (r : Result X SyntaxFault) (at : ℕ) (text : Text) (ts : List Tok) → GivesReading view r (read at text) → LexesText at text ts → AnswersText view r ts
+answers_only view (Ok x) at text ts e h = tokens_same (view x) ts (sym e ∙ text_only at text ts h)
+answers_only view (Err faults.OutOfMemory) at text ts e h = tt
+answers_only view (Err faults.TooLarge) at text ts e h = e
+answers_only view (Err (faults.Broken rule place)) at text ts e h = let good = text_only at text ts h in absurd cc
 
 -- ---- what is cut stands for a lexeme
 
@@ -327,87 +360,3 @@ lexeme_found (b ∷ z) l n e = elim (cases_Bool (is_in class.Blank b)) [
     ]
   ]
 ]
-
-abbrev Added : Result Piece Rule → Result (List Tok) Fault → List Tok → Type 0
-Added o next us = (ts : List Tok) × (next ≡ Ok ts) × Adds o ts us
-
-same_tokens : (ts us : List Tok) → given ts ≡ given us → us ≡ ts
-same_tokens ts us e = cc
-
-piece_added : (z : Text) (o : Result Piece Rule) (next : Result (List Tok) Fault) (us : List Tok) → lex_token next (placed z o) ≡ given us → Added o next us
-piece_added z (Ok p) (Ok ts) us e = (ts, refl, same_tokens (put p ts) us e)
-piece_added z (Ok p) (Err f) us e = absurd cc
-piece_added z (Err rule) (Ok ts) us e = absurd cc
-piece_added z (Err rule) (Err f) us e = absurd cc
-
-pair_of : (c : Cut) (us : List Tok) (z : Text) (next : ℕ → Result (List Tok) Fault) → lex_step z next (placed z c) ≡ Ok us → (l : Lexeme) × (m : ℕ) × (c ≡ Ok (l, m))
-pair_of (Ok x) us z next e = (x.0, x.1, refl)
-pair_of (Err rule) us z next e = absurd cc
-
--- the number is at least the text's length
-pub lexes_found : (n : ℕ) (z : Text) (us : List Tok) → length z ≤ n → lex_bare z ≡ given us → Lexes z us
-unfolding lex_bare
-lexes_found n [] us fits e = let none : [] ≡ us = cc in subst (λ ts. Lexes [] ts) none ends
-lexes_found zero (b ∷ z) us fits e = absurd (omega arith)
-lexes_found (suc n) (b ∷ z) us fits e =
-    let c = pair_of (lexeme_at (b ∷ z)) us (b ∷ z) (λ m. lex_from (m - 1) z) e in
-    let h = lexeme_found (b ∷ z) c.0 c.1 c.2 in
-    let some : 1 ≤ c.1 = omega (arith, lexeme_some c.0 (take c.1 (b ∷ z)) (drop c.1 (b ∷ z)) h, length-take c.1 (b ∷ z)) in
-    let p = piece_added (b ∷ z) (piece_of c.0 (take c.1 (b ∷ z))) (lex_bare (drop c.1 (b ∷ z))) us (sym (lex_at (b ∷ z) c.0 c.1 (omega arith) c.2 some) ∙ e) in
-    goes c.0 (take c.1 (b ∷ z)) (drop c.1 (b ∷ z)) (b ∷ z) p.0 us (sym (take-append-drop c.1 (b ∷ z))) h
-    (lexes_found n (drop c.1 (b ∷ z)) p.0 (omega (arith, length-drop c.1 (b ∷ z))) p.1) p.2
-
--- ---- whole texts
-
--- a byte order mark begins no lexeme
-no_mark : (z : Text) (us : List Tok) → Lexes (239 ∷ z) us → ⊥
-unfolding lex_bare lexeme_at
-no_mark z us h = let good = lexes_only h in absurd cc
-
-pub text_only : (text : Text) (ts : List Tok) → LexesText text ts → lex text ≡ Ok ts
-unfolding lex
-text_only text ts (inl (rest, is, h)) = rw is (lexes_only h)
-text_only [] ts (inr h) = lexes_only h
-text_only (a ∷ []) ts (inr h) = lexes_only h
-text_only (a ∷ b ∷ []) ts (inr h) = lexes_only h
-text_only (a ∷ b ∷ c ∷ z) ts (inr h) = elim (cases_Bool (eqb a 239)) [
-  | inl is ↦ absurd (no_mark (b ∷ c ∷ z) ts (subst (λ d. Lexes (d ∷ b ∷ c ∷ z) ts) (eqb-true a 239 is) h))
-  | inr other ↦ rw other (lexes_only h)
-]
-
-bare_found : (z : Text) (ts : List Tok) → lex_bare z ≡ given ts → Lexes z ts
-bare_found z ts e = lexes_found (length z) z ts (omega arith) e
-
-pub text_found : (text : Text) (ts : List Tok) → lex text ≡ given ts → LexesText text ts
-unfolding lex
-text_found [] ts e = inr (bare_found [] ts e)
-text_found (a ∷ []) ts e = inr (bare_found (a ∷ []) ts e)
-text_found (a ∷ b ∷ []) ts e = inr (bare_found (a ∷ b ∷ []) ts e)
-text_found (a ∷ b ∷ c ∷ z) ts e = elim (cases_Bool (eqb a 239)) [
-  | inl is-a ↦ elim (cases_Bool (eqb b 187)) [
-    | inl is-b ↦ elim (cases_Bool (eqb c 191)) [
-      | inl is-c ↦ inl (z, rw (eqb-true a 239 is-a, eqb-true b 187 is-b, eqb-true c 191 is-c) refl, bare_found z ts (rw (is-a, is-b, is-c) at e))
-      | inr other ↦ inr (bare_found (a ∷ b ∷ c ∷ z) ts (rw (is-a, is-b, other) at e))
-    ]
-    | inr other ↦ inr (bare_found (a ∷ b ∷ c ∷ z) ts (rw (is-a, other) at e))
-  ]
-  | inr other ↦ inr (bare_found (a ∷ b ∷ c ∷ z) ts (rw other at e))
-]
-
--- ---- what a reader of tokens answers
-
-given_is : (ts us : List Tok) → given ts ≡ given us → ts ≡ us
-given_is ts us e = cc
-
--- a text is one list of tokens at most
-pub one_list : (text : Text) (ts us : List Tok) → LexesText text ts → LexesText text us → ts ≡ us
-one_list text ts us h k = given_is ts us (sym (text_only text ts h) ∙ text_only text us k)
-
-pub answers_found : {X : Type 0} (view : X → List Tok) (r : Result X ReadError) (text : Text) → Gives view r (lex text) → IfOk r (λ x. LexesText text (view x))
-answers_found view (Ok x) text e = text_found text (view x) e
-answers_found view (Err f) text e = tt
-
-pub answers_only : {X : Type 0} (view : X → List Tok) (r : Result X ReadError) (text : Text) (ts : List Tok) → Gives view r (lex text) → LexesText text ts → Answers view r ts
-answers_only view (Ok x) text ts e h = given_is (view x) ts (sym e ∙ text_only text ts h)
-answers_only view (Err errors.Memory) text ts e h = tt
-answers_only view (Err (errors.Malformed f)) text ts e h = let read = text_only text ts h in absurd cc

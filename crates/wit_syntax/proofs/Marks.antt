@@ -24,18 +24,24 @@ percent_none (b ∷ z) h = elim (cases_Bool (eqb b 37)) [
   | inr other ↦ rw other refl
 ]
 
-pub mark_some : (bs : Text) (x : Bor Text) → Strips 65279 bs (Some x) → x.now ≡ without_mark bs
+pub mark_some : (at : ℕ) (bs : Text) (x : Bor Text) → Strips 65279 bs (Some x) → without_mark at bs ≡ (at + 3, x.now)
 unfolding encode
-mark_some bs x h =
+mark_some at bs x h =
     let e : bs ≡ 239 ∷ 187 ∷ 191 ∷ x.now = h.1.split ∙ ap (λ l. 239 ∷ 187 ∷ 191 ∷ l) (sym h.2) in
     rw e refl
 
-pub mark_none : (bs : Text) → Strips 65279 bs None → bs ≡ without_mark bs
+pub mark_length : (bs : Text) (x : Bor Text) → Strips 65279 bs (Some x) → 3 + length x.now ≡ length bs
 unfolding encode
-mark_none [] h = refl
-mark_none (a ∷ []) h = refl
-mark_none (a ∷ b ∷ []) h = refl
-mark_none (a ∷ b ∷ c ∷ z) h = elim (cases_Bool (eqb a 239)) [
+mark_length bs x h =
+    let e : bs ≡ 239 ∷ 187 ∷ 191 ∷ x.now = h.1.split ∙ ap (λ l. 239 ∷ 187 ∷ 191 ∷ l) (sym h.2) in
+    rw e (omega arith)
+
+pub mark_none : (at : ℕ) (bs : Text) → Strips 65279 bs None → without_mark at bs ≡ (at, bs)
+unfolding encode
+mark_none at [] h = refl
+mark_none at (a ∷ []) h = refl
+mark_none at (a ∷ b ∷ []) h = refl
+mark_none at (a ∷ b ∷ c ∷ z) h = elim (cases_Bool (eqb a 239)) [
   | inl is-a ↦ elim (cases_Bool (eqb b 187)) [
     | inl is-b ↦ elim (cases_Bool (eqb c 191)) [
       | inl is-c ↦ absurd (h z (rw (eqb-true a 239 is-a, eqb-true b 187 is-b, eqb-true c 191 is-c) refl))

@@ -4,29 +4,16 @@ use Rattle.std.proofs.lemmas.Bool.{cases_Bool, leb-true}
 use Rattle.wit_syntax.specs.declared.fault.Rule.{Rule}
 use Rattle.wit_syntax.specs.declared.fault.Rule.TheVariants as rule
 use Rattle.wit_syntax.specs.declared.token.Kind.TheVariants as kind
+use Rattle.wit_syntax.specs.Broken.{IsBadNumber}
 use Rattle.wit_syntax.specs.Production.{Production, one, optional, commas}
-use Rattle.wit_syntax.specs.TextGrammar.{name_in, name}
-use Rattle.wit_syntax.specs.Token.{What, Tok, plain, number, version, ident, same_kind}
-use Rattle.wit_syntax.specs.TypeGrammar.{decimal, list_length, length_in, list_len, list_after, option_after, tuple_after, result_parts, result_after, handle_of, payload, type_after, begins_type, too_deep, type_in, any_type, whole_type}
+use Rattle.wit_syntax.specs.Token.{What, Tok, plain, number, version, ident, explicit, same_kind}
+use Rattle.wit_syntax.specs.TypeGrammar.{decimal, list_length, length_in, list_len, list_after, option_after, tuple_after, result_parts, result_after, handle_of, payload, type_after, begins_type, too_deep, named_type, type_in, any_type, whole_type}
 use Rattle.wit_syntax.specs.TypeTree.{TypeTree}
-use Rattle.wit_syntax.proofs.BracketLaws.{Tells, Said, NextTells, behind_other, behind_open, tells_yield, tells_one, tells_bind, tells_map, tells_branch, tells_sign, tells_by, tells_commas, tells_optional, tells_close, tells_finish}
+use Rattle.wit_syntax.specs.Terminal.{id}
+use Rattle.wit_syntax.proofs.BracketLaws.{Tells, Said, NextTells, behind_other, behind_open, behind_close, said_plain, tells_yield, tells_one, tells_bind, tells_map, tells_branch, tells_sign, tells_by_or, tells_commas, tells_optional, tells_close, tells_finish}
+use Rattle.wit_syntax.proofs.TerminalBreaks.{id_tells}
 
 -- ---- single tokens
-
-said_name : (o : ℕ) (t : Tok) (ts : List Tok) (r : Rule) (w : What) → t.what ≡ w → name_in w ≡ Err r → Said o r (t ∷ ts) (t ∷ ts)
-said_name o t ts rule.BadNumber (plain k) is e = absurd cc
-said_name o t ts rule.BadNumber (number s) is e = absurd cc
-said_name o t ts rule.BadNumber (version s) is e = absurd cc
-said_name o t ts rule.BadNumber (ident s) is e = absurd cc
-said_name o t ts rule.TooDeep (plain k) is e = absurd cc
-said_name o t ts rule.TooDeep (number s) is e = absurd cc
-said_name o t ts rule.TooDeep (version s) is e = absurd cc
-said_name o t ts rule.TooDeep (ident s) is e = absurd cc
-said_name o t ts _ w is e = tt
-
-name_tells : (o : ℕ) → Tells o 0 name
-unfolding name
-name_tells o = tells_one o name_in (λ k. rule.Unexpected) (λ k. refl) (λ t ts r e. said_name o t ts r t.what refl e)
 
 out_of_range : (n : ℕ) → (list_length n ≡ Ok n) ⊎ ((list_length n ≡ Err rule.BadNumber) × ((n ≡ 0) ⊎ (2 ^ 32 ≤ n)))
 out_of_range n = elim (cases_Bool (n == 0)) [
@@ -37,22 +24,24 @@ out_of_range n = elim (cases_Bool (n == 0)) [
   ]
 ]
 
+abbrev refused : Rule → Result ℕ Rule
+refused r = Err r
+
+length_rule : (r s : Rule) → refused r ≡ refused s → s ≡ r
+length_rule r s h = cc
+
+said_number : (o : ℕ) (t : Tok) (ts : List Tok) (r : Rule) → r ≡ rule.BadNumber → IsBadNumber (t ∷ ts) → Said o r (t ∷ ts) (t ∷ ts)
+said_number o t ts r e b = rw e b
+
 said_length : (o : ℕ) (t : Tok) (ts : List Tok) (r : Rule) (w : What) → t.what ≡ w → length_in w ≡ Err r → Said o r (t ∷ ts) (t ∷ ts)
-said_length o t ts rule.BadNumber (number s) is e = elim (out_of_range (decimal s)) [
+said_length o t ts r (number s) is e = elim (out_of_range (decimal s)) [
   | inl good ↦ absurd (let bad = sym good ∙ e in cc)
-  | inr bad ↦ record { digits = s; stands = ap (λ w. Some w) is; range = bad.1 }
+  | inr bad ↦ said_number o t ts r (length_rule rule.BadNumber r (sym bad.0 ∙ e)) (record { digits = s; stands = ap (λ w. Some w) is; range = bad.1 })
 ]
-said_length o t ts rule.BadNumber (plain k) is e = absurd cc
-said_length o t ts rule.BadNumber (version s) is e = absurd cc
-said_length o t ts rule.BadNumber (ident s) is e = absurd cc
-said_length o t ts rule.TooDeep (number s) is e = elim (out_of_range (decimal s)) [
-  | inl good ↦ absurd (let bad = sym good ∙ e in cc)
-  | inr bad ↦ absurd (let other = sym bad.0 ∙ e in cc)
-]
-said_length o t ts rule.TooDeep (plain k) is e = absurd cc
-said_length o t ts rule.TooDeep (version s) is e = absurd cc
-said_length o t ts rule.TooDeep (ident s) is e = absurd cc
-said_length o t ts _ w is e = tt
+said_length o t ts r (plain k) is e = said_plain o r (t ∷ ts) (t ∷ ts) (length_rule rule.Unexpected r e)
+said_length o t ts r (version s) is e = said_plain o r (t ∷ ts) (t ∷ ts) (length_rule rule.Unexpected r e)
+said_length o t ts r (ident s) is e = said_plain o r (t ∷ ts) (t ∷ ts) (length_rule rule.Unexpected r e)
+said_length o t ts r (explicit s) is e = said_plain o r (t ∷ ts) (t ∷ ts) (length_rule rule.Unexpected r e)
 
 list_len_tells : (o : ℕ) → Tells o 0 list_len
 unfolding list_len
@@ -78,13 +67,13 @@ deep_tells o e = tells_one o too_deep (λ k. deep (begins_type (plain k))) (λ k
 
 handle_of_tells : (o : ℕ) → Tells o 0 handle_of
 unfolding handle_of
-handle_of_tells o = tells_sign o 0 kind.LessThan _ (behind_open o 0 _ (tells_bind (suc o) 1 name _ (name_tells (suc o)) (λ n. tells_close (suc o) n)))
+handle_of_tells o = tells_sign o 0 kind.LessThan _ (behind_open o 0 _ (tells_bind (suc o) 1 id _ (id_tells (suc o)) (λ n. tells_close (suc o) n)))
 
 module _ (o : ℕ) (inner : Production TypeTree) (t : Tells (suc o) 0 inner) where
   list_after_tells : Tells o 0 (list_after inner)
   unfolding list_after same_kind
   list_after_tells = tells_sign o 0 kind.LessThan _ (behind_open o 0 _ (tells_bind (suc o) 1 inner _ t
-      (λ x. tells_bind (suc o) 1 (optional kind.Comma list_len) _ (tells_optional (suc o) kind.Comma list_len refl refl (list_len_tells (suc o))) (λ n. tells_close (suc o) _))))
+      (λ x. tells_bind (suc o) 1 (optional kind.Comma list_len) _ (tells_optional (suc o) kind.Comma list_len (behind_other (suc o) 0 kind.Comma list_len refl refl (list_len_tells (suc o)))) (λ n. tells_close (suc o) _))))
 
   option_after_tells : Tells o 0 (option_after inner)
   unfolding option_after
@@ -92,13 +81,13 @@ module _ (o : ℕ) (inner : Production TypeTree) (t : Tells (suc o) 0 inner) whe
 
   tuple_after_tells : Tells o 0 (tuple_after inner)
   unfolding tuple_after
-  tuple_after_tells = tells_sign o 0 kind.LessThan _ (behind_open o 0 _ (tells_map (suc o) 1 (commas inner kind.GreaterThan) _ (tells_commas (suc o) inner t)))
+  tuple_after_tells = tells_sign o 0 kind.LessThan _ (behind_open o 0 _ (tells_map (suc o) 1 (commas inner kind.GreaterThan) _ (tells_commas (suc o) 1 inner kind.GreaterThan t (λ xs. behind_close (suc o) xs))))
 
   result_parts_tells : Tells (suc o) 1 (result_parts inner)
   unfolding result_parts same_kind
   result_parts_tells = tells_branch (suc o) 1 kind.Underscore _ _
       (behind_other (suc o) 1 kind.Underscore _ refl refl (tells_sign (suc o) 1 kind.Comma _ (behind_other (suc o) 1 kind.Comma _ refl refl (tells_bind (suc o) 1 inner _ t (λ e. tells_close (suc o) _)))))
-      (tells_bind (suc o) 1 inner _ t (λ x. tells_bind (suc o) 1 (optional kind.Comma inner) _ (tells_optional (suc o) kind.Comma inner refl refl t) (λ e. tells_close (suc o) _)))
+      (tells_bind (suc o) 1 inner _ t (λ x. tells_bind (suc o) 1 (optional kind.Comma inner) _ (tells_optional (suc o) kind.Comma inner (behind_other (suc o) 0 kind.Comma inner refl refl t)) (λ e. tells_close (suc o) _)))
 
   result_after_tells : Tells o 0 (result_after inner)
   unfolding result_after
@@ -109,7 +98,6 @@ module _ (o : ℕ) (inner : Production TypeTree) (t : Tells (suc o) 0 inner) whe
   payload_tells = tells_branch o 0 kind.LessThan _ _ (behind_open o 0 _ (tells_bind (suc o) 1 inner _ t (λ x. tells_close (suc o) _))) (tells_yield o _)
 
   next_tells : (w : What) → NextTells o 0 (type_after inner w)
-  next_tells (ident s) = tells_yield o _
   next_tells (plain kind.Bool) = tells_yield o _
   next_tells (plain kind.U8) = tells_yield o _
   next_tells (plain kind.U16) = tells_yield o _
@@ -136,10 +124,14 @@ module _ (o : ℕ) (inner : Production TypeTree) (t : Tells (suc o) 0 inner) whe
 
 -- ---- types
 
+named_type_tells : (o : ℕ) → Tells o 0 named_type
+unfolding named_type
+named_type_tells o = tells_map o 0 id _ (id_tells o)
+
 type_tells : (d o : ℕ) → d + o ≡ 101 → Tells o 0 (type_in d)
 unfolding type_in
 type_tells zero o e = deep_tells o (omega (arith, e))
-type_tells (suc d) o e = tells_by o 0 (type_after (type_in d)) refl refl (next_tells o (type_in d) (type_tells d (suc o) (omega (arith, e))))
+type_tells (suc d) o e = tells_by_or o 0 (type_after (type_in d)) refl refl (next_tells o (type_in d) (type_tells d (suc o) (omega (arith, e)))) named_type (named_type_tells o)
 
 pub any_type_tells : Tells 0 0 any_type
 unfolding any_type

@@ -1,16 +1,16 @@
 -- Each production of types is read as it says.
-use Rattle.std.proofs.Common.{◌≡◌, ℕ, zero, suc, List, [], ◌∷◌, refl, Option, Ok, length, ◌<◌}
+use Rattle.std.proofs.Common.{◌≡◌, ℕ, zero, suc, ◌-◌, ◌<◌, arith, List, [], ◌∷◌, refl, sym, ap, subst, ◌∙◌, Option}
 use Rattle.wit_syntax.specs.declared.token.Kind.{Kind}
 use Rattle.wit_syntax.specs.declared.token.Kind.TheVariants as kind
-use Rattle.wit_syntax.specs.Token.{What, Tok, plain, ident, same_kind}
+use Rattle.wit_syntax.specs.Token.{What, Tok, plain, same_kind}
+use Rattle.wit_syntax.specs.Terminal.{id}
 use Rattle.wit_syntax.specs.TypeTree.{TypeTree}
-use Rattle.wit_syntax.specs.Production.{Production, ◌>>=◌, yield, commas, comma_step}
-use Rattle.wit_syntax.specs.TypeGrammar.{length_in, list_len, list_after, option_after, tuple_after, result_parts, result_after, handle_of, payload, type_after, too_deep, type_in, any_type, whole_type}
+use Rattle.wit_syntax.specs.Production.{Production, Takes, ◌>>=◌, yield, Next, none, goes, next_at, or_at, by_or}
+use Rattle.wit_syntax.specs.TypeGrammar.{length_in, list_len, list_after, option_after, tuple_after, result_parts, result_after, handle_of, payload, type_after, named_type, too_deep, type_in, any_type, whole_type}
 use Rattle.wit_syntax.proofs.Laws.{Law, Avoids, NextLaw, bind_law, bind_open, yield_law, sign_law, one_law, branch_law}
-use Rattle.wit_syntax.proofs.Choices.{Goes, by_law, avoid_yield, avoid_sign, avoid_first, avoid_skip, avoid_branch, avoid_by, goes_one, goes_by, leads_nowhere}
-use Rattle.wit_syntax.proofs.Texts.{Whole, whole_finish, whole_bind}
-use Rattle.wit_syntax.proofs.TextLaws.{name_law, bind_optional, bind_optional_open, finish_law, finish_avoids}
-use Rattle.wit_syntax.proofs.Turns.{commas_open, comma_turn}
+use Rattle.wit_syntax.proofs.Choices.{Goes, by_or_law, avoid_yield, avoid_sign, avoid_first, avoid_skip, avoid_branch, avoid_by_or, goes_one, goes_first, goes_by_or, leads_nowhere}
+use Rattle.wit_syntax.proofs.Terminals.{id_law, id_goes, id_avoids, beyond_id, bind_optional, bind_optional_open, finish_law, finish_avoids}
+use Rattle.wit_syntax.proofs.Turns.{commas_open, takes}
 
 ruleset laws = (bind_law, yield_law, sign_law, branch_law)
 
@@ -26,7 +26,7 @@ list_len_law ends = one_law ends length_in
 
 handle_of_law : (ends : List Kind) → Law ends handle_of
 unfolding handle_of
-handle_of_law ends = search (laws, name_law)
+handle_of_law ends = search (laws, id_law)
 
 module _ (inner : Production TypeTree) (l : Law open_type inner) where
   list_after_law : Law open_type (list_after inner)
@@ -59,7 +59,6 @@ module _ (inner : Production TypeTree) (l : Law open_type inner) where
   carrier_law carrier = bind_open open_type open_type (payload inner) _ payload_law (λ t. yield_law open_type (carrier t)) (λ t. avoid_yield open_type open_type (carrier t) refl)
 
 type_next : (inner : Production TypeTree) → Law open_type inner → Goes open_type inner → Avoids [] (kind.GreaterThan ∷ []) inner → Avoids [] (kind.Underscore ∷ []) inner → (t : What) → NextLaw open_type (type_after inner t)
-type_next inner l g a b (ident s) = yield_law open_type _
 type_next inner l g a b (plain kind.Bool) = yield_law open_type _
 type_next inner l g a b (plain kind.U8) = yield_law open_type _
 type_next inner l g a b (plain kind.U16) = yield_law open_type _
@@ -84,31 +83,35 @@ type_next inner l g a b (plain kind.Stream) = carrier_law inner l _
 type_next inner l g a b (plain kind.ErrorContext) = yield_law open_type _
 type_next inner l g a b _ = tt
 
+named_type_law : (ends : List Kind) → Law ends named_type
+unfolding named_type
+named_type_law ends = bind_law ends id _ (id_law []) (λ n. yield_law ends _)
+
+named_type_goes : (ends : List Kind) → Goes ends named_type
+unfolding named_type
+named_type_goes ends = goes_first ends id _ (id_goes []) (λ n. yield_law ends _)
+
+named_type_avoids : (ends begins : List Kind) → Avoids ends begins named_type
+unfolding named_type
+named_type_avoids ends begins = avoid_first ends begins id _ (id_avoids [] begins)
+
 type_avoids : (d : ℕ) (begins : List Kind) → ((d : ℕ) → leads_nowhere begins (type_after (type_in d))) → Avoids [] begins (type_in d)
 unfolding type_in
 type_avoids zero begins n = record { clear = λ ts x rest h c. absurd (let bad = h.good in cc) }
-type_avoids (suc d) begins n = avoid_by [] begins (type_after (type_in d)) (n d)
+type_avoids (suc d) begins n = avoid_by_or [] begins (type_after (type_in d)) named_type (n d) (named_type_avoids [] begins)
 
 type_laws : (d : ℕ) → Law open_type (type_in d) × Goes open_type (type_in d)
-unfolding type_in
+unfolding type_in named_type
 type_laws zero = (one_law open_type too_deep, goes_one open_type too_deep)
 type_laws (suc d) =
     let below = type_laws d in
     let next = type_next (type_in d) below.0 below.1 (type_avoids d (kind.GreaterThan ∷ []) (λ d. (refl, tt))) (type_avoids d (kind.Underscore ∷ []) (λ d. (refl, tt))) in
-    (by_law open_type (type_after (type_in d)) next, goes_by open_type (type_after (type_in d)) next)
+    let beyond = beyond_id (type_after (type_in d)) _ (λ s. refl) (λ s. refl) in
+    (by_or_law open_type (type_after (type_in d)) named_type next (named_type_law open_type) beyond (named_type_goes open_type), goes_by_or open_type (type_after (type_in d)) named_type next (named_type_goes open_type))
 
 pub any_type_law : Law open_type any_type
 unfolding any_type
 any_type_law = (type_laws 101).0
-
-pub any_type_goes : Goes open_type any_type
-unfolding any_type
-any_type_goes = (type_laws 101).1
-
--- a type begins with none of these
-pub any_type_avoids : (begins : List Kind) → ((d : ℕ) → leads_nowhere begins (type_after (type_in d))) → Avoids [] begins any_type
-unfolding any_type
-any_type_avoids begins n = type_avoids 101 begins n
 
 -- ---- whole texts
 
@@ -116,14 +119,21 @@ pub whole_type_law : Law [] whole_type
 unfolding whole_type
 whole_type_law = bind_open [] open_type any_type _ any_type_law (λ t. finish_law [] t) (λ t. finish_avoids [] open_type t)
 
-pub whole_type_whole : Whole whole_type
-unfolding whole_type
-whole_type_whole = search (whole_bind, whole_finish) depth 8
-
 -- ---- what loops want
 
-pub type_shorter : (d : ℕ) (ts : List Tok) (t : TypeTree) (rest : List Tok) → (type_in d).read ts ≡ Ok (t, rest) → length rest < length ts
-type_shorter d ts t rest e = (type_laws d).1.shorter ts t rest ((type_laws d).0.found ts t rest e)
+pub type_takes : (d : ℕ) → Takes (type_in d)
+type_takes d = takes open_type (type_in d) (type_laws d).0 (type_laws d).1
 
-pub types_turn : (d : ℕ) (ts : List Tok) → (commas (type_in d) kind.GreaterThan).read ts ≡ (comma_step (type_in d) kind.GreaterThan (commas (type_in d) kind.GreaterThan)).read ts
-types_turn d ts = comma_turn open_type (type_in d) kind.GreaterThan (type_laws d).0 (type_laws d).1 ts
+other_keyword : (k : Kind) (t : Tok) (ts : List Tok) (n : Next TypeTree) → t.what ≡ plain k → or_at (t ∷ ts) named_type.read n ts ≡ next_at (t ∷ ts) n ts
+unfolding named_type id
+other_keyword k t ts none e = rw e refl
+other_keyword k t ts (goes p) e = refl
+
+-- a type that begins with a keyword
+pub keyword_read : (d : ℕ) (k : Kind) (t : Tok) (ts : List Tok) → 0 < d → t.what ≡ plain k → (type_in d).read (t ∷ ts) ≡ next_at (t ∷ ts) (type_after (type_in (d - 1)) (plain k)) ts
+unfolding type_in by_or
+keyword_read zero k t ts some e = absurd (omega arith)
+keyword_read (suc d) k t ts some e =
+    let same : suc d - 1 ≡ d = omega arith in
+    subst (λ (n : ℕ). (type_in (suc d)).read (t ∷ ts) ≡ next_at (t ∷ ts) (type_after (type_in n) (plain k)) ts) (sym same)
+    (other_keyword k t ts (type_after (type_in d) t.what) e ∙ ap (λ (w : What). next_at (t ∷ ts) (type_after (type_in d) w) ts) e)

@@ -1,20 +1,23 @@
 -- The lexeme at the front of a text, and the tokens that reading gives.
-use Rattle.std.specs.Prelude.{ℕ, zero, suc, take, drop, length, ◌+◌, ◌-◌, Bool, false, not, ◌&&◌, ◌||◌, if◌then◌else◌, ◌==◌, List, [], ◌∷◌, ◌++◌, Option, Some, None, Result, Ok, Err, bytes_eq, map}
+use Rattle.std.specs.Prelude.{◌≡◌, ℕ, zero, suc, take, drop, length, ◌+◌, ◌-◌, Bool, false, not, ◌&&◌, ◌||◌, if◌then◌else◌, ◌==◌, List, [], ◌∷◌, ◌++◌, Option, Some, None, Result, Ok, Err, bytes_eq, map}
 use Rattle.std.specs.Char.{is_ascii_digit, is_ascii_alphabetic, is_ascii_alphanumeric}
 use Rattle.std.specs.List.{prefix_len}
-use Rattle.wit_syntax.specs.declared.fault.Fault.{Fault}
 use Rattle.wit_syntax.specs.declared.fault.Rule.{Rule}
 use Rattle.wit_syntax.specs.declared.fault.Rule.TheVariants.{BadCharacter, OpenComment, BadIdentifier}
+use Rattle.wit_syntax.specs.declared.fault.SyntaxFault.{SyntaxFault}
+use Rattle.wit_syntax.specs.declared.fault.SyntaxFault.TheVariants as faults
 use Rattle.wit_syntax.specs.declared.lex.Class.{Class}
 use Rattle.wit_syntax.specs.declared.lex.Class.TheVariants as class
 use Rattle.wit_syntax.specs.declared.lex.Lexeme.{Lexeme}
 use Rattle.wit_syntax.specs.declared.lex.Lexeme.TheVariants as lexeme
+use Rattle.wit_syntax.specs.declared.source_map.Span.{Span}
 use Rattle.wit_syntax.specs.declared.token.Kind.{Kind}
 use Rattle.wit_syntax.specs.declared.token.Kind.TheVariants as kind
 use Rattle.wit_syntax.specs.declared.tokens.Found.{Found}
 use Rattle.wit_syntax.specs.declared.tokens.Kept.{Kept as KeptTokens}
 use Rattle.wit_syntax.specs.declared.tokens.Found.TheVariants as found
-use Rattle.wit_syntax.specs.Token.{What, Tok, plain, number, version, ident, what, toks}
+use Rattle.wit_syntax.specs.Slice.{Slice}
+use Rattle.wit_syntax.specs.Token.{What, Tok, plain, number, version, ident, explicit, what, comment, toks}
 use Rattle.wit_syntax.specs.Version.{version_len}
 use Rattle.wit_syntax.specs.Keyword.{keyword}
 pub use Rattle.wit_syntax.specs.Version.{Text}
@@ -106,12 +109,13 @@ is_doc z = false
 abbrev pub comment_piece : Text → Piece
 comment_piece x = if is_doc x then doc x else nothing
 
-abbrev pub name_token : Text → Result Piece Rule
-name_token x = if is_identifier x then Ok (token (ident x)) else Err BadIdentifier
+-- an identifier, which is what this makes of its text
+abbrev pub name_token : (Text → What) → Text → Result Piece Rule
+name_token f x = if is_identifier x then Ok (token (f x)) else Err BadIdentifier
 
 abbrev pub word_token : Option Kind → Text → Result Piece Rule
 word_token (Some k) x = Ok (token (plain k))
-word_token None x = name_token x
+word_token None x = name_token ident x
 
 -- the text behind a first `%`
 abbrev pub unmarked : Text → Text
@@ -125,99 +129,130 @@ piece_of (lexeme.Plain k) x = Ok (token (plain k))
 piece_of lexeme.Number x = Ok (token (number x))
 piece_of lexeme.Version x = Ok (token (version x))
 piece_of lexeme.Word x = word_token (keyword x) x
-piece_of lexeme.Marked x = name_token (unmarked x)
+piece_of lexeme.Marked x = name_token explicit (unmarked x)
 
--- ---- all tokens of a text
+-- ---- all tokens of a text, which begins at a place
 
 abbrev pub and_then : {A B E : Type 0} → Result A E → (A → Result B E) → Result B E
 and_then (Ok x) f = f x
 and_then (Err e) f = Err e
 
-abbrev pub behind : Text → ℕ → Piece → Result (Piece × Text) Rule
-behind z n p = Ok (p, drop n z)
+-- where a lexeme says what it says: behind its `%`, if it has one
+abbrev pub said_from : Lexeme → ℕ → ℕ
+said_from lexeme.Marked at = at + 1
+said_from _ at = at
 
-abbrev pub piece_at : Text → Lexeme × ℕ → Result (Piece × Text) Rule
-piece_at z x = and_then (piece_of x.0 (take x.1 z)) (behind z x.1)
+-- the same, of a lexeme that begins at a place
+abbrev pub span_of : Lexeme → ℕ → Text → Span
+span_of l at x = record { start = said_from l at; end = at + length x }
 
--- what stands at the front, and the text behind it
-unfoldable pub piece : Text → Result (Piece × Text) Rule
-piece z = and_then (lexeme_at z) (piece_at z)
+abbrev pub behind : Span → Text → Piece → Result (Piece × Span × Text) Rule
+behind span after p = Ok (p, span, after)
 
--- a rule is broken where the text z is left
-abbrev pub placed : {A : Type 0} → Text → Result A Rule → Result A Fault
-placed z (Ok x) = Ok x
-placed z (Err rule) = Err (record { rule = rule; left = length z })
+abbrev pub piece_at : ℕ → Text → Lexeme × ℕ → Result (Piece × Span × Text) Rule
+piece_at at z x = and_then (piece_of x.0 (take x.1 z)) (behind (span_of x.0 at (take x.1 z)) (drop x.1 z))
+
+-- what stands at the front of a text that begins at a place, where that is, and the text behind it
+unfoldable pub piece : ℕ → Text → Result (Piece × Span × Text) Rule
+piece at z = and_then (lexeme_at z) (piece_at at z)
 
 -- docs belong to the token behind them; those behind the last token to none
-abbrev pub with_doc : Text → List Tok → List Tok
+abbrev pub with_doc : Slice → List Tok → List Tok
 with_doc x [] = []
-with_doc x (t ∷ ts) = record { docs = x ∷ t.docs; what = t.what } ∷ ts
+with_doc x (t ∷ ts) = record { docs = x ∷ t.docs; what = t.what; span = t.span } ∷ ts
 
--- the tokens, with something in front of them
-abbrev pub put : Piece → List Tok → List Tok
-put nothing ts = ts
-put (doc x) ts = with_doc x ts
-put (token w) ts = record { docs = []; what = w } ∷ ts
+-- the tokens, with something in front of them that stands at this place
+abbrev pub put : Span → Piece → List Tok → List Tok
+put span nothing ts = ts
+put span (doc x) ts = with_doc (record { text = x; span = span }) ts
+put span (token w) ts = record { docs = []; what = w; span = span } ∷ ts
 
-abbrev pub prepend : Piece → Result (List Tok) Fault → Result (List Tok) Fault
-prepend p (Ok ts) = Ok (put p ts)
-prepend p (Err e) = Err e
+-- a rule, and where it is broken
+pub record Break : Type 0 where
+  pub rule : Rule
+  pub at : ℕ
 
-abbrev pub lex_token : Result (List Tok) Fault → Result Piece Fault → Result (List Tok) Fault
-lex_token next (Ok p) = prepend p next
-lex_token next (Err e) = Err e
+-- the tokens of a text, up to where a rule is broken, if one is
+pub record Reading : Type 0 where
+  pub tokens : List Tok
+  pub broken : Option Break
 
-abbrev pub lex_step : Text → (ℕ → Result (List Tok) Fault) → Result (Lexeme × ℕ) Fault → Result (List Tok) Fault
-lex_step z next (Ok x) = lex_token (next x.1) (placed z (piece_of x.0 (take x.1 z)))
-lex_step z next (Err e) = Err e
+-- nothing is left to be read
+abbrev pub at_end : Reading
+at_end = record { tokens = []; broken = None }
 
--- The number counts the bytes that are left of a lexeme.
-abbrev pub lex_from : ℕ → Text → Result (List Tok) Fault
-lex_from left [] = Ok []
-lex_from (suc left) (b ∷ z) = lex_from left z
-lex_from zero (b ∷ z) = lex_step (b ∷ z) (λ n. lex_from (n - 1) z) (placed (b ∷ z) (lexeme_at (b ∷ z)))
+abbrev pub stops : Rule → ℕ → Reading
+stops rule at = record { tokens = []; broken = Some (record { rule = rule; at = at }) }
 
-unfoldable pub lex_bare : Text → Result (List Tok) Fault
-lex_bare = lex_from 0
+abbrev pub prepend : Span → Piece → Reading → Reading
+prepend span p r = record { tokens = put span p r.tokens; broken = r.broken }
+
+abbrev pub read_piece : ℕ → Span → Reading → Result Piece Rule → Reading
+read_piece at span next (Ok p) = prepend span p next
+read_piece at span next (Err rule) = stops rule at
+
+abbrev pub read_lexeme : ℕ → Text → (ℕ → Reading) → Cut → Reading
+read_lexeme at z next (Ok x) = read_piece at (span_of x.0 at (take x.1 z)) (next x.1) (piece_of x.0 (take x.1 z))
+read_lexeme at z next (Err rule) = stops rule at
+
+-- The first number counts the bytes that are left of a lexeme, the second is where the one behind it begins.
+abbrev pub read_from : ℕ → ℕ → Text → Reading
+read_from left at [] = at_end
+read_from (suc left) at (b ∷ z) = read_from left at z
+read_from zero at (b ∷ z) = read_lexeme at (b ∷ z) (λ n. read_from (n - 1) (at + length (take n (b ∷ z))) z) (lexeme_at (b ∷ z))
+
+unfoldable pub read_bare : ℕ → Text → Reading
+read_bare at z = read_from 0 at z
 
 -- the bytes of the byte order mark, U+FEFF
 abbrev pub mark : Text
 mark = 239 ∷ 187 ∷ 191 ∷ []
 
--- the text behind a byte order mark at its front
-abbrev pub without_mark : Text → Text
-without_mark (a ∷ b ∷ c ∷ z) = if a == 239 && (b == 187 && c == 191) then z else a ∷ b ∷ c ∷ z
-without_mark z = z
+-- the text behind a byte order mark at its front, and where it begins
+abbrev pub without_mark : ℕ → Text → ℕ × Text
+without_mark at (a ∷ b ∷ c ∷ z) = if a == 239 && (b == 187 && c == 191) then (at + 3, z) else (at, a ∷ b ∷ c ∷ z)
+without_mark at z = (at, z)
 
--- the tokens of a whole text
-unfoldable pub lex : Text → Result (List Tok) Fault
-lex z = lex_bare (without_mark z)
+-- what reading a whole text gives
+unfoldable pub read : ℕ → Text → Reading
+read at z = read_bare (without_mark at z).0 (without_mark at z).1
 
 abbrev pub found_piece : Found → Piece
 found_piece found.Nothing = nothing
 found_piece (found.Docs x) = doc x.now
 found_piece (found.Token t) = token (what t)
 
+-- a rule is broken at a place
+abbrev pub placed : {A : Type 0} → ℕ → Result A Rule → Result A SyntaxFault
+placed at (Ok x) = Ok x
+placed at (Err rule) = Err (faults.Broken rule at)
+
+-- what a reader of tokens returned, seen by view, is what reading gives, unless memory ran out
+abbrev pub GivesReading : {X : Type 0} → (X → List Tok) → Result X SyntaxFault → Reading → Type 0
+GivesReading view (Ok x) r = r ≡ record { tokens = view x; broken = None }
+GivesReading view (Err faults.OutOfMemory) r = Unit {0}
+GivesReading view (Err faults.TooLarge) r = ⊥
+GivesReading view (Err (faults.Broken rule at)) r = r.broken ≡ Some (record { rule = rule; at = at })
+
 -- ---- what the loop keeps: the tokens found, and the docs behind them
 
 pub record Kept : Type 0 where
   pub tokens : List Tok
-  pub docs : List Text
+  pub docs : List Slice
 
 abbrev pub kept : KeptTokens → Kept
-kept k = record { tokens = toks k.tokens.items; docs = map (λ d. d.now) k.docs.items }
+kept k = record { tokens = toks k.tokens.items; docs = map comment k.docs.items }
 
 -- with something more behind them
-abbrev pub with_last : Kept → Piece → Kept
-with_last k nothing = k
-with_last k (doc x) = record k { docs = k.docs ++ x ∷ [] }
-with_last k (token w) = record { tokens = k.tokens ++ record { docs = k.docs; what = w } ∷ []; docs = [] }
+abbrev pub with_last : Kept → Span → Piece → Kept
+with_last k span nothing = k
+with_last k span (doc x) = record k { docs = k.docs ++ record { text = x; span = span } ∷ [] }
+with_last k span (token w) = record { tokens = k.tokens ++ record { docs = k.docs; what = w; span = span } ∷ []; docs = [] }
 
-abbrev pub with_docs : List Text → List Tok → List Tok
+abbrev pub with_docs : List Slice → List Tok → List Tok
 with_docs ds [] = []
-with_docs ds (t ∷ ts) = record { docs = ds ++ t.docs; what = t.what } ∷ ts
+with_docs ds (t ∷ ts) = record { docs = ds ++ t.docs; what = t.what; span = t.span } ∷ ts
 
--- the tokens of a text whose front these are
-abbrev pub with_front : Kept → Result (List Tok) Fault → Result (List Tok) Fault
-with_front k (Ok ts) = Ok (k.tokens ++ with_docs k.docs ts)
-with_front k (Err e) = Err e
+-- what reading a text gives whose front these are
+abbrev pub with_front : Kept → Reading → Reading
+with_front k r = record { tokens = k.tokens ++ with_docs k.docs r.tokens; broken = r.broken }

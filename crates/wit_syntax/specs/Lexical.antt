@@ -1,15 +1,17 @@
 -- What stands for a lexeme, and for the tokens of a text.
-use Rattle.std.specs.Prelude.{◌≡◌, ℕ, ◌+◌, ◌≤◌, ◌⊎◌, Bool, true, false, ◌&&◌, ◌==◌, List, [], ◌∷◌, ◌++◌, Result, Ok, Err}
+use Rattle.std.specs.Prelude.{◌≡◌, ℕ, ◌+◌, ◌≤◌, ◌⊎◌, Bool, true, false, ◌&&◌, ◌==◌, List, [], ◌∷◌, ◌++◌, length, Result, Ok, Err}
 use Rattle.wit_syntax.specs.declared.fault.Rule.{Rule}
 use Rattle.wit_syntax.specs.declared.lex.Class.{Class}
 use Rattle.wit_syntax.specs.declared.lex.Class.TheVariants as class
 use Rattle.wit_syntax.specs.declared.lex.Lexeme.{Lexeme}
 use Rattle.wit_syntax.specs.declared.lex.Lexeme.TheVariants as lexeme
+use Rattle.wit_syntax.specs.declared.source_map.Span.{Span}
 use Rattle.wit_syntax.specs.declared.token.Kind.{Kind}
 use Rattle.wit_syntax.specs.declared.token.Kind.TheVariants as kind
 use Rattle.wit_syntax.specs.Token.{Tok}
 use Rattle.wit_syntax.specs.Version.{IsVersionFront, HasNoVersion}
 use Rattle.wit_syntax.specs.Lex.{Text, is_in, Piece, piece_of, put, mark}
+pub use Rattle.wit_syntax.specs.Lex.{said_from, span_of}
 
 abbrev pub AllIn : Class → Text → Type 0
 AllIn c [] = Unit {0}
@@ -84,16 +86,16 @@ IsLexeme lexeme.Version x rest = IsVersionFront x rest
 IsLexeme lexeme.Word x rest = Starts class.Letter class.Word x rest
 IsLexeme lexeme.Marked x rest = (y : Text) × (x ≡ 37 ∷ y) × Starts class.Letter class.Word y rest
 
--- what a lexeme is, put in front of tokens; a broken rule is nothing
-abbrev pub Adds : Result Piece Rule → List Tok → List Tok → Type 0
-Adds (Ok p) ts us = us ≡ put p ts
-Adds (Err rule) ts us = ⊥
+-- what stands at a place, put in front of tokens; a broken rule is nothing
+abbrev pub Adds : Span → Result Piece Rule → List Tok → List Tok → Type 0
+Adds span (Ok p) ts us = us ≡ put span p ts
+Adds span (Err rule) ts us = ⊥
 
--- the text is these tokens, each with the docs in front of it, and blanks and other comments between
-pub data Lexes : Text → List Tok → Type 0 where
-  ends : Lexes [] []
-  goes : (l : Lexeme) (x rest text : Text) (ts us : List Tok) → text ≡ x ++ rest → IsLexeme l x rest → Lexes rest ts → Adds (piece_of l x) ts us → Lexes text us
+-- the text, which begins at a place, is these tokens, each with the docs in front of it, and blanks and other comments between
+pub data Lexes : ℕ → Text → List Tok → Type 0 where
+  ends : (at : ℕ) → Lexes at [] []
+  goes : (at : ℕ) (l : Lexeme) (x rest text : Text) (ts us : List Tok) → text ≡ x ++ rest → IsLexeme l x rest → Lexes (at + length x) rest ts → Adds (span_of l at x) (piece_of l x) ts us → Lexes at text us
 
 -- the same of a whole text, which may begin with a byte order mark
-abbrev pub LexesText : Text → List Tok → Type 0
-LexesText text ts = ((rest : Text) × (text ≡ mark ++ rest) × Lexes rest ts) ⊎ Lexes text ts
+abbrev pub LexesText : ℕ → Text → List Tok → Type 0
+LexesText at text ts = ((rest : Text) × (text ≡ mark ++ rest) × Lexes (at + 3) rest ts) ⊎ Lexes at text ts

@@ -3,14 +3,12 @@ use Rattle.std.specs.Prelude.{◌≡◌, Result, Ok, Err}
 use Rattle.wit_syntax.specs.declared.fault.Fault.{Fault}
 use Rattle.wit_syntax.specs.declared.fault.ReadError.{ReadError}
 use Rattle.wit_syntax.specs.declared.fault.ReadError.TheVariants as errors
+use Rattle.wit_syntax.specs.declared.fault.SyntaxFault.{SyntaxFault}
+use Rattle.wit_syntax.specs.declared.fault.SyntaxFault.TheVariants as faults
 
 abbrev pub Fails : {Y : Type 0} → ReadError → Result Y Fault → Type 0
 Fails errors.Memory read = Unit {0}
 Fails (errors.Malformed f) read = read ≡ Err f
-
-abbrev pub Gives : {X Y : Type 0} → (X → Y) → Result X ReadError → Result Y Fault → Type 0
-Gives view (Ok x) read = read ≡ Ok (view x)
-Gives view (Err e) read = Fails e read
 
 -- the result, seen by view, is what reading gives
 abbrev pub Agrees : {X Y E : Type 0} → (X → Y) → Result X E → Result Y E → Type 0
@@ -22,3 +20,9 @@ abbrev pub Answers : {X Y : Type 0} → (X → Y) → Result X ReadError → Y �
 Answers view (Ok x) y = view x ≡ y
 Answers view (Err errors.Memory) y = Unit {0}
 Answers view (Err (errors.Malformed f)) y = ⊥
+
+-- the same of a reader of a whole text
+abbrev pub AnswersText : {X Y : Type 0} → (X → Y) → Result X SyntaxFault → Y → Type 0
+AnswersText view (Ok x) y = view x ≡ y
+AnswersText view (Err faults.OutOfMemory) y = Unit {0}
+AnswersText view (Err _) y = ⊥

@@ -1,5 +1,5 @@
 -- Productions: which tokens stand for which value between two places, and the reading from left to right that finds it.
-use Rattle.std.specs.Prelude.{◌≡◌, ℕ, zero, suc, ◌⊎◌, List, [], ◌∷◌, ◌++◌, length, Option, Some, None, Result, Ok, Err, Bool, true, false, if◌then◌else◌}
+use Rattle.std.specs.Prelude.{◌≡◌, ℕ, zero, suc, ◌<◌, ◌⊎◌, List, [], ◌∷◌, ◌++◌, length, Option, Some, None, Result, Ok, Err, Bool, true, false, if◌then◌else◌}
 use Rattle.wit_syntax.specs.declared.fault.Fault.{Fault}
 use Rattle.wit_syntax.specs.declared.fault.Rule.{Rule}
 use Rattle.wit_syntax.specs.declared.fault.Rule.TheVariants as rules
@@ -7,7 +7,9 @@ use Rattle.wit_syntax.specs.declared.fault.ReadError.{ReadError}
 use Rattle.wit_syntax.specs.Outcome.{Fails}
 use Rattle.wit_syntax.specs.declared.token.Kind.{Kind}
 use Rattle.wit_syntax.specs.declared.token.Kind.TheVariants as kind
-use Rattle.wit_syntax.specs.Token.{What, Tok, plain, number, version, ident, same_kind}
+use Rattle.wit_syntax.specs.declared.source_map.Span.{Span}
+use Rattle.wit_syntax.specs.Slice.{Slice}
+use Rattle.wit_syntax.specs.Token.{What, Tok, plain, number, version, ident, explicit, same_kind}
 
 abbrev pub Outcome : Type 0 → Type 0
 Outcome A = Result (A × List Tok) Fault
@@ -52,6 +54,7 @@ is_kind k (plain j) = same_kind j k
 is_kind k (number s) = false
 is_kind k (version s) = false
 is_kind k (ident s) = false
+is_kind k (explicit s) = false
 
 unfoldable pub sees : Kind → List Tok → Bool
 sees k [] = false
@@ -88,6 +91,37 @@ pub record Taken {X : Type 0} (judge : What → Result X Rule) (x : X) (ts rest 
 abbrev pub one : {X : Type 0} → (What → Result X Rule) → Production X
 one judge = record { front = Taken judge; read = one_at judge }
 
+-- a token that is judged by itself, and where it stands
+abbrev pub spanned : Span → Result (List ℕ) Rule → Result Slice Rule
+spanned span (Ok s) = Ok (record { text = s; span = span })
+spanned span (Err rule) = Err rule
+
+abbrev pub slice_at : (What → Result (List ℕ) Rule) → List Tok → Outcome Slice
+slice_at judge [] = wrong rules.Unexpected []
+slice_at judge (t ∷ ts) = judged (t ∷ ts) (spanned t.span (judge t.what)) ts
+
+pub record Stood (judge : What → Result (List ℕ) Rule) (s : Slice) (ts rest : List Tok) : Type 0 where
+  pub token : Tok
+  pub first : ts ≡ token ∷ rest
+  pub good : judge token.what ≡ Ok s.text
+  pub there : s.span ≡ token.span
+
+abbrev pub slice : (What → Result (List ℕ) Rule) → Production Slice
+slice judge = record { front = Stood judge; read = slice_at judge }
+
+-- the docs in front of the next token
+abbrev pub docs_at : List Tok → List Slice
+docs_at [] = []
+docs_at (t ∷ ts) = t.docs
+
+-- what takes a token, and the docs in front of its first
+pub record Documents {A : Type 0} (p : Production A) (x : List Slice × A) (ts rest : List Tok) : Type 0 where
+  pub docs : x.0 ≡ docs_at ts
+  pub item : p.front x.1 ts rest
+
+unfoldable pub documented : {A : Type 0} → Production A → Production (List Slice × A)
+documented p = record { front = Documents p; read = λ ts. and_then (p.read ts) (λ x rest. Ok ((docs_at ts, x), rest)) }
+
 -- a sign or keyword and what comes after it, or else something that doesn't begin so
 pub record Branches {X : Type 0} (k : Kind) (p q : Production X) (x : X) (ts rest : List Tok) : Type 0 where
   pub way : ((mid : List Tok) × Stands k ts mid × p.front x mid rest) ⊎ q.front x ts rest
@@ -109,6 +143,10 @@ pub data Next (X : Type 0) : Type 1 where
   none : Next X
   goes : Production X → Next X
 
+abbrev pub leads_on : {X : Type 0} → Next X → Bool
+leads_on none = false
+leads_on (goes p) = true
+
 abbrev pub next_front : {X : Type 0} → Next X → X → List Tok → List Tok → Type 0
 next_front none x ts rest = ⊥
 next_front (goes p) x ts rest = p.front x ts rest
@@ -129,6 +167,18 @@ pub record Chosen {X : Type 0} (table : What → Next X) (x : X) (ts rest : List
 
 abbrev pub by : {X : Type 0} → (What → Next X) → Production X
 by table = record { front = Chosen table; read = by_at table }
+
+-- the same, or else something that begins with a token which leads nowhere
+abbrev pub or_at : {X : Type 0} → List Tok → (List Tok → Outcome X) → Next X → List Tok → Outcome X
+or_at whole other none ts = other whole
+or_at whole other (goes p) ts = p.read ts
+
+abbrev pub by_or_at : {X : Type 0} → (What → Next X) → (List Tok → Outcome X) → List Tok → Outcome X
+by_or_at table other [] = other []
+by_or_at table other (t ∷ ts) = or_at (t ∷ ts) other (table t.what) ts
+
+unfoldable pub by_or : {X : Type 0} → (What → Next X) → Production X → Production X
+by_or table q = record { front = λ x ts rest. Chosen table x ts rest ⊎ q.front x ts rest; read = by_or_at table q.read }
 
 -- so many turns, each of which says what the rest of them has to be
 unfoldable pub turns : {X : Type 0} → (Production X → Production X) → ℕ → Production X
@@ -155,6 +205,13 @@ until_step item shut rest = branch shut (yield []) (item >>= (λ x. rest >>= (λ
 
 unfoldable pub until : {A : Type 0} → Production A → Kind → Production (List A)
 until item shut = repeat (until_step item shut)
+
+-- as many as begin with a sign
+abbrev pub many_step : {A : Type 0} → Kind → Production A → Production (List A) → Production (List A)
+many_step k item rest = branch k (item >>= (λ x. rest >>= (λ xs. yield (x ∷ xs)))) (yield [])
+
+unfoldable pub many : {A : Type 0} → Kind → Production A → Production (List A)
+many k item = repeat (many_step k item)
 
 -- at least one, with commas
 abbrev pub some_commas : {A : Type 0} → Production A → Kind → Production (List A)
@@ -186,6 +243,10 @@ finish x = at_end x (refuse rules.Unexpected)
 abbrev pub next_then : {A B : Type 0} → Next A → (A → Production B) → Next B
 next_then none g = none
 next_then (goes p) g = goes (p >>= g)
+
+-- it takes a token wherever it reads something
+abbrev pub Takes : {X : Type 0} → Production X → Type 0
+Takes {X = X} p = (ts : List Tok) (x : X) (rest : List Tok) → p.read ts ≡ Ok (x, rest) → length rest < length ts
 
 -- What a function returned, seen by view, and the tokens that it left, are what reading gives, unless memory ran out.
 abbrev pub Reads : {X Y : Type 0} → (X → Y) → Result X ReadError → List Tok → Outcome Y → Type 0

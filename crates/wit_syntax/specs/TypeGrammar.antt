@@ -1,14 +1,15 @@
 -- The grammar of types (WIT, Types).
-use Rattle.std.specs.Prelude.{ℕ, zero, suc, ◌+◌, ◌-◌, ◌*◌, ◌^◌, ◌==◌, ◌||◌, nat_le, Bool, true, false, if◌then◌else◌, List, [], ◌∷◌, Option, Some, None, Result, Ok, Err}
+use Rattle.std.specs.Prelude.{ℕ, zero, suc, ◌+◌, ◌-◌, ◌*◌, ◌^◌, ◌==◌, ◌||◌, nat_le, Bool, true, if◌then◌else◌, [], ◌∷◌, Option, Some, None, Result, Ok, Err}
 use Rattle.wit_syntax.specs.declared.fault.Rule.{Rule}
 use Rattle.wit_syntax.specs.declared.fault.Rule.TheVariants as rules
 use Rattle.wit_syntax.specs.declared.token.Kind.TheVariants as kind
 use Rattle.wit_syntax.specs.Lex.{Text}
-use Rattle.wit_syntax.specs.Token.{What, plain, number, ident}
+use Rattle.wit_syntax.specs.Token.{What, plain, number, ident, explicit}
 use Rattle.wit_syntax.specs.TypeTree as tree
 use Rattle.wit_syntax.specs.TypeTree.{TypeTree, row, opt, no_type, a_type}
-use Rattle.wit_syntax.specs.Production.{Production, ◌>>=◌, ◌>>◌, yield, refuse, sign, one, branch, optional, Next, none, goes, by, commas, finish}
-use Rattle.wit_syntax.specs.TextGrammar.{name, IsTextOf}
+use Rattle.wit_syntax.specs.Production.{Production, ◌>>=◌, ◌>>◌, yield, refuse, sign, one, branch, optional, Next, none, goes, leads_on, by_or, commas, finish}
+use Rattle.wit_syntax.specs.Slice.{Slice}
+use Rattle.wit_syntax.specs.Terminal.{id}
 
 -- ---- the length of a list
 
@@ -84,10 +85,10 @@ unfoldable pub result_after : Production TypeTree → Production TypeTree
 result_after inner = branch kind.LessThan (result_parts inner) (yield (tree.result no_type no_type))
 
 -- <id>, behind own or borrow
-unfoldable pub handle_of : Production (List ℕ)
+unfoldable pub handle_of : Production Slice
 handle_of = do
   sign kind.LessThan
-  n ← name
+  n ← id
   sign kind.GreaterThan
   yield n
 
@@ -110,9 +111,8 @@ stream_after inner = do
   t ← payload inner
   yield (tree.stream (opt t))
 
--- what a type goes on with behind its first token
+-- what a type goes on with behind a keyword
 abbrev pub type_after : Production TypeTree → What → Next TypeTree
-type_after inner (ident s) = goes (yield (tree.named s))
 type_after inner (plain kind.Bool) = goes (yield tree.bool)
 type_after inner (plain kind.U8) = goes (yield tree.u8)
 type_after inner (plain kind.U16) = goes (yield tree.u16)
@@ -139,22 +139,26 @@ type_after inner _ = none
 
 -- ---- types
 
-abbrev pub leads_on : {X : Type 0} → Next X → Bool
-leads_on none = false
-leads_on (goes p) = true
-
 -- a type begins with the token
 abbrev pub begins_type : What → Bool
+begins_type (ident s) = true
+begins_type (explicit s) = true
 begins_type w = leads_on (type_after (refuse rules.Unexpected) w)
 
 -- a token that begins a type stands too deep, and any other doesn't belong there
 abbrev pub too_deep : What → Result TypeTree Rule
 too_deep w = Err (if begins_type w then rules.TooDeep else rules.Unexpected)
 
+-- a type by its name
+unfoldable pub named_type : Production TypeTree
+named_type = do
+  n ← id
+  yield (tree.named n)
+
 -- a type in which fewer than this many angle brackets enclose another
 unfoldable pub type_in : ℕ → Production TypeTree
 type_in zero = one too_deep
-type_in (suc depth) = by (type_after (type_in depth))
+type_in (suc depth) = by_or (type_after (type_in depth)) named_type
 
 -- a type, which stands in at most 100 angle brackets
 unfoldable pub any_type : Production TypeTree
@@ -167,7 +171,3 @@ unfoldable pub whole_type : Production TypeTree
 whole_type = do
   t ← any_type
   finish t
-
--- the text is a type, and this is its tree
-abbrev pub IsType : Text → TypeTree → Type 0
-IsType = IsTextOf whole_type

@@ -1,5 +1,6 @@
 -- Types, without where their names lie in memory (WIT, Types).
 use Rattle.std.specs.Prelude.{ℕ, List, [], ◌∷◌, Option, Some, None}
+use Rattle.wit_syntax.specs.Slice.{Slice}
 
 mutual
   pub data TypeTree : Type 0 where
@@ -16,14 +17,14 @@ mutual
     f64 : TypeTree
     char : TypeTree
     string : TypeTree
-    named : List ℕ → TypeTree
+    named : Slice → TypeTree
     list : TypeTree → TypeTree
     fixed_length_list : TypeTree → ℕ → TypeTree
     option : TypeTree → TypeTree
     tuple : TypeRow → TypeTree
     result : (ok err : TypeOption) → TypeTree
-    own : List ℕ → TypeTree
-    borrow : List ℕ → TypeTree
+    own : Slice → TypeTree
+    borrow : Slice → TypeTree
     future : TypeOption → TypeTree
     stream : TypeOption → TypeTree
     error_context : TypeTree

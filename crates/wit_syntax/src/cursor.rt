@@ -4,10 +4,15 @@ ghost use Rattle.std.specs.Prelude.{◌≡◌, ◌<◌, ◌∷◌, [], false, le
 ghost use Rattle.wit_syntax.specs.Token.{Tok, what, toks};
 ghost use Rattle.wit_syntax.specs.Production as spec;
 ghost use Rattle.wit_syntax.specs.Production.{Reads};
-ghost use Rattle.wit_syntax.specs.TextGrammar.{name};
+ghost use Rattle.wit_syntax.specs.AstView as view;
+ghost use Rattle.wit_syntax.specs.Terminal as terminal;
 
+use crate::ast::{Id, Version};
+use crate::docs::Docs;
 use crate::fault::{Fault, ReadError, Rule};
+use crate::source_map::Span;
 use crate::token::{DocumentedToken, Kind, Token, same_kind};
+use std::alloc::{AllocError, Global};
 use std::marker::Model;
 
 /// The error of a broken rule where `left` tokens are left.
@@ -29,11 +34,11 @@ fn is_kind(token: Token, kind: Kind) -> bool
 
 /// The tokens that are still to be read.
 #[derive(Drop)]
-pub struct Tokens<'t, 'a> {
+pub struct Cursor<'t, 'a> {
     rest: &'t [DocumentedToken<'a>],
 }
 
-impl<'t, 'a> Model for Tokens<'t, 'a> {
+impl<'t, 'a> Model for Cursor<'t, 'a> {
     ghost use Rattle.std.specs.Prelude.{List};
     ghost use Rattle.wit_syntax.specs.Token.{Tok, toks};
 
@@ -42,12 +47,12 @@ impl<'t, 'a> Model for Tokens<'t, 'a> {
     ghost view = { λ t. toks t.rest.now };
 }
 
-impl<'t, 'a> Tokens<'t, 'a> {
+impl<'t, 'a> Cursor<'t, 'a> {
     /// A cursor in front of the first of `rest`.
-    pub fn new(rest: &'t [DocumentedToken<'a>]) -> Tokens<'t, 'a>
+    pub fn new(rest: &'t [DocumentedToken<'a>]) -> Cursor<'t, 'a>
         ensures { result ≡ toks rest.now }
     {
-        Tokens { rest }
+        Cursor { rest }
     }
 
     /// How many tokens are left.
@@ -103,29 +108,79 @@ impl<'t, 'a> Tokens<'t, 'a> {
         }
     }
 
-    /// Takes a name, and refuses any other token.
-    #[tactic(auto, unfolding(crate::specs::TextGrammar::name))]
-    pub fn name(&mut self) -> Result<&'a str, ReadError>
-        ensures { Reads (λ x. x.now) result self.new (name.read self.old) }
+    /// Takes an identifier, and refuses any other token.
+    #[tactic(auto, unfolding(crate::specs::Terminal::id))]
+    pub fn id(&mut self) -> Result<Id<'a>, ReadError>
+        ensures { Reads view.id result self.new (terminal.id.read self.old) }
+    {
+        let [first, rest @ ..] = self.rest else {
+            return Err(self.unexpected());
+        };
+        let (Token::Id(name) | Token::ExplicitId(name)) = first.token else {
+            return Err(self.unexpected());
+        };
+        self.rest = rest;
+        Ok(Id {
+            name,
+            span: first.span,
+        })
+    }
+
+    /// Takes a version, and refuses any other token.
+    #[tactic(auto, unfolding(crate::specs::Terminal::version))]
+    pub fn version(&mut self) -> Result<Version<'a>, ReadError>
+        ensures { Reads view.version result self.new (terminal.version.read self.old) }
+    {
+        let [first, rest @ ..] = self.rest else {
+            return Err(self.unexpected());
+        };
+        let Token::Version(text) = first.token else {
+            return Err(fault(Rule::BadVersion, self.left()));
+        };
+        self.rest = rest;
+        Ok(Version {
+            text,
+            span: first.span,
+        })
+    }
+
+    /// Takes a word that is no keyword, and refuses any other token.
+    #[tactic(auto, unfolding(crate::specs::Terminal::word))]
+    pub fn word(&mut self, word: &str) -> Result<(), ReadError>
+        ensures { Reads (λ x. x) result self.new ((terminal.word word.now).read self.old) }
     {
         match self.rest {
-            [first, rest @ ..] if let Token::Name(name) = first.token => {
+            [first, rest @ ..] if let Token::Id(name) = first.token && name == word => {
                 self.rest = rest;
-                Ok(name)
+                Ok(())
             }
             _ => Err(self.unexpected()),
         }
     }
 
+    /// The docs in front of the next token.
+    pub fn docs(&self, alloc: Global) -> Result<Docs<'a>, AllocError>
+        ensures { IfOk result (λ d. view.docs d ≡ spec.docs_at self.now) }
+    {
+        match self.rest {
+            [first, ..] => Ok(Docs {
+                comments: first.docs.to_vec(alloc)?,
+            }),
+            [] => Ok(Docs {
+                comments: Vec::new(alloc),
+            }),
+        }
+    }
+
     /// Takes the next token, if there is one.
-    pub fn next(&mut self) -> Option<Token<'a>>
-        ensures { MatchOption result ((self.old ≡ []) × (self.new ≡ [])) (λ w. (t : Tok) × (self.old ≡ t ∷ self.new) × (t.what ≡ what w)) }
+    pub fn next(&mut self) -> Option<(Token<'a>, Span)>
+        ensures { MatchOption result ((self.old ≡ []) × (self.new ≡ [])) (λ w. (t : Tok) × (self.old ≡ t ∷ self.new) × (t.what ≡ what w.0) × (t.span ≡ w.1)) }
     {
         match self.rest {
             [] => None,
             [first, rest @ ..] => {
                 self.rest = rest;
-                Some(first.token)
+                Some((first.token, first.span))
             }
         }
     }

@@ -9,33 +9,36 @@ use thiserror::Error;
 /// The rule that a text breaks.
 #[derive(Clone, Copy, Debug, PartialEq, Eq, Error)]
 pub enum Rule {
-    /// A character begins no token.
-    #[error("no token begins so")]
+    /// S1: a character outside comments begins no token.
+    #[error("S1 BadCharacter")]
     BadCharacter,
-    /// A comment that begins with `/*` has no end.
-    #[error("a comment has no end")]
+    /// S2: a comment that begins with `/*` has no end.
+    #[error("S2 OpenComment")]
     OpenComment,
-    /// A word is no identifier: its parts, between hyphens, have letters of one case each.
-    #[error("a word is no identifier")]
+    /// S4: a run of identifier characters is no identifier.
+    #[error("S4 BadIdentifier")]
     BadIdentifier,
-    /// Another token, or the text's end, had to stand here.
-    #[error("something else has to stand here")]
+    /// S3: a token, or the end, stands where the grammar has none such.
+    #[error("S3 Unexpected")]
     Unexpected,
-    /// The length of a list is 0 or above 4,294,967,295.
-    #[error("a list's length is from 1 to 4,294,967,295")]
+    /// S5: no version stands where one is asked.
+    #[error("S5 BadVersion")]
+    BadVersion,
+    /// S6: the length of a list is 0 or above 4,294,967,295.
+    #[error("S6 BadNumber")]
     BadNumber,
-    /// A type stands in more than 100 angle brackets.
-    #[error("a type stands in at most 100 angle brackets")]
+    /// S7: a type stands in more than 100 angle brackets.
+    #[error("S7 TooDeep")]
     TooDeep,
 }
 
 /// A broken rule, and where.
 #[derive(Clone, Copy, Debug, PartialEq, Eq, Error)]
-#[error("{rule} ({left} tokens or bytes before the end)")]
+#[error("{rule} ({left} tokens before the end)")]
 pub struct Fault {
     /// The rule that is broken.
     pub rule: Rule,
-    /// What is left of the text from there: in tokens for `Rule::Unexpected`, `Rule::BadNumber` and `Rule::TooDeep`, and else in bytes.
+    /// How many tokens are left from there.
     pub left: usize,
 }
 
@@ -63,5 +66,45 @@ impl<T: Drop> From<AllocFailed<T>> for ReadError {
 
     fn from(_e: AllocFailed<T>) -> ReadError {
         ReadError::Memory
+    }
+}
+
+/// Why a text isn't taken.
+#[derive(Clone, Copy, Debug, PartialEq, Eq, Drop, Error)]
+pub enum SyntaxFault {
+    /// A request for memory was refused.
+    #[error("out of memory")]
+    OutOfMemory,
+    /// S8: the text would end more than 4,294,967,295 bytes behind the place that spans count from.
+    #[error("S8 TooLarge")]
+    TooLarge,
+    /// The text breaks a rule.
+    #[error("{rule}")]
+    Broken {
+        /// The rule.
+        rule: Rule,
+        /// Where, counted as spans are: the first byte of the character, comment, word or token that breaks it, or the
+        /// text's end. A token behind a `%` begins behind that.
+        at: u32,
+    },
+}
+
+impl From<AllocError> for SyntaxFault {
+    ghost use Rattle.wit_syntax.specs.declared.fault.SyntaxFault.TheVariants.{OutOfMemory};
+
+    ghost from_gives = { λ _ e. e ≡ OutOfMemory };
+
+    fn from(_e: AllocError) -> SyntaxFault {
+        SyntaxFault::OutOfMemory
+    }
+}
+
+impl<T: Drop> From<AllocFailed<T>> for SyntaxFault {
+    ghost use Rattle.wit_syntax.specs.declared.fault.SyntaxFault.TheVariants.{OutOfMemory};
+
+    ghost from_gives = { λ _ e. e ≡ OutOfMemory };
+
+    fn from(_e: AllocFailed<T>) -> SyntaxFault {
+        SyntaxFault::OutOfMemory
     }
 }

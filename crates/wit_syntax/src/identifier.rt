@@ -1,9 +1,11 @@
 //! Identifiers.
 
-ghost use Rattle.std.specs.Prelude.{◌≡◌};
+ghost use Rattle.std.specs.Prelude.{◌≡◌, IfOk, IfErr};
 ghost use Rattle.std.specs.Bool.{Decides};
 ghost use Rattle.wit_syntax.specs.Identifier as spec;
 ghost use Rattle.wit_syntax.specs.Identifier.{IsIdentifier};
+
+use crate::fault::{Rule, SyntaxFault};
 
 /// How much of an identifier has been read.
 #[derive(Clone, Copy, Debug, PartialEq, Eq)]
@@ -63,6 +65,21 @@ pub fn is_identifier(text: &str) -> bool
     ensures same { result ≡ spec.is_identifier text.now }
 {
     goes_on_to_the_end(text)
+}
+
+/// `Ok` where `text` is an identifier, and else the rule that it breaks.
+pub fn validate_id(text: &str) -> Result<(), SyntaxFault>
+    ensures ok { IfOk result (λ _. IsIdentifier text.now) }
+    ensures cause { IfErr result (λ e. (IsIdentifier text.now → ⊥) × (e ≡ SyntaxFault.Broken Rule.BadIdentifier 0)) }
+{
+    if is_identifier(text) {
+        Ok(())
+    } else {
+        Err(SyntaxFault::Broken {
+            rule: Rule::BadIdentifier,
+            at: 0,
+        })
+    }
 }
 
 /// Whether `text` goes on byte by byte as an identifier, up to the end of a word.

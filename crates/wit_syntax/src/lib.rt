@@ -1,37 +1,66 @@
 //! WIT texts: from bytes to tokens, and from tokens to a tree.
 #![tactic(auto)]
 
+mod ast;
 mod cursor;
+mod docs;
 mod fault;
 mod identifier;
 mod keyword;
 mod law;
 mod lex;
+mod list;
+mod name_key;
 mod parse;
+mod parse_files;
+mod parse_items;
 mod parse_types;
 mod source_map;
+mod text;
 mod token;
+mod token_iterator;
 mod tokens;
-mod tree;
 mod types;
 mod version;
 
-pub use fault::{Fault, ReadError, Rule};
-pub use identifier::is_identifier;
-pub use law::law_one_reading;
-pub use parse::{parse_file, parse_use_path};
-pub use parse_types::parse_type;
+pub use ast::{
+    AstItem, Attribute, Case, EnumCase, ExternKind, Field, File, FileItem, Flag, Func, Gated, Id,
+    Include, IncludeName, Interface, InterfaceItem, NamedFunc, Package, PackageHeader, PackageName,
+    Param, ResourceFunc, ToplevelUse, TypeDef, TypeDefKind, Use, UseName, UsePath, Version, World,
+    WorldItem,
+};
+pub use docs::Docs;
+pub use fault::{Rule, SyntaxFault};
+pub use identifier::{is_identifier, validate_id};
+pub use law::{law_one_reading, law_tokens_are_slices};
+pub use name_key::{NameKey, law_name_keys_fold_as_names_do};
 pub use source_map::{SourceFault, SourceMap, Span};
-pub use token::{DocumentedToken, Kind, Token};
-pub use tokens::read_tokens;
-pub use tree::{File, FunctionTree, ItemTree, Parameter, Primitive, Side, UsePath};
+pub use text::{parse_file, parse_type, parse_use_path};
+pub use token::{Comment, Kind, Token};
+pub use token_iterator::{SpannedToken, Tokens};
 pub use types::Type;
 
 #[cfg(test)]
-mod tests;
+mod tests_names;
+#[cfg(test)]
+mod tests_packages;
+#[cfg(test)]
+mod tests_rows;
+#[cfg(test)]
+mod tests_rows_files;
+#[cfg(test)]
+mod tests_rows_items;
+#[cfg(test)]
+mod tests_rows_types;
 #[cfg(test)]
 mod tests_source_map;
+#[cfg(test)]
+mod tests_tokens;
+#[cfg(test)]
+mod tests_trees;
 #[cfg(test)]
 mod tests_types;
 #[cfg(test)]
 mod tests_version;
+#[cfg(test)]
+mod tests_walk;

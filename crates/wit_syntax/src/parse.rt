@@ -1,235 +1,361 @@
-//! From tokens to a tree.
+//! From tokens to the parts of a tree that stand in a list or in an item.
 
-ghost use Rattle.std.specs.Prelude.{◌≡◌, List, map, IfOk};
-ghost use Rattle.wit_syntax.specs.Lexical.{LexesText};
-ghost use Rattle.wit_syntax.specs.Outcome.{Gives, Answers};
-ghost use Rattle.wit_syntax.specs.Place.{HasPlace};
-ghost use Rattle.wit_syntax.specs.Production.{Reads, commas, until, optional};
-ghost use Rattle.wit_syntax.specs.TextGrammar as spec;
-ghost use Rattle.wit_syntax.specs.TextGrammar.{IsText, IsUsePath};
-ghost use Rattle.wit_syntax.specs.Token.{Tok};
-ghost use Rattle.wit_syntax.specs.Tree.{FileTree, UsePathTree};
-ghost use Rattle.wit_syntax.specs.View as view;
+ghost use Rattle.std.specs.Prelude.{◌≡◌, option_map, map, List, length, true, false};
+ghost use Rattle.wit_syntax.specs.AstView as view;
+ghost use Rattle.wit_syntax.specs.FileGrammar as spec;
+ghost use Rattle.wit_syntax.specs.Production.{Reads, many, optional, some_commas, next_at};
+ghost use Rattle.wit_syntax.specs.Terminal.{id, version};
+ghost use Rattle.wit_syntax.specs.Token.{Tok, plain};
+ghost use Rattle.wit_syntax.specs.TypeGrammar.{any_type};
+ghost use Rattle.wit_syntax.specs.TypeView.{type_tree};
 ghost use Rattle.wit_syntax.specs.declared.token.Kind.TheVariants as kind;
 
-use crate::cursor::{Tokens, fault};
+use crate::ast::{
+    Attribute, Func, Gated, Id, Include, IncludeName, NamedFunc, PackageName, Param, ToplevelUse,
+    Use, UseName, UsePath, Version,
+};
+use crate::cursor::{Cursor, fault};
 use crate::fault::{ReadError, Rule};
+use crate::list::{Part, commas};
+use crate::parse_types::any_type;
 use crate::token::{Kind, Token};
-use crate::tokens::lex;
-use crate::tree::{File, FunctionTree, ItemTree, Parameter, Primitive, Side, UsePath};
+use crate::types::Type;
 use std::alloc::Global;
 
-fn primitive_of(kind: Kind) -> Result<Primitive, Rule>
-    ensures { result ≡ spec.primitive_of kind }
-{
-    match kind {
-        Kind::Bool => Ok(Primitive::Bool),
-        Kind::U8 => Ok(Primitive::U8),
-        Kind::U16 => Ok(Primitive::U16),
-        Kind::U32 => Ok(Primitive::U32),
-        Kind::U64 => Ok(Primitive::U64),
-        Kind::S8 => Ok(Primitive::S8),
-        Kind::S16 => Ok(Primitive::S16),
-        Kind::S32 => Ok(Primitive::S32),
-        Kind::S64 => Ok(Primitive::S64),
-        _ => Err(Rule::Unexpected),
-    }
-}
+// ---- names of packages, and paths
 
-#[tactic(auto, unfolding(crate::specs::TextGrammar::primitive))]
-fn primitive(tokens: &mut Tokens<'_, '_>) -> Result<Primitive, ReadError>
-    ensures { Reads (λ p. p) result tokens.new (spec.primitive.read tokens.old) }
-{
-    let whole = tokens.left();
-    let Some(Token::Plain(kind)) = tokens.next() else {
-        return Err(fault(Rule::Unexpected, whole));
-    };
-    match primitive_of(kind) {
-        Ok(primitive) => Ok(primitive),
-        Err(rule) => Err(fault(rule, whole)),
-    }
-}
-
-#[tactic(auto, unfolding(crate::specs::TextGrammar::parameter))]
-fn parameter<'a>(tokens: &mut Tokens<'_, 'a>) -> Result<Parameter<'a>, ReadError>
-    ensures { Reads view.parameter result tokens.new (spec.parameter.read tokens.old) }
-{
-    let name = tokens.name()?;
-    tokens.expect(Kind::Colon)?;
-    let ty = primitive(tokens)?;
-    Ok(Parameter { name, ty })
-}
-
-fn parameters<'a>(
-    alloc: Global,
-    tokens: &mut Tokens<'_, 'a>,
-) -> Result<Vec<Parameter<'a>>, ReadError>
-    ensures { Reads (λ v. map view.parameter v.items) result tokens.new ((commas spec.parameter kind.RightParenthesis).read tokens.old) }
-{
-    let mut found = Vec::new(alloc);
-    while !tokens.eat(Kind::RightParenthesis) {
-        found.push(parameter(tokens)?)?;
-        if !tokens.eat(Kind::Comma) {
-            tokens.expect(Kind::RightParenthesis)?;
-            return Ok(found);
-        }
-    }
-    Ok(found)
-}
-
+/// A version behind an `@`, if there is one.
 #[tactic(auto, unfolding(crate::specs::Production::branch))]
-fn arrow(tokens: &mut Tokens<'_, '_>) -> Result<Option<Primitive>, ReadError>
-    ensures { Reads (λ p. p) result tokens.new ((optional kind.RightArrow spec.primitive).read tokens.old) }
+fn at_version<'a>(tokens: &mut Cursor<'_, 'a>) -> Result<Option<Version<'a>>, ReadError>
+    ensures { Reads (option_map view.version) result tokens.new ((optional kind.At version).read tokens.old) }
 {
-    if tokens.eat(Kind::RightArrow) {
-        return Ok(Some(primitive(tokens)?));
+    if tokens.eat(Kind::At) {
+        return Ok(Some(tokens.version()?));
     }
     Ok(None)
 }
 
-#[tactic(auto, unfolding(crate::specs::TextGrammar::function))]
-fn function<'a>(alloc: Global, tokens: &mut Tokens<'_, 'a>) -> Result<FunctionTree<'a>, ReadError>
-    ensures { Reads view.function result tokens.new (spec.function.read tokens.old) }
+/// The name of a package.
+#[tactic(auto, unfolding(crate::specs::FileGrammar::package_name, crate::specs::FileGrammar::package_behind))]
+pub fn package_name<'a>(tokens: &mut Cursor<'_, 'a>) -> Result<PackageName<'a>, ReadError>
+    ensures { Reads view.package_name result tokens.new (spec.package_name.read tokens.old) }
 {
-    tokens.expect(Kind::Func)?;
-    tokens.expect(Kind::LeftParenthesis)?;
-    let params = parameters(alloc, tokens)?;
-    let result = arrow(tokens)?;
-    Ok(FunctionTree { params, result })
-}
-
-#[tactic(auto, unfolding(crate::specs::TextGrammar::item_after))]
-fn item_after<'a>(
-    alloc: Global,
-    side: Side,
-    tokens: &mut Tokens<'_, 'a>,
-) -> Result<ItemTree<'a>, ReadError>
-    ensures { Reads view.item result tokens.new ((spec.item_after side).read tokens.old) }
-{
-    let name = tokens.name()?;
+    let namespace = tokens.id()?;
     tokens.expect(Kind::Colon)?;
-    let function = function(alloc, tokens)?;
-    tokens.expect(Kind::Semicolon)?;
-    Ok(ItemTree {
-        side,
+    let name = tokens.id()?;
+    let version = at_version(tokens)?;
+    Ok(PackageName {
+        namespace,
         name,
-        function,
+        version,
     })
 }
 
-#[tactic(auto, unfolding(crate::specs::TextGrammar::item))]
-fn item<'a>(alloc: Global, tokens: &mut Tokens<'_, 'a>) -> Result<ItemTree<'a>, ReadError>
-    ensures { Reads view.item result tokens.new (spec.item.read tokens.old) }
+/// What stands behind the namespace of a path and a colon.
+#[tactic(auto, unfolding(crate::specs::FileGrammar::path_behind))]
+pub fn path_behind<'a>(
+    namespace: Id<'a>,
+    tokens: &mut Cursor<'_, 'a>,
+) -> Result<UsePath<'a>, ReadError>
+    ensures { Reads view.use_path result tokens.new ((spec.path_behind (view.id namespace.entry)).read tokens.old) }
 {
-    let whole = tokens.left();
-    match tokens.next() {
-        Some(Token::Plain(Kind::Import)) => item_after(alloc, Side::Import, tokens),
-        Some(Token::Plain(Kind::Export)) => item_after(alloc, Side::Export, tokens),
-        _ => Err(fault(Rule::Unexpected, whole)),
+    let package = tokens.id()?;
+    tokens.expect(Kind::Slash)?;
+    let name = tokens.id()?;
+    let version = at_version(tokens)?;
+    let id = PackageName {
+        namespace,
+        name: package,
+        version,
+    };
+    Ok(UsePath::Package { id, name })
+}
+
+/// A path.
+#[tactic(auto, unfolding(crate::specs::FileGrammar::use_path, crate::specs::Production::branch))]
+pub fn use_path<'a>(tokens: &mut Cursor<'_, 'a>) -> Result<UsePath<'a>, ReadError>
+    ensures { Reads view.use_path result tokens.new (spec.use_path.read tokens.old) }
+{
+    let name = tokens.id()?;
+    if tokens.eat(Kind::Colon) {
+        return path_behind(name, tokens);
+    }
+    Ok(UsePath::Id(name))
+}
+
+// ---- attributes
+
+#[tactic(auto, unfolding(crate::specs::FileGrammar::version_argument))]
+fn version_argument<'a>(tokens: &mut Cursor<'_, 'a>) -> Result<Version<'a>, ReadError>
+    ensures { Reads view.version result tokens.new (spec.version_argument.read tokens.old) }
+{
+    tokens.expect(Kind::LeftParenthesis)?;
+    tokens.word("version")?;
+    tokens.expect(Kind::Equals)?;
+    let version = tokens.version()?;
+    tokens.expect(Kind::RightParenthesis)?;
+    Ok(version)
+}
+
+#[tactic(auto, unfolding(crate::specs::FileGrammar::feature_argument))]
+fn feature_argument<'a>(tokens: &mut Cursor<'_, 'a>) -> Result<Id<'a>, ReadError>
+    ensures { Reads view.id result tokens.new (spec.feature_argument.read tokens.old) }
+{
+    tokens.expect(Kind::LeftParenthesis)?;
+    tokens.word("feature")?;
+    tokens.expect(Kind::Equals)?;
+    let feature = tokens.id()?;
+    tokens.expect(Kind::RightParenthesis)?;
+    Ok(feature)
+}
+
+/// What stands behind the `@` of an attribute.
+#[tactic(auto, unfolding(crate::specs::FileGrammar::attribute))]
+pub fn attribute<'a>(tokens: &mut Cursor<'_, 'a>) -> Result<Attribute<'a>, ReadError>
+    ensures { Reads view.attribute result tokens.new (spec.attribute.read tokens.old) }
+{
+    let left = tokens.left();
+    let Some((Token::Id(name), _)) = tokens.next() else {
+        return Err(fault(Rule::Unexpected, left));
+    };
+    match name {
+        "since" => Ok(Attribute::Since(version_argument(tokens)?)),
+        "unstable" => Ok(Attribute::Unstable(feature_argument(tokens)?)),
+        "deprecated" => Ok(Attribute::Deprecated(version_argument(tokens)?)),
+        _ => Err(fault(Rule::Unexpected, left)),
     }
 }
 
-fn items<'a>(alloc: Global, tokens: &mut Tokens<'_, 'a>) -> Result<Vec<ItemTree<'a>>, ReadError>
-    ensures { Reads (λ v. map view.item v.items) result tokens.new ((until spec.item kind.RightBrace).read tokens.old) }
+/// As many attributes as stand there.
+pub fn attributes<'a>(
+    alloc: Global,
+    tokens: &mut Cursor<'_, 'a>,
+) -> Result<Vec<Attribute<'a>>, ReadError>
+    ensures { Reads (λ v. map view.attribute v.items) result tokens.new ((many kind.At spec.attribute).read tokens.old) }
 {
     let mut found = Vec::new(alloc);
-    while !tokens.eat(Kind::RightBrace) {
-        found.push(item(alloc, tokens)?)?;
+    while tokens.eat(Kind::At) {
+        found.push(attribute(tokens)?)?;
     }
     Ok(found)
 }
 
-#[tactic(auto, unfolding(crate::specs::TextGrammar::file))]
-fn file<'a>(alloc: Global, tokens: &mut Tokens<'_, 'a>) -> Result<File<'a>, ReadError>
-    ensures { Reads view.file result tokens.new (spec.file.read tokens.old) }
-{
-    tokens.expect(Kind::Package)?;
-    let namespace = tokens.name()?;
-    tokens.expect(Kind::Colon)?;
-    let name = tokens.name()?;
-    tokens.expect(Kind::Semicolon)?;
-    tokens.expect(Kind::World)?;
-    let world = tokens.name()?;
-    tokens.expect(Kind::LeftBrace)?;
-    let items = items(alloc, tokens)?;
-    tokens.end()?;
-    Ok(File {
-        namespace,
-        name,
-        world,
-        items,
-    })
-}
+impl<'a, T: Part<'a>> Part<'a> for Gated<'a, T> {
+    ghost use Rattle.wit_syntax.specs.Ast.{GatedTree};
+    ghost use Rattle.wit_syntax.specs.AstView as view;
+    ghost use Rattle.wit_syntax.specs.FileGrammar as spec;
 
-#[tactic(auto, unfolding(crate::specs::TextGrammar::text_at))]
-fn whole_file<'a>(alloc: Global, text: &'a str) -> Result<File<'a>, ReadError>
-    ensures { Gives view.file result (spec.text_at spec.file text.now) }
-{
-    let found = lex(alloc, text)?;
-    let mut tokens = Tokens::new(&found);
-    file(alloc, &mut tokens)
-}
+    ghost Tree = { GatedTree T.Tree };
 
-/// The tree of the whole of `text`: `package namespace:name; world name { item .. }`.
-/// A text that isn't of this form is `ReadError::Malformed`. Where it consists of tokens, no text of this form has, behind the tokens
-/// before the fault, the one at the fault, or, where the fault lies at the end, ends there.
-#[tactic(auto, using(crate::proofs::Texts::text_answers, crate::proofs::Texts::text_place, crate::proofs::TextLaws::file_law, crate::proofs::TextLaws::file_whole))]
-pub fn parse_file<'a>(alloc: Global, text: &'a str) -> Result<File<'a>, ReadError>
-    ensures found { IfOk result (λ f. IsText text.now (view.file f)) }
-    ensures only { (d : FileTree) → IsText text.now d → Answers view.file result d }
-    ensures place { (ts : List Tok) → LexesText text.now ts → HasPlace spec.file ts result }
-{
-    whole_file(alloc, text)
-}
+    ghost production = { spec.gated T.production };
 
-/// What stands behind the namespace of a path.
-#[tactic(auto, unfolding(crate::specs::TextGrammar::package_path))]
-fn package_path<'a>(
-    namespace: &'a str,
-    tokens: &mut Tokens<'_, 'a>,
-) -> Result<UsePath<'a>, ReadError>
-    ensures { Reads view.use_path result tokens.new ((spec.package_path namespace.now).read tokens.old) }
-{
-    let package = tokens.name()?;
-    tokens.expect(Kind::Slash)?;
-    let name = tokens.name()?;
-    tokens.end()?;
-    Ok(UsePath::Package {
-        namespace,
-        package,
-        name,
-    })
-}
+    ghost tree = { view.gated T.tree };
 
-#[tactic(auto, unfolding(crate::specs::TextGrammar::use_path, crate::specs::Production::branch))]
-fn use_path<'a>(tokens: &mut Tokens<'_, 'a>) -> Result<UsePath<'a>, ReadError>
-    ensures { Reads view.use_path result tokens.new (spec.use_path.read tokens.old) }
-{
-    let name = tokens.name()?;
-    if tokens.eat(Kind::Colon) {
-        return package_path(name, tokens);
+    #[tactic(auto, unfolding(crate::specs::FileGrammar::gated, crate::specs::Production::documented))]
+    fn parse(alloc: Global, tokens: &mut Cursor<'_, 'a>) -> Result<Gated<'a, T>, ReadError> {
+        let docs = tokens.docs(alloc)?;
+        let attributes = attributes(alloc, tokens)?;
+        let item = T::parse(alloc, tokens)?;
+        Ok(Gated {
+            docs,
+            attributes,
+            item,
+        })
     }
-    tokens.end()?;
-    Ok(UsePath::Id(name))
 }
 
-#[tactic(auto, unfolding(crate::specs::TextGrammar::text_at))]
-fn whole_use_path(alloc: Global, text: &str) -> Result<UsePath<'_>, ReadError>
-    ensures { Gives view.use_path result (spec.text_at spec.use_path text.now) }
+// ---- use
+
+/// Another name behind `as`, if there is one.
+#[tactic(auto, unfolding(crate::specs::Production::branch))]
+fn as_id<'a>(tokens: &mut Cursor<'_, 'a>) -> Result<Option<Id<'a>>, ReadError>
+    ensures { Reads (option_map view.id) result tokens.new ((optional kind.As id).read tokens.old) }
 {
-    let found = lex(alloc, text)?;
-    let mut tokens = Tokens::new(&found);
-    use_path(&mut tokens)
+    if tokens.eat(Kind::As) {
+        return Ok(Some(tokens.id()?));
+    }
+    Ok(None)
 }
 
-/// The path that the whole of `text` is: `name` or `namespace:package/name`.
-/// A text that isn't of this form is `ReadError::Malformed`. Where it consists of tokens, no path has, behind the tokens
-/// before the fault, the one at the fault, or, where the fault lies at the end, ends there.
-#[tactic(auto, using(crate::proofs::Texts::text_answers, crate::proofs::Texts::text_place, crate::proofs::TextLaws::use_path_law, crate::proofs::TextLaws::use_path_whole))]
-pub fn parse_use_path(alloc: Global, text: &str) -> Result<UsePath<'_>, ReadError>
-    ensures found { IfOk result (λ p. IsUsePath text.now (view.use_path p)) }
-    ensures only { (d : UsePathTree) → IsUsePath text.now d → Answers view.use_path result d }
-    ensures place { (ts : List Tok) → LexesText text.now ts → HasPlace spec.use_path ts result }
+impl<'a> Part<'a> for UseName<'a> {
+    ghost use Rattle.wit_syntax.specs.Ast.{UseNameTree};
+    ghost use Rattle.wit_syntax.specs.AstView as view;
+    ghost use Rattle.wit_syntax.specs.FileGrammar as spec;
+
+    ghost Tree = { UseNameTree };
+
+    ghost production = { spec.use_name };
+
+    ghost tree = { view.use_name };
+
+    #[tactic(auto, unfolding(crate::specs::FileGrammar::use_name))]
+    fn parse(_alloc: Global, tokens: &mut Cursor<'_, 'a>) -> Result<UseName<'a>, ReadError> {
+        let name = tokens.id()?;
+        let as_ = as_id(tokens)?;
+        Ok(UseName { name, as_ })
+    }
+}
+
+/// At least one name that is used, with commas between them, up to a closing brace.
+#[tactic(auto, unfolding(crate::specs::Production::branch), using(crate::proofs::FileLaws::use_name_takes))]
+fn use_names<'a>(alloc: Global, tokens: &mut Cursor<'_, 'a>) -> Result<Vec<UseName<'a>>, ReadError>
+    ensures { Reads (λ v. map view.use_name v.items) result tokens.new ((some_commas spec.use_name kind.RightBrace).read tokens.old) }
 {
-    whole_use_path(alloc, text)
+    let first = UseName::parse(alloc, tokens)?;
+    let mut names = Vec::new(alloc);
+    names.push(first)?;
+    if !tokens.eat(Kind::Comma) {
+        tokens.expect(Kind::RightBrace)?;
+        return Ok(names);
+    }
+    let mut more = commas::<UseName<'a>>(alloc, Kind::RightBrace, tokens)?;
+    names.append(&mut more)?;
+    Ok(names)
+}
+
+/// What stands behind `use` in an interface or a world.
+#[tactic(auto, unfolding(crate::specs::FileGrammar::use_behind))]
+pub fn use_behind<'a>(alloc: Global, tokens: &mut Cursor<'_, 'a>) -> Result<Use<'a>, ReadError>
+    ensures { Reads view.uses result tokens.new (spec.use_behind.read tokens.old) }
+{
+    let from = use_path(tokens)?;
+    tokens.expect(Kind::Dot)?;
+    tokens.expect(Kind::LeftBrace)?;
+    let names = use_names(alloc, tokens)?;
+    tokens.expect(Kind::Semicolon)?;
+    Ok(Use { from, names })
+}
+
+/// What stands behind `use` at the top of a file or package.
+#[tactic(auto, unfolding(crate::specs::FileGrammar::toplevel_use_behind))]
+pub fn toplevel_use_behind<'a>(tokens: &mut Cursor<'_, 'a>) -> Result<ToplevelUse<'a>, ReadError>
+    ensures { Reads view.toplevel_use result tokens.new (spec.toplevel_use_behind.read tokens.old) }
+{
+    let item = use_path(tokens)?;
+    let as_ = as_id(tokens)?;
+    tokens.expect(Kind::Semicolon)?;
+    Ok(ToplevelUse { item, as_ })
+}
+
+// ---- functions
+
+impl<'a> Part<'a> for Param<'a> {
+    ghost use Rattle.wit_syntax.specs.Ast.{ParamTree};
+    ghost use Rattle.wit_syntax.specs.AstView as view;
+    ghost use Rattle.wit_syntax.specs.FileGrammar as spec;
+
+    ghost Tree = { ParamTree };
+
+    ghost production = { spec.param };
+
+    ghost tree = { view.param };
+
+    #[tactic(auto, unfolding(crate::specs::FileGrammar::param))]
+    fn parse(alloc: Global, tokens: &mut Cursor<'_, 'a>) -> Result<Param<'a>, ReadError> {
+        let name = tokens.id()?;
+        tokens.expect(Kind::Colon)?;
+        let ty = any_type(alloc, tokens)?;
+        Ok(Param { name, ty })
+    }
+}
+
+/// Parameters in parentheses.
+#[tactic(auto, unfolding(crate::specs::FileGrammar::params), using(crate::proofs::FileLaws::param_takes))]
+pub fn params<'a>(alloc: Global, tokens: &mut Cursor<'_, 'a>) -> Result<Vec<Param<'a>>, ReadError>
+    ensures { Reads (λ v. map view.param v.items) result tokens.new (spec.params.read tokens.old) }
+{
+    tokens.expect(Kind::LeftParenthesis)?;
+    commas::<Param<'a>>(alloc, Kind::RightParenthesis, tokens)
+}
+
+/// A type behind an arrow, if there is one.
+#[tactic(auto, unfolding(crate::specs::Production::branch))]
+pub fn arrow<'a>(alloc: Global, tokens: &mut Cursor<'_, 'a>) -> Result<Option<Type<'a>>, ReadError>
+    ensures { Reads (option_map type_tree) result tokens.new ((optional kind.RightArrow any_type).read tokens.old) }
+{
+    if tokens.eat(Kind::RightArrow) {
+        return Ok(Some(any_type(alloc, tokens)?));
+    }
+    Ok(None)
+}
+
+/// What stands behind `func`.
+#[tactic(auto, unfolding(crate::specs::FileGrammar::func_behind))]
+pub fn func_behind<'a>(
+    alloc: Global,
+    async_: bool,
+    tokens: &mut Cursor<'_, 'a>,
+) -> Result<Func<'a>, ReadError>
+    ensures { Reads view.func result tokens.new ((spec.func_behind async_).read tokens.old) }
+{
+    let params = params(alloc, tokens)?;
+    let result = arrow(alloc, tokens)?;
+    Ok(Func {
+        async_,
+        params,
+        result,
+    })
+}
+
+#[tactic(auto, unfolding(crate::specs::FileGrammar::func, crate::specs::Production::branch))]
+fn func<'a>(alloc: Global, tokens: &mut Cursor<'_, 'a>) -> Result<Func<'a>, ReadError>
+    ensures { Reads view.func result tokens.new (spec.func.read tokens.old) }
+{
+    let async_ = tokens.eat(Kind::Async);
+    tokens.expect(Kind::Func)?;
+    func_behind(alloc, async_, tokens)
+}
+
+/// What stands behind a function's name and a colon.
+#[tactic(auto, unfolding(crate::specs::FileGrammar::named_func_behind))]
+pub fn named_func_behind<'a>(
+    alloc: Global,
+    name: Id<'a>,
+    tokens: &mut Cursor<'_, 'a>,
+) -> Result<NamedFunc<'a>, ReadError>
+    ensures { Reads view.named_func result tokens.new ((spec.named_func_behind (view.id name.entry)).read tokens.old) }
+{
+    let func = func(alloc, tokens)?;
+    tokens.expect(Kind::Semicolon)?;
+    Ok(NamedFunc { name, func })
+}
+
+impl<'a> Part<'a> for IncludeName<'a> {
+    ghost use Rattle.wit_syntax.specs.Ast.{IncludeNameTree};
+    ghost use Rattle.wit_syntax.specs.AstView as view;
+    ghost use Rattle.wit_syntax.specs.FileGrammar as spec;
+
+    ghost Tree = { IncludeNameTree };
+
+    ghost production = { spec.include_name };
+
+    ghost tree = { view.include_name };
+
+    #[tactic(auto, unfolding(crate::specs::FileGrammar::include_name))]
+    fn parse(_alloc: Global, tokens: &mut Cursor<'_, 'a>) -> Result<IncludeName<'a>, ReadError> {
+        let name = tokens.id()?;
+        tokens.expect(Kind::As)?;
+        let as_ = tokens.id()?;
+        Ok(IncludeName { name, as_ })
+    }
+}
+
+/// What stands behind `include`.
+#[tactic(auto, unfolding(crate::specs::FileGrammar::include_behind, crate::specs::Production::branch), using(crate::proofs::FileLaws::include_name_takes))]
+pub fn include_behind<'a>(
+    alloc: Global,
+    tokens: &mut Cursor<'_, 'a>,
+) -> Result<Include<'a>, ReadError>
+    ensures { Reads view.include result tokens.new (spec.include_behind.read tokens.old) }
+{
+    let from = use_path(tokens)?;
+    let mut names = Vec::new(alloc);
+    if tokens.eat(Kind::With) {
+        tokens.expect(Kind::LeftBrace)?;
+        names = commas::<IncludeName<'a>>(alloc, Kind::RightBrace, tokens)?;
+        tokens.eat(Kind::Semicolon);
+    } else {
+        tokens.expect(Kind::Semicolon)?;
+    }
+    Ok(Include { from, names })
 }

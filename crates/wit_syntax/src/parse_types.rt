@@ -1,23 +1,17 @@
 //! From tokens to a type.
 
-ghost use Rattle.std.specs.Prelude.{◌≡◌, List, length, map, option_map, IfOk};
-ghost use Rattle.wit_syntax.specs.Broken.{HasBreak};
-ghost use Rattle.wit_syntax.specs.Lexical.{LexesText};
-ghost use Rattle.wit_syntax.specs.Outcome.{Gives, Answers};
-ghost use Rattle.wit_syntax.specs.Place.{HasPlace};
+ghost use Rattle.std.specs.Prelude.{◌≡◌, List, length, map, option_map};
 ghost use Rattle.wit_syntax.specs.Production.{Reads, commas, next_at};
-ghost use Rattle.wit_syntax.specs.TextGrammar.{text_at};
 ghost use Rattle.wit_syntax.specs.Token.{Tok, plain, what};
 ghost use Rattle.wit_syntax.specs.TypeGrammar as spec;
-ghost use Rattle.wit_syntax.specs.TypeGrammar.{type_in, type_after, IsType};
-ghost use Rattle.wit_syntax.specs.TypeTree.{TypeTree};
-ghost use Rattle.wit_syntax.specs.TypeView.{type_tree};
+ghost use Rattle.wit_syntax.specs.TypeGrammar.{type_in, type_after};
+ghost use Rattle.wit_syntax.specs.TypeView.{id, type_tree};
 ghost use Rattle.wit_syntax.specs.declared.token.Kind.TheVariants as kind;
 
-use crate::cursor::{Tokens, fault};
+use crate::ast::Id;
+use crate::cursor::{Cursor, fault};
 use crate::fault::{ReadError, Rule};
 use crate::token::{Kind, Token};
-use crate::tokens::lex;
 use crate::types::Type;
 use std::alloc::Global;
 
@@ -55,11 +49,11 @@ fn list_length(digits: &str) -> Result<u32, Rule>
 
 /// Takes the length of a list, and refuses any other token.
 #[tactic(auto, unfolding(crate::specs::TypeGrammar::list_len))]
-fn list_len(tokens: &mut Tokens<'_, '_>) -> Result<u32, ReadError>
+fn list_len(tokens: &mut Cursor<'_, '_>) -> Result<u32, ReadError>
     ensures { Reads (λ n. n) result tokens.new (spec.list_len.read tokens.old) }
 {
     let left = tokens.left();
-    let Some(Token::Number(digits)) = tokens.next() else {
+    let Some((Token::Number(digits), _)) = tokens.next() else {
         return Err(fault(Rule::Unexpected, left));
     };
     match list_length(digits) {
@@ -70,7 +64,7 @@ fn list_len(tokens: &mut Tokens<'_, '_>) -> Result<u32, ReadError>
 
 #[cycle(types)]
 #[tactic(auto, unfolding(crate::specs::TypeGrammar::list_after, crate::specs::Production::branch))]
-fn list<'a>(alloc: Global, depth: usize, tokens: &mut Tokens<'_, 'a>) -> Result<Type<'a>, ReadError>
+fn list<'a>(alloc: Global, depth: usize, tokens: &mut Cursor<'_, 'a>) -> Result<Type<'a>, ReadError>
     ensures { Reads type_tree result tokens.new ((spec.list_after (type_in depth)).read tokens.old) }
 {
     tokens.expect(Kind::LessThan)?;
@@ -90,7 +84,7 @@ fn list<'a>(alloc: Global, depth: usize, tokens: &mut Tokens<'_, 'a>) -> Result<
 fn option<'a>(
     alloc: Global,
     depth: usize,
-    tokens: &mut Tokens<'_, 'a>,
+    tokens: &mut Cursor<'_, 'a>,
 ) -> Result<Type<'a>, ReadError>
     ensures { Reads type_tree result tokens.new ((spec.option_after (type_in depth)).read tokens.old) }
 {
@@ -105,7 +99,7 @@ fn option<'a>(
 fn tuple<'a>(
     alloc: Global,
     depth: usize,
-    tokens: &mut Tokens<'_, 'a>,
+    tokens: &mut Cursor<'_, 'a>,
 ) -> Result<Type<'a>, ReadError>
     ensures { Reads type_tree result tokens.new ((spec.tuple_after (type_in depth)).read tokens.old) }
 {
@@ -117,7 +111,7 @@ fn tuple<'a>(
 fn types<'a>(
     alloc: Global,
     depth: usize,
-    tokens: &mut Tokens<'_, 'a>,
+    tokens: &mut Cursor<'_, 'a>,
 ) -> Result<Vec<Type<'a>>, ReadError>
     ensures { Reads (λ v. map type_tree v.items) result tokens.new ((commas (type_in depth) kind.GreaterThan).read tokens.old) }
 {
@@ -137,7 +131,7 @@ fn types<'a>(
 fn result_parts<'a>(
     alloc: Global,
     depth: usize,
-    tokens: &mut Tokens<'_, 'a>,
+    tokens: &mut Cursor<'_, 'a>,
 ) -> Result<Type<'a>, ReadError>
     ensures { Reads type_tree result tokens.new ((spec.result_parts (type_in depth)).read tokens.old) }
 {
@@ -171,7 +165,7 @@ fn result_parts<'a>(
 fn result<'a>(
     alloc: Global,
     depth: usize,
-    tokens: &mut Tokens<'_, 'a>,
+    tokens: &mut Cursor<'_, 'a>,
 ) -> Result<Type<'a>, ReadError>
     ensures { Reads type_tree result tokens.new ((spec.result_after (type_in depth)).read tokens.old) }
 {
@@ -186,11 +180,11 @@ fn result<'a>(
 
 /// The name of a handle's resource.
 #[tactic(auto, unfolding(crate::specs::TypeGrammar::handle_of))]
-fn handle_of<'a>(tokens: &mut Tokens<'_, 'a>) -> Result<&'a str, ReadError>
-    ensures { Reads (λ s. s.now) result tokens.new (spec.handle_of.read tokens.old) }
+fn handle_of<'a>(tokens: &mut Cursor<'_, 'a>) -> Result<Id<'a>, ReadError>
+    ensures { Reads id result tokens.new (spec.handle_of.read tokens.old) }
 {
     tokens.expect(Kind::LessThan)?;
-    let name = tokens.name()?;
+    let name = tokens.id()?;
     tokens.expect(Kind::GreaterThan)?;
     Ok(name)
 }
@@ -201,7 +195,7 @@ fn handle_of<'a>(tokens: &mut Tokens<'_, 'a>) -> Result<&'a str, ReadError>
 fn payload<'a>(
     alloc: Global,
     depth: usize,
-    tokens: &mut Tokens<'_, 'a>,
+    tokens: &mut Cursor<'_, 'a>,
 ) -> Result<Option<Type<'a>>, ReadError>
     ensures { Reads (option_map type_tree) result tokens.new ((spec.payload (type_in depth)).read tokens.old) }
 {
@@ -218,7 +212,7 @@ fn payload<'a>(
 fn future<'a>(
     alloc: Global,
     depth: usize,
-    tokens: &mut Tokens<'_, 'a>,
+    tokens: &mut Cursor<'_, 'a>,
 ) -> Result<Type<'a>, ReadError>
     ensures { Reads type_tree result tokens.new ((spec.future_after (type_in depth)).read tokens.old) }
 {
@@ -233,7 +227,7 @@ fn future<'a>(
 fn stream<'a>(
     alloc: Global,
     depth: usize,
-    tokens: &mut Tokens<'_, 'a>,
+    tokens: &mut Cursor<'_, 'a>,
 ) -> Result<Type<'a>, ReadError>
     ensures { Reads type_tree result tokens.new ((spec.stream_after (type_in depth)).read tokens.old) }
 {
@@ -250,7 +244,7 @@ fn keyword_type<'a>(
     depth: usize,
     keyword: Kind,
     left: usize,
-    tokens: &mut Tokens<'_, 'a>,
+    tokens: &mut Cursor<'_, 'a>,
 ) -> Result<Type<'a>, ReadError>
     ensures { (whole : List Tok) → length whole ≡ left → Reads type_tree result tokens.new (next_at whole (type_after (type_in depth) (plain keyword)) tokens.old) }
 {
@@ -317,7 +311,7 @@ fn too_deep(token: Token<'_>) -> Rule
     ensures { spec.too_deep (what token.entry) ≡ Err result }
 {
     match token {
-        Token::Name(_) => Rule::TooDeep,
+        Token::Id(_) | Token::ExplicitId(_) => Rule::TooDeep,
         Token::Plain(keyword) if begins_type(keyword) => Rule::TooDeep,
         _ => Rule::Unexpected,
     }
@@ -325,16 +319,16 @@ fn too_deep(token: Token<'_>) -> Rule
 
 /// A type in which fewer than `depth` angle brackets enclose another.
 #[cycle(types)]
-#[tactic(auto, unfolding(crate::specs::TypeGrammar::type_in))]
+#[tactic(auto, unfolding(crate::specs::TypeGrammar::type_in, crate::specs::TypeGrammar::named_type, crate::specs::Terminal::id, crate::specs::Production::by_or), using(crate::proofs::TypeLaws::keyword_read))]
 fn type_of<'a>(
     alloc: Global,
     depth: usize,
-    tokens: &mut Tokens<'_, 'a>,
+    tokens: &mut Cursor<'_, 'a>,
 ) -> Result<Type<'a>, ReadError>
     ensures { Reads type_tree result tokens.new ((type_in depth).read tokens.old) }
 {
     let left = tokens.left();
-    let Some(token) = tokens.next() else {
+    let Some((token, span)) = tokens.next() else {
         return Err(fault(Rule::Unexpected, left));
     };
     if depth == 0 {
@@ -342,46 +336,15 @@ fn type_of<'a>(
     }
     match token {
         Token::Plain(keyword) => keyword_type(alloc, depth - 1, keyword, left, tokens),
-        Token::Name(name) => Ok(Type::Name(name)),
+        Token::Id(name) | Token::ExplicitId(name) => Ok(Type::Name(Id { name, span })),
         _ => Err(fault(Rule::Unexpected, left)),
     }
 }
 
 /// A type, which stands in at most 100 angle brackets.
 #[tactic(auto, unfolding(crate::specs::TypeGrammar::any_type))]
-pub fn any_type<'a>(alloc: Global, tokens: &mut Tokens<'_, 'a>) -> Result<Type<'a>, ReadError>
+pub fn any_type<'a>(alloc: Global, tokens: &mut Cursor<'_, 'a>) -> Result<Type<'a>, ReadError>
     ensures { Reads type_tree result tokens.new (spec.any_type.read tokens.old) }
 {
     type_of(alloc, 101, tokens)
-}
-
-#[tactic(auto, unfolding(crate::specs::TypeGrammar::whole_type))]
-fn whole_type<'a>(alloc: Global, tokens: &mut Tokens<'_, 'a>) -> Result<Type<'a>, ReadError>
-    ensures { Reads type_tree result tokens.new (spec.whole_type.read tokens.old) }
-{
-    let ty = any_type(alloc, tokens)?;
-    tokens.end()?;
-    Ok(ty)
-}
-
-#[tactic(auto, unfolding(crate::specs::TextGrammar::text_at))]
-fn type_in_text(alloc: Global, text: &str) -> Result<Type<'_>, ReadError>
-    ensures { Gives type_tree result (text_at spec.whole_type text.now) }
-{
-    let found = lex(alloc, text)?;
-    let mut tokens = Tokens::new(&found);
-    whole_type(alloc, &mut tokens)
-}
-
-/// The type that the whole of `text` is.
-/// A text that isn't a type is `ReadError::Malformed`. Where it consists of tokens, no type has, behind the tokens
-/// before the fault, the one at the fault, or, where the fault lies at the end, ends there; and the fault's rule is broken there.
-#[tactic(auto, using(crate::proofs::Texts::text_answers, crate::proofs::Texts::text_place, crate::proofs::TypeLaws::whole_type_law, crate::proofs::TypeLaws::whole_type_whole, crate::proofs::BracketLaws::text_breaks, crate::proofs::TypeBreaks::whole_type_tells))]
-pub fn parse_type(alloc: Global, text: &str) -> Result<Type<'_>, ReadError>
-    ensures found { IfOk result (λ t. IsType text.now (type_tree t)) }
-    ensures only { (d : TypeTree) → IsType text.now d → Answers type_tree result d }
-    ensures place { (ts : List Tok) → LexesText text.now ts → HasPlace spec.whole_type ts result }
-    ensures rule { (ts : List Tok) → LexesText text.now ts → HasBreak ts result }
-{
-    type_in_text(alloc, text)
 }

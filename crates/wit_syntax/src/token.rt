@@ -3,6 +3,8 @@
 ghost use Rattle.std.specs.Prelude.{◌≡◌, ◌≢◌, true, false};
 ghost use Rattle.wit_syntax.specs.Token as spec;
 
+use crate::source_map::Span;
+
 /// A sign or a keyword.
 #[derive(Clone, Copy, Debug, PartialEq, Eq)]
 pub enum Kind {
@@ -131,16 +133,30 @@ pub enum Token<'a> {
     Number(&'a str),
     /// A version of SemVer 2.0.
     Version(&'a str),
-    /// An identifier, without a `%` in front of it.
-    Name(&'a str),
+    /// An identifier that is no keyword.
+    Id(&'a str),
+    /// An identifier with a `%` in front of it, which may be a keyword. The text is without the `%`.
+    ExplicitId(&'a str),
+}
+
+/// A comment that is docs, `/// ..` or `/** .. */`.
+#[derive(Clone, Copy, Debug)]
+pub struct Comment<'a> {
+    /// The comment as it stands in the text.
+    pub text: &'a str,
+    /// Where it stands.
+    pub span: Span,
 }
 
 /// A token, and the docs that stand in front of it.
 #[derive(Debug, Drop)]
 pub struct DocumentedToken<'a> {
-    /// The comments that are docs, in order, as they stand in the text: `/// ..` and `/** .. */`.
-    pub docs: Vec<&'a str>,
+    /// The comments that are docs, in order.
+    pub docs: Vec<Comment<'a>>,
+    /// The token.
     pub token: Token<'a>,
+    /// Where it stands, without a `%` in front of it.
+    pub span: Span,
 }
 
 /// Whether two kinds are one.

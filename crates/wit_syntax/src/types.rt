@@ -1,5 +1,7 @@
 //! The tree of a type.
 
+use crate::ast::Id;
+
 /// A type (WIT, Types).
 #[derive(Debug, Drop, PartialEq)]
 pub enum Type<'a> {
@@ -30,7 +32,7 @@ pub enum Type<'a> {
     /// `string`
     String,
     /// A type by its name: `name`
-    Name(&'a str),
+    Name(Id<'a>),
     /// `list<type>`
     List(Box<Type<'a>>),
     /// A list of a length that is known: `list<type, length>`
@@ -47,9 +49,9 @@ pub enum Type<'a> {
         err: Option<Box<Type<'a>>>,
     },
     /// A handle that owns a resource: `own<name>`
-    Own(&'a str),
+    Own(Id<'a>),
     /// A handle to a resource that another owns: `borrow<name>`
-    Borrow(&'a str),
+    Borrow(Id<'a>),
     /// `future` or `future<type>`
     Future(Option<Box<Type<'a>>>),
     /// `stream` or `stream<type>`

@@ -1,7 +1,7 @@
-use Rattle.std.proofs.Common.{◌≡◌, map, take}
-use Rattle.component_linker.specs.World as spec
-use Rattle.wit_syntax.specs.View as tree
+use Rattle.std.proofs.Common.{◌≡◌, Some, map, take}
+use Rattle.component_linker.specs.World.{each_of, parameter_of, param_item}
+use Rattle.wit_syntax.specs.AstView as view
 use Rattle.component_linker.proofs.world.params_of.Given as goal
 
 abbrev pub invariant-loop-param : goal.invariant-loop-param
-invariant-loop-param l = map spec.param_item l.found.items ≡ map spec.parameter_of (map tree.parameter (take l.param-index l.params))
+invariant-loop-param l = each_of parameter_of (map view.param (take l.param-index l.params)) ≡ Some (map param_item l.found.items)

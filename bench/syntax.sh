@@ -1,0 +1,27 @@
+#!/bin/sh
+# bench/syntax.sh [MEBIBYTES..]
+#
+# Times the proved reading of texts, `wit_syntax::parse_file`, on texts of so many MiB, 1, 2, 4 and 8 where no numbers
+# are given, and prints a table of seconds and MB/s, with the ratio of each row to the one before it. The texts are the
+# packages of examples/packages, over and over. The program, bench/syntax/main.rt.txt, is no crate of this repository:
+# it is proved and built in a folder of its own, with a copy of wit_syntax and of what its checks have kept in out/ (1
+# to 2 GB; without them the crate is proved from nothing first). It needs python3 and the kit's command `rt`.
+set -eu
+
+top=$(CDPATH='' cd -- "$(dirname -- "$0")/.." && pwd)
+folder=$(mktemp -d)
+trap 'rm -rf "$folder"' EXIT
+
+program=$folder/crates/syntax_bench
+mkdir -p "$program/src" "$folder/texts"
+cp "$top/bench/syntax/main.rt.txt" "$program/src/main.rt"
+cp -R "$top/crates/wit_syntax" "$folder/crates/"
+grep '^wit_syntax:' "$top/crates.txt" >"$folder/crates.txt"
+echo 'syntax_bench: wit_syntax' >>"$folder/crates.txt"
+
+if ! log=$(cd "$program" && rt run </dev/null 2>&1); then
+    printf '%s\n' "$log" >&2
+    exit 1
+fi
+python3 "$top/bench/syntax.py" make "$top/examples/packages" "$folder/texts" "$@"
+"$program/out/syntax_bench" "$folder"/texts/*.wit | python3 "$top/bench/syntax.py" table

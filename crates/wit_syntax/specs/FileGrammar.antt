@@ -1,0 +1,418 @@
+-- The grammar of texts (WIT).
+use Rattle.std.specs.Prelude.{ℕ, Bool, true, false, if◌then◌else◌, List, [], ◌∷◌, Option, Some, None, bytes_eq, codes}
+use Rattle.wit_syntax.specs.declared.token.Kind.TheVariants as kind
+use Rattle.wit_syntax.specs.Ast as tree
+use Rattle.wit_syntax.specs.Ast.{PackageNameTree, UsePathTree, AttributeTree, GatedTree, UseNameTree, UseTree, ToplevelUseTree, ParamTree, FuncTree, NamedFuncTree, FieldTree, LabelTree, CaseTree, ResourceFuncTree, TypeDefKindTree, TypeDefTree, InterfaceItemTree, InterfaceTree, ExternTree, IncludeNameTree, IncludeTree, WorldItemTree, WorldTree, AstItemTree, PackageTree, FileItemTree, HeaderTree, FirstTree, FileTree}
+use Rattle.wit_syntax.specs.Production.{Production, ◌>>=◌, ◌>>◌, yield, sign, branch, optional, documented, Next, none, goes, next_then, by, by_or, commas, some_commas, until, many, all, at_end, finish}
+use Rattle.wit_syntax.specs.Slice.{Slice}
+use Rattle.wit_syntax.specs.Terminal.{id, version, word}
+use Rattle.wit_syntax.specs.Token.{What, plain, ident}
+use Rattle.wit_syntax.specs.TypeGrammar.{any_type}
+use Rattle.wit_syntax.specs.TypeTree.{TypeTree}
+
+-- ---- names of packages, and paths
+
+-- name@version or name, behind a namespace and a colon
+unfoldable pub package_behind : Slice → Production PackageNameTree
+package_behind namespace = do
+  n ← id
+  v ← optional kind.At version
+  yield (record { namespace = namespace; name = n; version = v })
+
+-- namespace:name@version or namespace:name
+unfoldable pub package_name : Production PackageNameTree
+package_name = do
+  n ← id
+  sign kind.Colon
+  package_behind n
+
+-- package/name@version or package/name, behind a namespace and a colon
+unfoldable pub path_behind : Slice → Production UsePathTree
+path_behind namespace = do
+  p ← id
+  sign kind.Slash
+  n ← id
+  v ← optional kind.At version
+  yield (tree.in_package (record { namespace = namespace; name = p; version = v }) n)
+
+-- name, or namespace:package/name@version
+unfoldable pub use_path : Production UsePathTree
+use_path = do
+  n ← id
+  branch kind.Colon (path_behind n) (yield (tree.UsePathTree.id n))
+
+-- ---- attributes
+
+-- (version = version)
+unfoldable pub version_argument : Production Slice
+version_argument = do
+  sign kind.LeftParenthesis
+  word (codes "version")
+  sign kind.Equals
+  v ← version
+  sign kind.RightParenthesis
+  yield v
+
+-- (feature = name)
+unfoldable pub feature_argument : Production Slice
+feature_argument = do
+  sign kind.LeftParenthesis
+  word (codes "feature")
+  sign kind.Equals
+  n ← id
+  sign kind.RightParenthesis
+  yield n
+
+-- a word that names an attribute
+pub data AttributeWord : Type 0 where
+  since : AttributeWord
+  unstable : AttributeWord
+  deprecated : AttributeWord
+
+abbrev pub attribute_word : List ℕ → Option AttributeWord
+attribute_word name =
+    if bytes_eq name (codes "since") then Some since
+    else if bytes_eq name (codes "unstable") then Some unstable
+    else if bytes_eq name (codes "deprecated") then Some deprecated
+    else None
+
+abbrev pub attribute_by : Option AttributeWord → Next AttributeTree
+attribute_by None = none
+attribute_by (Some since) = goes (version_argument >>= (λ v. yield (tree.since v)))
+attribute_by (Some unstable) = goes (feature_argument >>= (λ n. yield (tree.unstable n)))
+attribute_by (Some deprecated) = goes (version_argument >>= (λ v. yield (tree.deprecated v)))
+
+abbrev pub attribute_at : What → Next AttributeTree
+attribute_at (ident name) = attribute_by (attribute_word name)
+attribute_at _ = none
+
+-- what stands behind the `@` of an attribute
+unfoldable pub attribute : Production AttributeTree
+attribute = by attribute_at
+
+-- an item behind its attributes
+abbrev pub attributed : {X : Type 0} → Production X → Production (List AttributeTree × X)
+attributed item = many kind.At attribute >>= (λ attributes. item >>= (λ i. yield (attributes, i)))
+
+-- the same with the docs in front
+unfoldable pub gated : {X : Type 0} → Production X → Production (GatedTree X)
+gated {X = X} item = do
+  x ← documented (attributed item)
+  yield (record { docs = x.0; attributes = x.1.0; item = x.1.1 })
+
+-- ---- use
+
+-- name or name as other
+unfoldable pub use_name : Production UseNameTree
+use_name = do
+  n ← id
+  o ← optional kind.As id
+  yield (record { name = n; other = o })
+
+-- path.{name, ..};
+unfoldable pub use_behind : Production UseTree
+use_behind = do
+  p ← use_path
+  sign kind.Dot
+  sign kind.LeftBrace
+  ns ← some_commas use_name kind.RightBrace
+  sign kind.Semicolon
+  yield (record { from = p; names = ns })
+
+-- path; or path as other;
+unfoldable pub toplevel_use_behind : Production ToplevelUseTree
+toplevel_use_behind = do
+  p ← use_path
+  o ← optional kind.As id
+  sign kind.Semicolon
+  yield (record { item = p; other = o })
+
+-- ---- functions
+
+-- name: type
+unfoldable pub param : Production ParamTree
+param = do
+  n ← id
+  sign kind.Colon
+  t ← any_type
+  yield (record { name = n; ty = t })
+
+-- (name: type, ..)
+unfoldable pub params : Production (List ParamTree)
+params = sign kind.LeftParenthesis >> commas param kind.RightParenthesis
+
+-- (name: type, ..) -> type, behind func
+unfoldable pub func_behind : Bool → Production FuncTree
+func_behind is_async = do
+  ps ← params
+  r ← optional kind.RightArrow any_type
+  yield (record { is_async = is_async; params = ps; result = r })
+
+-- func(name: type, ..) -> type, or the same behind async
+unfoldable pub func : Production FuncTree
+func = branch kind.Async (sign kind.Func >> func_behind true) (sign kind.Func >> func_behind false)
+
+-- func(name: type, ..) -> type; behind a name and a colon
+unfoldable pub named_func_behind : Slice → Production NamedFuncTree
+named_func_behind name = do
+  f ← func
+  sign kind.Semicolon
+  yield (record { name = name; func = f })
+
+-- name: func(name: type, ..) -> type;
+unfoldable pub named_func : Production NamedFuncTree
+named_func = do
+  n ← id
+  sign kind.Colon
+  named_func_behind n
+
+-- ---- definitions of types
+
+-- type;
+unfoldable pub alias_behind : Production TypeDefTree
+alias_behind = do
+  n ← id
+  sign kind.Equals
+  t ← any_type
+  sign kind.Semicolon
+  yield (record { name = n; kind = tree.alias t })
+
+unfoldable pub field : Production FieldTree
+field = do
+  x ← documented param
+  yield (record { docs = x.0; name = x.1.name; ty = x.1.ty })
+
+unfoldable pub label : Production LabelTree
+label = do
+  x ← documented id
+  yield (record { docs = x.0; name = x.1 })
+
+-- type) behind the parenthesis that opens
+abbrev pub carried : Production TypeTree
+carried = any_type >>= (λ t. sign kind.RightParenthesis >> yield t)
+
+-- name or name(type)
+unfoldable pub case_parts : Production (Slice × Option TypeTree)
+case_parts = do
+  n ← id
+  t ← optional kind.LeftParenthesis carried
+  yield (n, t)
+
+unfoldable pub case : Production CaseTree
+case = do
+  x ← documented case_parts
+  yield (record { docs = x.0; name = x.1.0; ty = x.1.1 })
+
+-- name { part, .. }
+unfoldable pub parts : {A : Type 0} → Production A → Production (Slice × List A)
+parts part = do
+  n ← id
+  sign kind.LeftBrace
+  ps ← commas part kind.RightBrace
+  yield (n, ps)
+
+abbrev pub defined_by : {A : Type 0} → (List A → TypeDefKindTree) → Slice × List A → Production TypeDefTree
+defined_by made x = yield (record { name = x.0; kind = made x.1 })
+
+-- (name: type, ..); or (name: type, ..) -> type; behind constructor
+unfoldable pub constructor_behind : Production ResourceFuncTree
+constructor_behind = do
+  ps ← params
+  r ← optional kind.RightArrow any_type
+  sign kind.Semicolon
+  yield (tree.constructor ps r)
+
+-- func ..; or static func ..; behind a name and a colon
+unfoldable pub method_behind : Slice → Production ResourceFuncTree
+method_behind name = branch kind.Static (named_func_behind name >>= (λ f. yield (tree.static f))) (named_func_behind name >>= (λ f. yield (tree.method f)))
+
+-- name: func ..; or name: static func ..;
+unfoldable pub method : Production ResourceFuncTree
+method = do
+  n ← id
+  sign kind.Colon
+  method_behind n
+
+unfoldable pub resource_func : Production ResourceFuncTree
+resource_func = branch kind.Constructor constructor_behind method
+
+-- name; or name { function .. }
+unfoldable pub resource_behind : Production TypeDefTree
+resource_behind = do
+  n ← id
+  branch kind.Semicolon (yield (record { name = n; kind = tree.resource [] }))
+      (do
+        sign kind.LeftBrace
+        fs ← until (gated resource_func) kind.RightBrace
+        yield (record { name = n; kind = tree.resource fs }))
+
+abbrev pub record_behind : Production TypeDefTree
+record_behind = parts field >>= defined_by tree.fields
+
+abbrev pub flags_behind : Production TypeDefTree
+flags_behind = parts label >>= defined_by tree.flags
+
+abbrev pub enum_behind : Production TypeDefTree
+enum_behind = parts label >>= defined_by tree.labels
+
+abbrev pub variant_behind : Production TypeDefTree
+variant_behind = parts case >>= defined_by tree.cases
+
+abbrev pub type_def_at : What → Next TypeDefTree
+type_def_at (plain kind.TypeKeyword) = goes alias_behind
+type_def_at (plain kind.Record) = goes record_behind
+type_def_at (plain kind.Flags) = goes flags_behind
+type_def_at (plain kind.Enum) = goes enum_behind
+type_def_at (plain kind.Variant) = goes variant_behind
+type_def_at (plain kind.Resource) = goes resource_behind
+type_def_at _ = none
+
+-- ---- interfaces
+
+abbrev pub defined : {X : Type 0} → (TypeDefTree → X) → What → Next X
+defined made w = next_then (type_def_at w) (λ d. yield (made d))
+
+-- a definition of a type, or a function
+unfoldable pub definition : Production InterfaceItemTree
+definition = by_or (defined tree.InterfaceItemTree.type_def) (named_func >>= (λ f. yield (tree.InterfaceItemTree.func f)))
+
+unfoldable pub interface_item : Production InterfaceItemTree
+interface_item = branch kind.Use (use_behind >>= (λ u. yield (tree.InterfaceItemTree.uses u))) definition
+
+-- { item .. }
+unfoldable pub interface_items : Production (List (GatedTree InterfaceItemTree))
+interface_items = sign kind.LeftBrace >> until (gated interface_item) kind.RightBrace
+
+-- name { item .. }
+unfoldable pub interface_behind : Production InterfaceTree
+interface_behind = do
+  n ← id
+  is ← interface_items
+  yield (record { name = n; items = is })
+
+-- ---- worlds
+
+-- (name: type, ..) -> type; behind the name of an import or export and func
+unfoldable pub extern_func : Slice → Bool → Production ExternTree
+extern_func name is_async = do
+  f ← func_behind is_async
+  sign kind.Semicolon
+  yield (tree.ExternTree.func (record { name = name; func = f }))
+
+-- what stands behind a name and a colon: interface { item .. }, func(..);, or package/name;
+unfoldable pub extern_behind : Slice → Production ExternTree
+extern_behind name = branch kind.Interface
+    (interface_items >>= (λ is. yield (tree.ExternTree.interface (record { name = name; items = is }))))
+    (branch kind.Async (sign kind.Func >> extern_func name true)
+    (branch kind.Func (extern_func name false)
+    (path_behind name >>= (λ p. sign kind.Semicolon >> yield (tree.ExternTree.path p)))))
+
+-- name: interface { item .. }, name: func(..);, or path;
+unfoldable pub extern_item : Production ExternTree
+extern_item = do
+  n ← id
+  branch kind.Colon (extern_behind n) (sign kind.Semicolon >> yield (tree.ExternTree.path (tree.UsePathTree.id n)))
+
+-- name as other
+unfoldable pub include_name : Production IncludeNameTree
+include_name = do
+  n ← id
+  sign kind.As
+  o ← id
+  yield (record { name = n; other = o })
+
+-- path; or path with { name as other, .. }, which may have a semicolon behind it
+unfoldable pub include_behind : Production IncludeTree
+include_behind = do
+  p ← use_path
+  branch kind.With
+      (do
+        sign kind.LeftBrace
+        ns ← commas include_name kind.RightBrace
+        optional kind.Semicolon (yield (tt {0}))
+        yield (record { from = p; names = ns }))
+      (do
+        sign kind.Semicolon
+        yield (record { from = p; names = [] }))
+
+abbrev pub world_item_at : What → Next WorldItemTree
+world_item_at (plain kind.Import) = goes (extern_item >>= (λ e. yield (tree.import e)))
+world_item_at (plain kind.Export) = goes (extern_item >>= (λ e. yield (tree.export e)))
+world_item_at (plain kind.Use) = goes (use_behind >>= (λ u. yield (tree.WorldItemTree.uses u)))
+world_item_at (plain kind.Include) = goes (include_behind >>= (λ i. yield (tree.include i)))
+world_item_at w = defined tree.WorldItemTree.type_def w
+
+unfoldable pub world_item : Production WorldItemTree
+world_item = by world_item_at
+
+-- name { item .. }
+unfoldable pub world_behind : Production WorldTree
+world_behind = do
+  n ← id
+  sign kind.LeftBrace
+  is ← until (gated world_item) kind.RightBrace
+  yield (record { name = n; items = is })
+
+-- ---- packages and files
+
+abbrev pub ast_item_at : What → Next AstItemTree
+ast_item_at (plain kind.Use) = goes (toplevel_use_behind >>= (λ u. yield (tree.AstItemTree.uses u)))
+ast_item_at (plain kind.Interface) = goes (interface_behind >>= (λ i. yield (tree.AstItemTree.interface i)))
+ast_item_at (plain kind.World) = goes (world_behind >>= (λ w. yield (tree.AstItemTree.world w)))
+ast_item_at _ = none
+
+unfoldable pub ast_item : Production AstItemTree
+ast_item = by ast_item_at
+
+-- { item .. } behind the name of a package
+unfoldable pub package_items : PackageNameTree → Production PackageTree
+package_items name = do
+  sign kind.LeftBrace
+  is ← until (gated ast_item) kind.RightBrace
+  yield (record { name = name; items = is })
+
+abbrev pub file_item_at : What → Next FileItemTree
+file_item_at (plain kind.Package) = goes (package_name >>= (λ p. package_items p >>= (λ n. yield (tree.nested n))))
+file_item_at w = next_then (ast_item_at w) (λ i. yield (tree.FileItemTree.item i))
+
+unfoldable pub file_item : Production FileItemTree
+file_item = by file_item_at
+
+-- package name; or package name { item .. }, behind package
+unfoldable pub package_first : Production FirstTree
+package_first = do
+  p ← package_name
+  branch kind.Semicolon (yield (tree.FirstTree.header p)) (package_items p >>= (λ n. yield (tree.FirstTree.item [] (tree.nested n))))
+
+-- an item behind the `@` of its first attribute
+unfoldable pub gated_first : Production FirstTree
+gated_first = do
+  first ← attribute
+  more ← many kind.At attribute
+  i ← file_item
+  yield (tree.FirstTree.item (first ∷ more) i)
+
+-- a package, or an item behind attributes, or without any, which is no package then
+unfoldable pub first : Production FirstTree
+first = branch kind.Package package_first (branch kind.At gated_first (ast_item >>= (λ i. yield (tree.FirstTree.item [] (tree.FileItemTree.item i)))))
+
+abbrev pub file_of : List Slice → FirstTree → List (GatedTree FileItemTree) → FileTree
+file_of docs (tree.FirstTree.header p) is = record { header = Some (record { docs = docs; name = p }); items = is }
+file_of docs (tree.FirstTree.item attributes i) is = record { header = None; items = record { docs = docs; attributes = attributes; item = i } ∷ is }
+
+-- package name; item .. or item ..
+unfoldable pub some_file : Production FileTree
+some_file = do
+  f ← documented first
+  is ← all (gated file_item)
+  yield (file_of f.0 f.1 is)
+
+unfoldable pub file : Production FileTree
+file = at_end (record { header = None; items = [] }) some_file
+
+-- ---- paths by themselves
+
+unfoldable pub whole_use_path : Production UsePathTree
+whole_use_path = do
+  p ← use_path
+  finish p

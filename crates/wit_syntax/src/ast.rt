@@ -1,0 +1,328 @@
+//! The tree of a text (WIT). Each name is a slice of the text, with where it stands.
+
+use crate::docs::Docs;
+use crate::source_map::Span;
+use crate::types::Type;
+
+/// An identifier (WIT, Identifiers).
+#[derive(Clone, Copy, Debug, PartialEq)]
+pub struct Id<'a> {
+    /// The name, without a `%` in front of it.
+    pub name: &'a str,
+    /// Where the name stands.
+    pub span: Span,
+}
+
+/// A version of SemVer 2.0.
+#[derive(Clone, Copy, Debug, PartialEq)]
+pub struct Version<'a> {
+    /// The version as it stands in the text.
+    pub text: &'a str,
+    /// Where it stands.
+    pub span: Span,
+}
+
+/// `namespace:name` or `namespace:name@version` (WIT, Package Names).
+#[derive(Clone, Copy, Debug)]
+pub struct PackageName<'a> {
+    /// What stands in front of the colon.
+    pub namespace: Id<'a>,
+    /// The package's name.
+    pub name: Id<'a>,
+    /// Its version, if it has one.
+    pub version: Option<Version<'a>>,
+}
+
+/// What a path names (WIT, Package and Interface Names).
+#[derive(Clone, Copy, Debug)]
+pub enum UsePath<'a> {
+    /// Something of the own package, or used by its file: `name`.
+    Id(Id<'a>),
+    /// Something of a package: `namespace:package/name` or `namespace:package/name@version`.
+    Package {
+        /// The package.
+        id: PackageName<'a>,
+        /// The name in it.
+        name: Id<'a>,
+    },
+}
+
+/// Since when and on what terms an item is there (WIT, Feature Gates).
+#[derive(Clone, Copy, Debug)]
+pub enum Attribute<'a> {
+    /// `@since(version = version)`
+    Since(Version<'a>),
+    /// `@unstable(feature = name)`
+    Unstable(Id<'a>),
+    /// `@deprecated(version = version)`
+    Deprecated(Version<'a>),
+}
+
+/// An item with what stands in front of it.
+#[derive(Debug, Drop)]
+pub struct Gated<'a, T> {
+    /// The docs in front of the first of its attributes, or of the item where it has none.
+    pub docs: Docs<'a>,
+    /// The attributes in their order.
+    pub attributes: Vec<Attribute<'a>>,
+    /// The item.
+    pub item: T,
+}
+
+/// `name` or `name as other`
+#[derive(Clone, Copy, Debug)]
+pub struct UseName<'a> {
+    /// The name where it is taken from.
+    pub name: Id<'a>,
+    /// The name by which it is known here, if that is another.
+    pub as_: Option<Id<'a>>,
+}
+
+/// `use path.{name, ..};` (WIT, Use)
+#[derive(Debug, Drop)]
+pub struct Use<'a> {
+    /// The interface.
+    pub from: UsePath<'a>,
+    /// The names that are taken from it: at least one.
+    pub names: Vec<UseName<'a>>,
+}
+
+/// `use path;` or `use path as name;` (WIT, Top-Level Use)
+#[derive(Clone, Copy, Debug)]
+pub struct ToplevelUse<'a> {
+    /// What is named.
+    pub item: UsePath<'a>,
+    /// The name by which it is known in the file, if that is another.
+    pub as_: Option<Id<'a>>,
+}
+
+/// `name: type`
+#[derive(Debug, Drop)]
+pub struct Param<'a> {
+    /// The parameter's name.
+    pub name: Id<'a>,
+    /// Its type.
+    pub ty: Type<'a>,
+}
+
+/// `func(name: type, ..) -> type` or the same behind `async` (WIT, Functions)
+#[derive(Debug, Drop)]
+pub struct Func<'a> {
+    /// Whether `async` stands in front of it.
+    pub async_: bool,
+    /// The parameters in their order.
+    pub params: Vec<Param<'a>>,
+    /// The type behind the arrow, if there is one.
+    pub result: Option<Type<'a>>,
+}
+
+/// `name: func(..);`
+#[derive(Debug, Drop)]
+pub struct NamedFunc<'a> {
+    /// The function's name.
+    pub name: Id<'a>,
+    /// Its type.
+    pub func: Func<'a>,
+}
+
+/// A field of a record: `name: type`
+#[derive(Debug, Drop)]
+pub struct Field<'a> {
+    /// The docs in front of it.
+    pub docs: Docs<'a>,
+    /// The field's name.
+    pub name: Id<'a>,
+    /// Its type.
+    pub ty: Type<'a>,
+}
+
+/// A flag: `name`
+#[derive(Debug, Drop)]
+pub struct Flag<'a> {
+    /// The docs in front of it.
+    pub docs: Docs<'a>,
+    /// The flag's name.
+    pub name: Id<'a>,
+}
+
+/// A case of an enum: `name`
+#[derive(Debug, Drop)]
+pub struct EnumCase<'a> {
+    /// The docs in front of it.
+    pub docs: Docs<'a>,
+    /// The case's name.
+    pub name: Id<'a>,
+}
+
+/// A case of a variant: `name` or `name(type)`
+#[derive(Debug, Drop)]
+pub struct Case<'a> {
+    /// The docs in front of it.
+    pub docs: Docs<'a>,
+    /// The case's name.
+    pub name: Id<'a>,
+    /// The type of what it carries, if it carries something.
+    pub ty: Option<Type<'a>>,
+}
+
+/// A function of a resource (WIT, Item: `resource`).
+#[derive(Debug, Drop)]
+pub enum ResourceFunc<'a> {
+    /// `constructor(name: type, ..);` or `constructor(name: type, ..) -> type;`
+    Constructor {
+        /// The parameters in their order.
+        params: Vec<Param<'a>>,
+        /// The type behind the arrow, if there is one.
+        result: Option<Type<'a>>,
+    },
+    /// `name: func(..);`
+    Method(NamedFunc<'a>),
+    /// `name: static func(..);`
+    Static(NamedFunc<'a>),
+}
+
+/// What a type definition defines (WIT, Items).
+#[derive(Debug, Drop)]
+pub enum TypeDefKind<'a> {
+    /// `type name = type;`
+    Alias(Type<'a>),
+    /// `record name { field, .. }`
+    Record(Vec<Field<'a>>),
+    /// `flags name { flag, .. }`
+    Flags(Vec<Flag<'a>>),
+    /// `enum name { case, .. }`
+    Enum(Vec<EnumCase<'a>>),
+    /// `variant name { case, .. }`
+    Variant(Vec<Case<'a>>),
+    /// `resource name;` or `resource name { function .. }`
+    Resource(Vec<Gated<'a, ResourceFunc<'a>>>),
+}
+
+/// A type definition.
+#[derive(Debug, Drop)]
+pub struct TypeDef<'a> {
+    /// The type's name.
+    pub name: Id<'a>,
+    /// What it is.
+    pub kind: TypeDefKind<'a>,
+}
+
+/// An item of an interface.
+#[derive(Debug, Drop)]
+pub enum InterfaceItem<'a> {
+    /// `use path.{name, ..};`
+    Use(Use<'a>),
+    /// A type definition.
+    TypeDef(TypeDef<'a>),
+    /// `name: func(..);`
+    Func(NamedFunc<'a>),
+}
+
+/// `interface name { item .. }` (WIT, Item: `interface`)
+#[derive(Debug, Drop)]
+pub struct Interface<'a> {
+    /// The interface's name.
+    pub name: Id<'a>,
+    /// The items in their order.
+    pub items: Vec<Gated<'a, InterfaceItem<'a>>>,
+}
+
+/// What a world imports or exports.
+#[derive(Debug, Drop)]
+pub enum ExternKind<'a> {
+    /// `name: func(..);`
+    Func(NamedFunc<'a>),
+    /// `name: interface { item .. }`
+    Interface(Interface<'a>),
+    /// `path;`
+    Path(UsePath<'a>),
+}
+
+/// A plain name of the included world, and the name that it gets: `name as other`
+#[derive(Clone, Copy, Debug)]
+pub struct IncludeName<'a> {
+    /// The name in the included world.
+    pub name: Id<'a>,
+    /// The name in the world that includes it.
+    pub as_: Id<'a>,
+}
+
+/// `include path;` or `include path with { name as other, .. }` (WIT, Item: `include`)
+#[derive(Debug, Drop)]
+pub struct Include<'a> {
+    /// The world.
+    pub from: UsePath<'a>,
+    /// The names that it gets here.
+    pub names: Vec<IncludeName<'a>>,
+}
+
+/// An item of a world.
+#[derive(Debug, Drop)]
+pub enum WorldItem<'a> {
+    /// `import ..`
+    Import(ExternKind<'a>),
+    /// `export ..`
+    Export(ExternKind<'a>),
+    /// `use path.{name, ..};`
+    Use(Use<'a>),
+    /// A type definition.
+    TypeDef(TypeDef<'a>),
+    /// `include path ..`
+    Include(Include<'a>),
+}
+
+/// `world name { item .. }` (WIT, Item: `world`)
+#[derive(Debug, Drop)]
+pub struct World<'a> {
+    /// The world's name.
+    pub name: Id<'a>,
+    /// The items in their order.
+    pub items: Vec<Gated<'a, WorldItem<'a>>>,
+}
+
+/// An item of a package.
+#[derive(Debug, Drop)]
+pub enum AstItem<'a> {
+    /// `use path;`
+    Use(ToplevelUse<'a>),
+    /// An interface.
+    Interface(Interface<'a>),
+    /// A world.
+    World(World<'a>),
+}
+
+/// A package within a file: `package namespace:name { item .. }`
+#[derive(Debug, Drop)]
+pub struct Package<'a> {
+    /// The package's name.
+    pub name: PackageName<'a>,
+    /// The items in their order.
+    pub items: Vec<Gated<'a, AstItem<'a>>>,
+}
+
+/// An item of a file.
+#[derive(Debug, Drop)]
+pub enum FileItem<'a> {
+    /// An item of the file's own package.
+    Item(AstItem<'a>),
+    /// A package of its own.
+    Package(Package<'a>),
+}
+
+/// The package that a file is of: `package namespace:name;`
+#[derive(Debug, Drop)]
+pub struct PackageHeader<'a> {
+    /// The docs in front of it.
+    pub docs: Docs<'a>,
+    /// The package's name.
+    pub name: PackageName<'a>,
+}
+
+/// A whole text.
+#[derive(Debug, Drop)]
+pub struct File<'a> {
+    /// The package that it is of, if it says so.
+    pub package: Option<PackageHeader<'a>>,
+    /// The items in their order.
+    pub items: Vec<Gated<'a, FileItem<'a>>>,
+}

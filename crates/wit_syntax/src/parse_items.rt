@@ -1,0 +1,445 @@
+//! From tokens to definitions of types, interfaces and worlds.
+
+ghost use Rattle.std.specs.Prelude.{◌≡◌, option_map, map, List, length};
+ghost use Rattle.wit_syntax.specs.AstView as view;
+ghost use Rattle.wit_syntax.specs.FileGrammar as spec;
+ghost use Rattle.wit_syntax.specs.Production.{Reads, Takes, next_at, optional};
+ghost use Rattle.wit_syntax.specs.Token.{Tok, plain};
+ghost use Rattle.wit_syntax.specs.TypeView.{type_tree};
+ghost use Rattle.wit_syntax.specs.declared.token.Kind.TheVariants as kind;
+
+use crate::ast::{
+    Case, EnumCase, ExternKind, Field, Flag, Gated, Id, Interface, InterfaceItem, NamedFunc,
+    ResourceFunc, TypeDef, TypeDefKind, UsePath, World, WorldItem,
+};
+use crate::cursor::{Cursor, fault};
+use crate::fault::{ReadError, Rule};
+use crate::list::{Part, commas, until};
+use crate::parse::{
+    arrow, func_behind, include_behind, named_func_behind, params, path_behind, use_behind,
+};
+use crate::parse_types::any_type;
+use crate::token::{Kind, Token};
+use crate::types::Type;
+use std::alloc::Global;
+
+// ---- definitions of types
+
+#[tactic(auto, unfolding(crate::specs::FileGrammar::alias_behind))]
+fn alias_behind<'a>(alloc: Global, tokens: &mut Cursor<'_, 'a>) -> Result<TypeDef<'a>, ReadError>
+    ensures { Reads view.type_def result tokens.new (spec.alias_behind.read tokens.old) }
+{
+    let name = tokens.id()?;
+    tokens.expect(Kind::Equals)?;
+    let ty = any_type(alloc, tokens)?;
+    tokens.expect(Kind::Semicolon)?;
+    let kind = TypeDefKind::Alias(ty);
+    Ok(TypeDef { name, kind })
+}
+
+impl<'a> Part<'a> for Field<'a> {
+    ghost use Rattle.wit_syntax.specs.Ast.{FieldTree};
+    ghost use Rattle.wit_syntax.specs.AstView as view;
+    ghost use Rattle.wit_syntax.specs.FileGrammar as spec;
+
+    ghost Tree = { FieldTree };
+
+    ghost production = { spec.field };
+
+    ghost tree = { view.field };
+
+    #[tactic(auto, unfolding(crate::specs::FileGrammar::field, crate::specs::FileGrammar::param, crate::specs::Production::documented))]
+    fn parse(alloc: Global, tokens: &mut Cursor<'_, 'a>) -> Result<Field<'a>, ReadError> {
+        let docs = tokens.docs(alloc)?;
+        let name = tokens.id()?;
+        tokens.expect(Kind::Colon)?;
+        let ty = any_type(alloc, tokens)?;
+        Ok(Field { docs, name, ty })
+    }
+}
+
+impl<'a> Part<'a> for Flag<'a> {
+    ghost use Rattle.wit_syntax.specs.Ast.{LabelTree};
+    ghost use Rattle.wit_syntax.specs.AstView as view;
+    ghost use Rattle.wit_syntax.specs.FileGrammar as spec;
+
+    ghost Tree = { LabelTree };
+
+    ghost production = { spec.label };
+
+    ghost tree = { view.flag };
+
+    #[tactic(auto, unfolding(crate::specs::FileGrammar::label, crate::specs::Production::documented))]
+    fn parse(alloc: Global, tokens: &mut Cursor<'_, 'a>) -> Result<Flag<'a>, ReadError> {
+        let docs = tokens.docs(alloc)?;
+        let name = tokens.id()?;
+        Ok(Flag { docs, name })
+    }
+}
+
+impl<'a> Part<'a> for EnumCase<'a> {
+    ghost use Rattle.wit_syntax.specs.Ast.{LabelTree};
+    ghost use Rattle.wit_syntax.specs.AstView as view;
+    ghost use Rattle.wit_syntax.specs.FileGrammar as spec;
+
+    ghost Tree = { LabelTree };
+
+    ghost production = { spec.label };
+
+    ghost tree = { view.enum_case };
+
+    #[tactic(auto, unfolding(crate::specs::FileGrammar::label, crate::specs::Production::documented))]
+    fn parse(alloc: Global, tokens: &mut Cursor<'_, 'a>) -> Result<EnumCase<'a>, ReadError> {
+        let docs = tokens.docs(alloc)?;
+        let name = tokens.id()?;
+        Ok(EnumCase { docs, name })
+    }
+}
+
+/// The type of what a case carries, in parentheses, if it carries something.
+#[tactic(auto, unfolding(crate::specs::Production::branch))]
+fn carried<'a>(alloc: Global, tokens: &mut Cursor<'_, 'a>) -> Result<Option<Type<'a>>, ReadError>
+    ensures { Reads (option_map type_tree) result tokens.new ((optional kind.LeftParenthesis spec.carried).read tokens.old) }
+{
+    if tokens.eat(Kind::LeftParenthesis) {
+        let ty = any_type(alloc, tokens)?;
+        tokens.expect(Kind::RightParenthesis)?;
+        return Ok(Some(ty));
+    }
+    Ok(None)
+}
+
+impl<'a> Part<'a> for Case<'a> {
+    ghost use Rattle.wit_syntax.specs.Ast.{CaseTree};
+    ghost use Rattle.wit_syntax.specs.AstView as view;
+    ghost use Rattle.wit_syntax.specs.FileGrammar as spec;
+
+    ghost Tree = { CaseTree };
+
+    ghost production = { spec.case };
+
+    ghost tree = { view.case };
+
+    #[tactic(auto, unfolding(crate::specs::FileGrammar::case, crate::specs::FileGrammar::case_parts, crate::specs::Production::documented))]
+    fn parse(alloc: Global, tokens: &mut Cursor<'_, 'a>) -> Result<Case<'a>, ReadError> {
+        let docs = tokens.docs(alloc)?;
+        let name = tokens.id()?;
+        let ty = carried(alloc, tokens)?;
+        Ok(Case { docs, name, ty })
+    }
+}
+
+/// What stands behind `constructor`.
+#[tactic(auto, unfolding(crate::specs::FileGrammar::constructor_behind))]
+fn constructor_behind<'a>(
+    alloc: Global,
+    tokens: &mut Cursor<'_, 'a>,
+) -> Result<ResourceFunc<'a>, ReadError>
+    ensures { Reads view.resource_func result tokens.new (spec.constructor_behind.read tokens.old) }
+{
+    let params = params(alloc, tokens)?;
+    let result = arrow(alloc, tokens)?;
+    tokens.expect(Kind::Semicolon)?;
+    Ok(ResourceFunc::Constructor { params, result })
+}
+
+/// A method or a static function.
+#[tactic(auto, unfolding(crate::specs::FileGrammar::method, crate::specs::FileGrammar::method_behind, crate::specs::Production::branch))]
+fn method<'a>(alloc: Global, tokens: &mut Cursor<'_, 'a>) -> Result<ResourceFunc<'a>, ReadError>
+    ensures { Reads view.resource_func result tokens.new (spec.method.read tokens.old) }
+{
+    let name = tokens.id()?;
+    tokens.expect(Kind::Colon)?;
+    let is_static = tokens.eat(Kind::Static);
+    let func = named_func_behind(alloc, name, tokens)?;
+    if is_static {
+        Ok(ResourceFunc::Static(func))
+    } else {
+        Ok(ResourceFunc::Method(func))
+    }
+}
+
+impl<'a> Part<'a> for ResourceFunc<'a> {
+    ghost use Rattle.wit_syntax.specs.Ast.{ResourceFuncTree};
+    ghost use Rattle.wit_syntax.specs.AstView as view;
+    ghost use Rattle.wit_syntax.specs.FileGrammar as spec;
+
+    ghost Tree = { ResourceFuncTree };
+
+    ghost production = { spec.resource_func };
+
+    ghost tree = { view.resource_func };
+
+    #[tactic(auto, unfolding(crate::specs::FileGrammar::resource_func, crate::specs::Production::branch))]
+    fn parse(alloc: Global, tokens: &mut Cursor<'_, 'a>) -> Result<ResourceFunc<'a>, ReadError> {
+        if tokens.eat(Kind::Constructor) {
+            return constructor_behind(alloc, tokens);
+        }
+        method(alloc, tokens)
+    }
+}
+
+/// What stands behind `resource`.
+#[tactic(auto, unfolding(crate::specs::FileGrammar::resource_behind, crate::specs::Production::branch), using(crate::proofs::FileLaws::resource_func_takes))]
+fn resource_behind<'a>(alloc: Global, tokens: &mut Cursor<'_, 'a>) -> Result<TypeDef<'a>, ReadError>
+    ensures { Reads view.type_def result tokens.new (spec.resource_behind.read tokens.old) }
+{
+    let name = tokens.id()?;
+    if tokens.eat(Kind::Semicolon) {
+        let kind = TypeDefKind::Resource(Vec::new(alloc));
+        return Ok(TypeDef { name, kind });
+    }
+    tokens.expect(Kind::LeftBrace)?;
+    let functions = until::<Gated<'a, ResourceFunc<'a>>>(alloc, Kind::RightBrace, tokens)?;
+    let kind = TypeDefKind::Resource(functions);
+    Ok(TypeDef { name, kind })
+}
+
+/// A name, and parts in braces.
+#[tactic(auto, unfolding(crate::specs::FileGrammar::parts))]
+fn parts<'a, T: Part<'a>>(
+    alloc: Global,
+    tokens: &mut Cursor<'_, 'a>,
+) -> Result<(Id<'a>, Vec<T>), ReadError>
+    requires { Takes T.production }
+    ensures { Reads (λ x. (view.id x.0, map T.tree x.1.items)) result tokens.new ((spec.parts T.production).read tokens.old) }
+{
+    let name = tokens.id()?;
+    tokens.expect(Kind::LeftBrace)?;
+    let parts = commas::<T>(alloc, Kind::RightBrace, tokens)?;
+    Ok((name, parts))
+}
+
+#[tactic(auto, using(crate::proofs::FileLaws::field_takes))]
+fn record_behind<'a>(alloc: Global, tokens: &mut Cursor<'_, 'a>) -> Result<TypeDef<'a>, ReadError>
+    ensures { Reads view.type_def result tokens.new (spec.record_behind.read tokens.old) }
+{
+    let (name, fields) = parts::<Field<'a>>(alloc, tokens)?;
+    let kind = TypeDefKind::Record(fields);
+    Ok(TypeDef { name, kind })
+}
+
+#[tactic(auto, using(crate::proofs::FileLaws::label_takes))]
+fn flags_behind<'a>(alloc: Global, tokens: &mut Cursor<'_, 'a>) -> Result<TypeDef<'a>, ReadError>
+    ensures { Reads view.type_def result tokens.new (spec.flags_behind.read tokens.old) }
+{
+    let (name, flags) = parts::<Flag<'a>>(alloc, tokens)?;
+    let kind = TypeDefKind::Flags(flags);
+    Ok(TypeDef { name, kind })
+}
+
+#[tactic(auto, using(crate::proofs::FileLaws::label_takes))]
+fn enum_behind<'a>(alloc: Global, tokens: &mut Cursor<'_, 'a>) -> Result<TypeDef<'a>, ReadError>
+    ensures { Reads view.type_def result tokens.new (spec.enum_behind.read tokens.old) }
+{
+    let (name, cases) = parts::<EnumCase<'a>>(alloc, tokens)?;
+    let kind = TypeDefKind::Enum(cases);
+    Ok(TypeDef { name, kind })
+}
+
+#[tactic(auto, using(crate::proofs::FileLaws::case_takes))]
+fn variant_behind<'a>(alloc: Global, tokens: &mut Cursor<'_, 'a>) -> Result<TypeDef<'a>, ReadError>
+    ensures { Reads view.type_def result tokens.new (spec.variant_behind.read tokens.old) }
+{
+    let (name, cases) = parts::<Case<'a>>(alloc, tokens)?;
+    let kind = TypeDefKind::Variant(cases);
+    Ok(TypeDef { name, kind })
+}
+
+/// A definition behind its keyword, before which `left` tokens were left.
+fn type_def_behind<'a>(
+    alloc: Global,
+    keyword: Kind,
+    left: usize,
+    tokens: &mut Cursor<'_, 'a>,
+) -> Result<TypeDef<'a>, ReadError>
+    ensures { (whole : List Tok) → length whole ≡ left → Reads view.type_def result tokens.new (next_at whole (spec.type_def_at (plain keyword)) tokens.old) }
+{
+    match keyword {
+        Kind::TypeKeyword => alias_behind(alloc, tokens),
+        Kind::Record => record_behind(alloc, tokens),
+        Kind::Flags => flags_behind(alloc, tokens),
+        Kind::Enum => enum_behind(alloc, tokens),
+        Kind::Variant => variant_behind(alloc, tokens),
+        Kind::Resource => resource_behind(alloc, tokens),
+        _ => Err(fault(Rule::Unexpected, left)),
+    }
+}
+
+// ---- interfaces
+
+/// A definition of a type, or a function.
+#[tactic(auto, unfolding(crate::specs::FileGrammar::definition, crate::specs::FileGrammar::named_func, crate::specs::Terminal::id, crate::specs::Production::by_or), using(crate::proofs::FileLaws::keyword_definition))]
+fn definition<'a>(
+    alloc: Global,
+    tokens: &mut Cursor<'_, 'a>,
+) -> Result<InterfaceItem<'a>, ReadError>
+    ensures { Reads view.interface_item result tokens.new (spec.definition.read tokens.old) }
+{
+    let left = tokens.left();
+    let Some((token, span)) = tokens.next() else {
+        return Err(fault(Rule::Unexpected, left));
+    };
+    match token {
+        Token::Plain(keyword) => {
+            let def = type_def_behind(alloc, keyword, left, tokens)?;
+            Ok(InterfaceItem::TypeDef(def))
+        }
+        Token::Id(name) | Token::ExplicitId(name) => {
+            tokens.expect(Kind::Colon)?;
+            let func = named_func_behind(alloc, Id { name, span }, tokens)?;
+            Ok(InterfaceItem::Func(func))
+        }
+        _ => Err(fault(Rule::Unexpected, left)),
+    }
+}
+
+impl<'a> Part<'a> for InterfaceItem<'a> {
+    ghost use Rattle.wit_syntax.specs.Ast.{InterfaceItemTree};
+    ghost use Rattle.wit_syntax.specs.AstView as view;
+    ghost use Rattle.wit_syntax.specs.FileGrammar as spec;
+
+    ghost Tree = { InterfaceItemTree };
+
+    ghost production = { spec.interface_item };
+
+    ghost tree = { view.interface_item };
+
+    #[tactic(auto, unfolding(crate::specs::FileGrammar::interface_item, crate::specs::Production::branch))]
+    fn parse(alloc: Global, tokens: &mut Cursor<'_, 'a>) -> Result<InterfaceItem<'a>, ReadError> {
+        if tokens.eat(Kind::Use) {
+            return Ok(InterfaceItem::Use(use_behind(alloc, tokens)?));
+        }
+        definition(alloc, tokens)
+    }
+}
+
+/// The items of an interface, in braces.
+#[tactic(auto, unfolding(crate::specs::FileGrammar::interface_items), using(crate::proofs::FileLaws::interface_item_takes))]
+fn interface_items<'a>(
+    alloc: Global,
+    tokens: &mut Cursor<'_, 'a>,
+) -> Result<Vec<Gated<'a, InterfaceItem<'a>>>, ReadError>
+    ensures { Reads (λ v. map (view.gated view.interface_item) v.items) result tokens.new (spec.interface_items.read tokens.old) }
+{
+    tokens.expect(Kind::LeftBrace)?;
+    until::<Gated<'a, InterfaceItem<'a>>>(alloc, Kind::RightBrace, tokens)
+}
+
+/// What stands behind `interface`.
+#[tactic(auto, unfolding(crate::specs::FileGrammar::interface_behind))]
+pub fn interface_behind<'a>(
+    alloc: Global,
+    tokens: &mut Cursor<'_, 'a>,
+) -> Result<Interface<'a>, ReadError>
+    ensures { Reads view.interface result tokens.new (spec.interface_behind.read tokens.old) }
+{
+    let name = tokens.id()?;
+    let items = interface_items(alloc, tokens)?;
+    Ok(Interface { name, items })
+}
+
+// ---- worlds
+
+/// A function that is imported or exported, behind its name and `func`.
+#[tactic(auto, unfolding(crate::specs::FileGrammar::extern_func))]
+fn extern_func<'a>(
+    alloc: Global,
+    name: Id<'a>,
+    async_: bool,
+    tokens: &mut Cursor<'_, 'a>,
+) -> Result<ExternKind<'a>, ReadError>
+    ensures { Reads view.extern_kind result tokens.new ((spec.extern_func (view.id name.entry) async_).read tokens.old) }
+{
+    let func = func_behind(alloc, async_, tokens)?;
+    tokens.expect(Kind::Semicolon)?;
+    Ok(ExternKind::Func(NamedFunc { name, func }))
+}
+
+/// What is imported or exported, behind a name and a colon.
+#[tactic(auto, unfolding(crate::specs::FileGrammar::extern_behind, crate::specs::Production::branch))]
+fn extern_behind<'a>(
+    alloc: Global,
+    name: Id<'a>,
+    tokens: &mut Cursor<'_, 'a>,
+) -> Result<ExternKind<'a>, ReadError>
+    ensures { Reads view.extern_kind result tokens.new ((spec.extern_behind (view.id name.entry)).read tokens.old) }
+{
+    if tokens.eat(Kind::Interface) {
+        let items = interface_items(alloc, tokens)?;
+        return Ok(ExternKind::Interface(Interface { name, items }));
+    }
+    if tokens.eat(Kind::Async) {
+        tokens.expect(Kind::Func)?;
+        return extern_func(alloc, name, true, tokens);
+    }
+    if tokens.eat(Kind::Func) {
+        return extern_func(alloc, name, false, tokens);
+    }
+    let path = path_behind(name, tokens)?;
+    tokens.expect(Kind::Semicolon)?;
+    Ok(ExternKind::Path(path))
+}
+
+/// What stands behind `import` or `export`.
+#[tactic(auto, unfolding(crate::specs::FileGrammar::extern_item, crate::specs::Production::branch))]
+fn extern_item<'a>(alloc: Global, tokens: &mut Cursor<'_, 'a>) -> Result<ExternKind<'a>, ReadError>
+    ensures { Reads view.extern_kind result tokens.new (spec.extern_item.read tokens.old) }
+{
+    let name = tokens.id()?;
+    if tokens.eat(Kind::Colon) {
+        return extern_behind(alloc, name, tokens);
+    }
+    tokens.expect(Kind::Semicolon)?;
+    Ok(ExternKind::Path(UsePath::Id(name)))
+}
+
+/// An item of a world behind its keyword, before which `left` tokens were left.
+fn world_item_behind<'a>(
+    alloc: Global,
+    keyword: Kind,
+    left: usize,
+    tokens: &mut Cursor<'_, 'a>,
+) -> Result<WorldItem<'a>, ReadError>
+    ensures { (whole : List Tok) → length whole ≡ left → Reads view.world_item result tokens.new (next_at whole (spec.world_item_at (plain keyword)) tokens.old) }
+{
+    match keyword {
+        Kind::Import => Ok(WorldItem::Import(extern_item(alloc, tokens)?)),
+        Kind::Export => Ok(WorldItem::Export(extern_item(alloc, tokens)?)),
+        Kind::Use => Ok(WorldItem::Use(use_behind(alloc, tokens)?)),
+        Kind::Include => Ok(WorldItem::Include(include_behind(alloc, tokens)?)),
+        _ => Ok(WorldItem::TypeDef(type_def_behind(alloc, keyword, left, tokens)?)),
+    }
+}
+
+impl<'a> Part<'a> for WorldItem<'a> {
+    ghost use Rattle.wit_syntax.specs.Ast.{WorldItemTree};
+    ghost use Rattle.wit_syntax.specs.AstView as view;
+    ghost use Rattle.wit_syntax.specs.FileGrammar as spec;
+
+    ghost Tree = { WorldItemTree };
+
+    ghost production = { spec.world_item };
+
+    ghost tree = { view.world_item };
+
+    #[tactic(auto, unfolding(crate::specs::FileGrammar::world_item))]
+    fn parse(alloc: Global, tokens: &mut Cursor<'_, 'a>) -> Result<WorldItem<'a>, ReadError> {
+        let left = tokens.left();
+        let Some((Token::Plain(keyword), _)) = tokens.next() else {
+            return Err(fault(Rule::Unexpected, left));
+        };
+        world_item_behind(alloc, keyword, left, tokens)
+    }
+}
+
+/// What stands behind `world`.
+#[tactic(auto, unfolding(crate::specs::FileGrammar::world_behind), using(crate::proofs::FileLaws::world_item_takes))]
+pub fn world_behind<'a>(alloc: Global, tokens: &mut Cursor<'_, 'a>) -> Result<World<'a>, ReadError>
+    ensures { Reads view.world result tokens.new (spec.world_behind.read tokens.old) }
+{
+    let name = tokens.id()?;
+    tokens.expect(Kind::LeftBrace)?;
+    let items = until::<Gated<'a, WorldItem<'a>>>(alloc, Kind::RightBrace, tokens)?;
+    Ok(World { name, items })
+}
