@@ -2,7 +2,7 @@
 # checks/memory.sh
 #
 # Refuses each request for memory in turn, from the first on, until a run meets no refusal: in the tests of
-# `component_linker` that are made for it (src/tests_memory.rt), which are to pass each time, and in the program, which
+# `component_linker_tests` that are made for it (src/memory.rt), which are to pass each time, and in the program, which
 # is to give its whole answer, or `error: out of memory`, status 1 and no answer. It needs a C compiler, cc, for the
 # library that refuses, and the kit's command `rt` where the program or the tests aren't built yet.
 set -u
@@ -10,7 +10,7 @@ set -u
 top=$(CDPATH='' cd -- "$(dirname -- "$0")/.." && pwd) || exit 2
 crates=$top/crates
 program=$crates/component_linker_program/out/component_linker_program
-tests=$crates/component_linker/out/component_linker_tests
+tests=$crates/component_linker_tests/out/component_linker_tests_tests
 example=$top/examples/first
 folder=$(mktemp -d) || exit 2
 trap 'rm -rf "$folder"' EXIT
@@ -65,10 +65,10 @@ check_program() {
 
 cc -O1 -shared -fPIC -o "$folder/refuse.so" "$top/checks/refuse.c" -ldl || exit 2
 "$top/component_linker" >"$folder/log" || exit 2
-(cd "$crates/component_linker" && rt test -- where_memory_is_refused) >"$folder/log" 2>&1 || fail "$(tail -n 20 "$folder/log")"
+(cd "$crates/component_linker_tests" && rt test -- where_memory_is_refused) >"$folder/log" 2>&1 || fail "$(tail -n 20 "$folder/log")"
 
 for name in takes_inputs links builds audits; do
-    check_test "tests_memory::${name}_where_memory_is_refused"
+    check_test "memory::${name}_where_memory_is_refused"
 done
 
 printf 'import main $root f lower $root f - - - - -\n' >"$folder/links"

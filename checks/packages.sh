@@ -1,12 +1,12 @@
 #!/bin/sh
 # checks/packages.sh [--check]
 #
-# Writes the packages of examples/packages into crates/wit_syntax/src/tests_packages.rt, where the tests of that crate
+# Writes the packages of examples/packages into crates/wit_syntax_tests/src/packages.rt, where the tests of that crate
 # read them: a test has no files. With --check nothing is written, and the status says whether that file holds them.
 set -eu
 
 top=$(CDPATH='' cd -- "$(dirname -- "$0")/.." && pwd)
-module=$top/crates/wit_syntax/src/tests_packages.rt
+module=$top/crates/wit_syntax_tests/src/packages.rt
 
 constant() {
     printf '\n/// `%s`\npub const %s: &str = r#"' "examples/packages/$2" "$1"

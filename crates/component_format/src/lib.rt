@@ -24,6 +24,3 @@ pub use laws::{
     law_reading_what_was_built,
 };
 pub use names::Names;
-
-#[cfg(test)]
-mod tests;

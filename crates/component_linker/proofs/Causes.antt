@@ -1,19 +1,23 @@
 -- From the causes of a linking to those of its input.
 use Rattle.std.proofs.Common.{◌≡◌, ◌≢◌, ◌⊎◌, true, List, ℕ, Any, sym, subst, inl, inr, ap, ◌∙◌}
-use Rattle.component_linker.specs.declared.fault.Fault.{Fault}
-use Rattle.component_linker.specs.declared.fault.Fault.TheVariants as faults
+use Rattle.wit_component.specs.declared.fault.Fault.{Fault}
+use Rattle.wit_component.specs.declared.fault.Fault.TheVariants as faults
 use Rattle.component_format.specs.Definition.{DefinitionValue}
 use Rattle.component_format.specs.Grammar.{IsComponent}
 use Rattle.component_format.specs.Spelling.{component_fits}
 use Rattle.component_linker.specs.Input.{Input}
-use Rattle.component_linker.specs.Linking.{Linking, Links}
-use Rattle.component_linker.specs.Cause.{IsLinkCause, AsksBeyond, IsCause, IsLinkable, IsEncodeCause, IsBuildCause}
-use Rattle.component_linker.specs.Component.{component_of}
+use Rattle.wit_component.specs.Linking.{Linking}
+use Rattle.component_linker.specs.Linking.{Links}
+use Rattle.wit_component.specs.Cause.{IsLinkCause, IsLinkable, IsEncodeCause}
+use Rattle.component_linker.specs.Cause.{AsksBeyond, IsCause, IsBuildCause}
+use Rattle.wit_component.specs.Component.{component_of}
 use Rattle.component_linker.specs.Answered.{IsBuilt}
-use Rattle.component_linker.specs.Judged.{IsJudgeCause, IsAuditCause}
+use Rattle.component_audit.specs.Judged.{IsJudgeCause}
+use Rattle.component_linker.specs.Judged.{IsAuditCause}
 use Rattle.component_format.proofs.OneList.{one_list}
-use Rattle.component_linker.specs.Meaning.{Spaces, meaning}
-use Rattle.component_linker.proofs.Right.{written, written_right}
+use Rattle.wit_component.specs.Meaning.{Spaces, meaning}
+use Rattle.wit_component.proofs.Right.{written}
+use Rattle.component_linker.proofs.Right.{written_right}
 
 pub link_cause_is : (input : Input) (l : Linking) (fault : Fault) → Links input l → IsLinkCause l fault → IsCause input fault
 link_cause_is input l faults.NoModule links cause = absurd cause
@@ -41,16 +45,6 @@ built input l bytes links plain linkable fits is = record {
   right = written_right input l bytes links linkable.linked is;
   imports = λ ds h. ap (λ es. (meaning l.main es).imports) (one_list bytes ds (component_of l) h is) ∙ ap (λ (s : Spaces). s.imports) (written l linkable.linked);
 }
-
--- ---- bytes that aren't judged
-
--- memory ran out, or a core module isn't the one that was handed in
-abbrev pub IsNotJudged : Linking → Spaces → Fault → Type 0
-IsNotJudged l s fault = (fault ≡ faults.OutOfMemory) ⊎ ((fault ≡ faults.NotYet) × Any (λ m. m ≢ l.main.bytes) s.modules)
-
-pub judge_cause_is : (l : Linking) (bytes : List ℕ) (ds : List DefinitionValue) → IsLinkable l → IsComponent bytes ds → (fault : Fault) → IsNotJudged l (meaning l.main ds) fault → IsJudgeCause l bytes fault
-judge_cause_is l bytes ds linkable is fault (inl memory) = subst (IsJudgeCause l bytes) (sym memory) tt
-judge_cause_is l bytes ds linkable is fault (inr (later, other)) = subst (IsJudgeCause l bytes) (sym later) (inr (linkable, inr (ds, is, other)))
 
 pub audit_cause_is : (input : Input) (l : Linking) (bytes : List ℕ) (fault : Fault) → Links input l → (AsksBeyond input → ⊥) → IsJudgeCause l bytes fault → IsAuditCause input bytes fault
 audit_cause_is input l bytes faults.NotYet links plain (inl cause) = inl (link_cause_is input l faults.NotYet links cause)

@@ -4,18 +4,20 @@ use Rattle.wasm_format.specs.declared.fault.Rule.TheVariants as rules
 use Rattle.component_format.specs.Definition.{DefinitionValue}
 use Rattle.component_format.specs.Grammar.{IsComponent}
 use Rattle.component_format.proofs.OneList.{one_list, one_break}
-use Rattle.component_linker.specs.declared.fault.Fault.{Fault}
-use Rattle.component_linker.specs.declared.fault.Fault.TheVariants as faults
-use Rattle.component_linker.specs.declared.verdict.FindingKind.{FindingKind}
-use Rattle.component_linker.specs.declared.verdict.FindingKind.TheVariants as findings
-use Rattle.component_linker.specs.declared.verdict.Verdict.{Verdict}
-use Rattle.component_linker.specs.declared.verdict.Verdict.TheVariants.{Yes, Finding}
+use Rattle.wit_component.specs.declared.fault.Fault.{Fault}
+use Rattle.wit_component.specs.declared.fault.Fault.TheVariants as faults
+use Rattle.component_audit.specs.declared.verdict.FindingKind.{FindingKind}
+use Rattle.component_audit.specs.declared.verdict.FindingKind.TheVariants as findings
+use Rattle.component_audit.specs.declared.verdict.Verdict.{Verdict}
+use Rattle.component_audit.specs.declared.verdict.Verdict.TheVariants.{Yes, Finding}
 use Rattle.component_linker.specs.Input.{Input}
-use Rattle.component_linker.specs.Linking.{Linking}
-use Rattle.component_linker.specs.Meaning.{Spaces, meaning}
+use Rattle.wit_component.specs.Linking.{Linking}
+use Rattle.wit_component.specs.Meaning.{Spaces, meaning}
 use Rattle.component_linker.specs.Right.{IsRight}
 use Rattle.component_linker.specs.Answered.{IsReady}
-use Rattle.component_linker.specs.Judged.{MeetsAll, Denies, IsFinding, IsBeyond, IsJudged, IsAuditCause}
+use Rattle.wit_component.specs.Right.{MeetsAll}
+use Rattle.component_audit.specs.Judged.{Denies, IsFinding, IsBeyond}
+use Rattle.component_linker.specs.Judged.{IsJudged, IsAuditCause}
 use Rattle.component_linker.proofs.NoCause.{any_each, one_linking, no_cause}
 
 -- what right bytes stand for meets all conditions, however they are linked and read

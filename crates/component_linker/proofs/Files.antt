@@ -14,7 +14,7 @@ use Rattle.std.specs.Result.{is_err}
 use Rattle.std.proofs.lemmas.Str.{IsUtf8-from_is_utf8, is_utf8-from_IsUtf8}
 use Rattle.component_linker.specs.declared.line.Input.{Input}
 use Rattle.component_linker.specs.declared.line.Input.TheVariants as inputs
-use Rattle.component_linker.specs.declared.fault.Fault.{Fault}
+use Rattle.wit_component.specs.declared.fault.Fault.{Fault}
 use Rattle.component_linker.specs.declared.line.Line.{Line}
 use Rattle.component_linker.specs.declared.output.EmitFault.{EmitFault}
 use Rattle.component_linker.specs.declared.program.Stop.{Stop}
@@ -22,7 +22,7 @@ use Rattle.component_linker.specs.declared.program.Stop.TheVariants as stops
 use Rattle.component_linker.specs.Program.{file_at, missing_path, textless_path, input_fault, file_fault}
 use Rattle.component_linker.specs.Stops.{AppendsFront, HasCause, IsInputStop, IsFileStop, IsHandCause, IsHandStop, IsPrepareStop, IsComponentStop}
 use Rattle.component_linker.specs.Line.{is_component}
-use Rattle.component_linker.proofs.PlacesLists.{filter_no}
+use Rattle.wit_component.proofs.PlacesLists.{filter_no}
 
 -- ---- the file at a path
 

@@ -5,14 +5,14 @@ use Rattle.std.specs.List.{AllByRecursion as Each, AllZip, position_from}
 use Rattle.std.proofs.lemmas.List.{append-nil, map-append, take_more}
 use Rattle.std.proofs.lemmas.Grind.{flat_map-append}
 use Rattle.wit_syntax.specs.Ast.{PackageNameTree, UsePathTree, id, in_package}
-use Rattle.component_linker.specs.declared.fault.Fault.{Fault}
-use Rattle.component_linker.specs.declared.fault.Fault.TheVariants as causes
+use Rattle.wit_component.specs.declared.fault.Fault.{Fault}
+use Rattle.wit_component.specs.declared.fault.Fault.TheVariants as causes
 use Rattle.component_linker.specs.declared.line.Input.{Input as LineInput}
 use Rattle.component_linker.specs.declared.line.Input.TheVariants as inputs
 use Rattle.component_linker.specs.declared.line.Line.{Line}
 use Rattle.component_linker.specs.declared.program.Stop.{Stop}
 use Rattle.component_linker.specs.declared.program.Stop.TheVariants as stops
-use Rattle.component_linker.specs.World.{WorldMeaning, PackageMeaning, if_unversioned}
+use Rattle.wit_resolve.specs.World.{WorldMeaning, PackageMeaning, if_unversioned}
 use Rattle.component_linker.specs.Input.{Input, SourceText, ModuleInput, first_options}
 use Rattle.component_linker.specs.Choice.{main_world, if_named, package_named, world_of_path, NamesWorld, is_package}
 use Rattle.component_linker.specs.Program.{IsFile, text_path, text_paths, AreSources, ArePackages, AddsSource, IsPackage, places, text_or, IsNamed, IsMain, MainWords, last_main, Handed}

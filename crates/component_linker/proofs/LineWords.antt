@@ -17,7 +17,7 @@ use Rattle.component_linker.specs.declared.line.Input.TheVariants as inputs
 use Rattle.component_linker.specs.declared.line.Line.{Line}
 use Rattle.component_linker.specs.declared.line.LineFault.{LineFault}
 use Rattle.component_linker.specs.declared.line.LineFault.TheVariants as faults
-use Rattle.component_linker.proofs.PlacesLists.{filter_yes, filter_no}
+use Rattle.wit_component.proofs.PlacesLists.{filter_yes, filter_no}
 use Rattle.component_linker.specs.Line.{HasNoEquals, IsInput, AreInputs, HasFields, Fits, IsUsageCause, action_named, components_of, input_word, is_text, is_component}
 
 -- a kind that is among none, and isn't want of memory

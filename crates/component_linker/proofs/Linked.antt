@@ -9,10 +9,10 @@ use Rattle.wasm_format.specs.declared.fault.ModuleFault.{ModuleFault}
 use Rattle.wasm_format.specs.declared.fault.ModuleFault.TheVariants as modules
 use Rattle.wasm_format.specs.Module.{ModuleValue}
 use Rattle.wasm_format.specs.Grammar.{IsModule}
-use Rattle.component_linker.specs.declared.fault.Fault.{Fault}
+use Rattle.wit_component.specs.declared.fault.Fault.{Fault}
 use Rattle.component_linker.specs.ModuleCause.{refusal_of}
-use Rattle.component_linker.specs.declared.world.Package.{Package}
-use Rattle.component_linker.specs.World.{WorldMeaning, PackageMeaning, world_meaning, package_meaning, world_fits}
+use Rattle.wit_resolve.specs.declared.world.Package.{Package}
+use Rattle.wit_resolve.specs.World.{WorldMeaning, PackageMeaning, world_meaning, package_meaning, world_fits}
 use Rattle.component_linker.specs.Input.{Input, ModuleInput}
 use Rattle.component_linker.specs.Cause.{IsCause}
 

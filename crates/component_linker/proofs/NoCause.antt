@@ -10,18 +10,20 @@ use Rattle.wasm_format.specs.declared.fault.ModuleFault.TheVariants as modules
 use Rattle.wasm_format.specs.Module.{ModuleValue}
 use Rattle.wasm_format.specs.Grammar.{IsModule, IsModuleFault}
 use Rattle.wasm_format.proofs.Sections.{one_break, one_module}
-use Rattle.component_linker.specs.declared.fault.Fault.{Fault}
-use Rattle.component_linker.specs.declared.fault.Fault.TheVariants as faults
-use Rattle.component_linker.specs.World.{FunctionItem}
-use Rattle.component_linker.specs.Flat.{flat}
-use Rattle.component_linker.specs.CoreNames.{root, standard, is_import_name, is_memory_name}
+use Rattle.wit_component.specs.declared.fault.Fault.{Fault}
+use Rattle.wit_component.specs.declared.fault.Fault.TheVariants as faults
+use Rattle.wit_resolve.specs.World.{FunctionItem}
+use Rattle.wit_component.specs.Flat.{flat}
+use Rattle.wit_component.specs.CoreNames.{root, standard, is_import_name, is_memory_name}
 use Rattle.component_linker.specs.Input.{Input, ModuleInput, world_at}
 use Rattle.component_linker.specs.ModuleCause.{refusal_of}
-use Rattle.component_linker.specs.Linking.{CoreImport, CoreExport, Linking, Links, main_of}
-use Rattle.component_linker.specs.Table.{imported_by, exported_by, ImportLink, ExportLink, IsLinked}
+use Rattle.wit_component.specs.Linking.{CoreImport, CoreExport, Linking, main_of}
+use Rattle.component_linker.specs.Linking.{Links}
+use Rattle.wit_component.specs.Table.{imported_by, exported_by, ImportLink, ExportLink, IsLinked}
 use Rattle.component_format.specs.Spelling.{component_fits}
-use Rattle.component_linker.specs.Component.{component_of}
-use Rattle.component_linker.specs.Cause.{IsImportCause, IsExportCause, IsLinkCause, IsCause, IsLinkable, IsBuildCause}
+use Rattle.wit_component.specs.Component.{component_of}
+use Rattle.wit_component.specs.Cause.{IsImportCause, IsExportCause, IsLinkCause, IsLinkable}
+use Rattle.component_linker.specs.Cause.{IsCause, IsBuildCause}
 use Rattle.component_linker.specs.Answered.{IsReady, IsBuilt}
 
 -- ---- an input is linked in one way

@@ -4,13 +4,16 @@ use Rattle.component_format.specs.Definition.{DefinitionValue}
 use Rattle.component_format.specs.Grammar.{IsComponent}
 use Rattle.component_format.specs.Spelling.{component_fits}
 use Rattle.component_linker.specs.Input.{Input}
-use Rattle.component_linker.specs.Linking.{Linking, Links}
-use Rattle.component_linker.specs.Cause.{AsksBeyond, IsLinkable}
-use Rattle.component_linker.specs.Links.{LinkValue, AreLinks}
-use Rattle.component_linker.specs.Table.{needed}
-use Rattle.component_linker.specs.Component.{component_of}
-use Rattle.component_linker.specs.Meaning.{meaning}
-use Rattle.component_linker.specs.Right.{IsRight, listed}
+use Rattle.wit_component.specs.Linking.{Linking}
+use Rattle.component_linker.specs.Linking.{Links}
+use Rattle.component_linker.specs.Cause.{AsksBeyond}
+use Rattle.wit_component.specs.Cause.{IsLinkable}
+use Rattle.wit_component.specs.Links.{LinkValue, AreLinks}
+use Rattle.wit_component.specs.Table.{needed}
+use Rattle.wit_component.specs.Component.{component_of}
+use Rattle.wit_component.specs.Meaning.{meaning}
+use Rattle.component_linker.specs.Right.{IsRight}
+use Rattle.wit_component.specs.Right.{listed}
 
 -- an input in whose way nothing stands
 pub record IsReady (input : Input) (l : Linking) : Type 0 where

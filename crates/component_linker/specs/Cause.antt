@@ -1,58 +1,12 @@
 -- Why links aren't answered, and a component isn't built: each a fact of the input.
-use Rattle.std.specs.Prelude.{◌≡◌, ◌<◌, ◌⊎◌, List, [], ◌∷◌, length, Some, None, Bool, true, false, ◌&&◌, ◌||◌, Any, bytes_eq}
-use Rattle.std.specs.List.{list_any}
-use Rattle.component_linker.specs.declared.fault.Fault.{Fault}
-use Rattle.component_linker.specs.declared.fault.Fault.TheVariants as faults
-use Rattle.component_linker.specs.World.{FunctionItem}
-use Rattle.component_linker.specs.Flat.{flat}
-use Rattle.component_linker.specs.CoreNames.{is_legacy_import, is_memory_name, is_initialize_name, is_post_return_name, is_hook_name, is_outer_memory}
+use Rattle.std.specs.Prelude.{◌≡◌, ◌⊎◌, Some, None, true}
+use Rattle.wit_component.specs.declared.fault.Fault.{Fault}
+use Rattle.wit_component.specs.declared.fault.Fault.TheVariants as faults
+use Rattle.wit_component.specs.Linking.{Linking}
+use Rattle.wit_component.specs.Cause.{IsStillToCome, IsLinkCause, IsLinkable, IsTooLarge}
 use Rattle.component_linker.specs.Input.{Input, ModuleInput}
+use Rattle.component_linker.specs.Linking.{Links}
 use Rattle.component_linker.specs.ModuleCause.{IsModuleCause}
-use Rattle.component_linker.specs.Linking.{CoreImport, CoreExport, Linking, Links}
-use Rattle.component_format.specs.Spelling.{component_fits}
-use Rattle.component_linker.specs.Table.{imported_by, exported_by, IsLinked}
-use Rattle.component_linker.specs.Component.{component_of}
-
--- two imports of one pair of texts
-abbrev pub same_pair : CoreImport → CoreImport → Bool
-same_pair i j = bytes_eq i.place j.place && bytes_eq i.name j.name
-
-abbrev pub RepeatsPair : List CoreImport → Type 0
-RepeatsPair [] = ⊥
-RepeatsPair (i ∷ more) = (list_any (same_pair i) more ≡ true) ⊎ RepeatsPair more
-
--- the module asks for, or offers, what is still to come
-abbrev pub IsStillToCome : Linking → Type 0
-IsStillToCome l =
-    Any (λ i. is_outer_memory i.place i.name ≡ true) l.main.imports
-    ⊎ Any (λ e. (is_hook_name e.name || is_initialize_name l.rejects_legacy e.name || list_any (λ f. is_post_return_name l.rejects_legacy f.name e.name) l.world.exports) ≡ true) l.main.exports
-
--- why a core import has no link
-abbrev pub IsImportCause : Linking → Fault → CoreImport → Type 0
-IsImportCause l faults.UnknownImport i = imported_by l i ≡ []
-IsImportCause l faults.Ambiguous i = 1 < length (imported_by l i)
-IsImportCause l faults.LegacyName i = (l.rejects_legacy ≡ true) × Any (λ f. is_legacy_import i.place i.name f.name ≡ true) l.world.imports
-IsImportCause l faults.WrongCoreType i = (f : FunctionItem) × (imported_by l i ≡ f ∷ []) × ¬ (i.ty ≡ Some (flat f.ty))
-IsImportCause l _ i = ⊥
-
--- why an exported function has no link; a text that is also the memory's has two meanings
-abbrev pub IsExportCause : Linking → Fault → FunctionItem → Type 0
-IsExportCause l faults.MissingCoreExport f = exported_by l f ≡ []
-IsExportCause l faults.Ambiguous f = (1 < length (exported_by l f)) ⊎ Any (λ e. is_memory_name l.rejects_legacy e.name ≡ true) (exported_by l f)
-IsExportCause l faults.WrongCoreType f = (e : CoreExport) × (exported_by l f ≡ e ∷ []) × ¬ (e.ty ≡ Some (flat f.ty))
-IsExportCause l _ f = ⊥
-
--- why there is no link table
-abbrev pub IsLinkCause : Linking → Fault → Type 0
-IsLinkCause l faults.NoModule = ⊥
-IsLinkCause l faults.NoWorld = ⊥
-IsLinkCause l faults.WorldNotFound = ⊥
-IsLinkCause l (faults.BadModule m) = ⊥
-IsLinkCause l faults.TooLarge = ⊥
-IsLinkCause l faults.OutOfMemory = Unit {0}
-IsLinkCause l faults.NotYet = IsStillToCome l
-IsLinkCause l faults.DuplicateImport = RepeatsPair l.main.imports
-IsLinkCause l fault = Any (IsImportCause l fault) l.main.imports ⊎ Any (IsExportCause l fault) l.world.exports
 
 -- the options ask for what is still to come
 abbrev pub AsksBeyond : Input → Type 0
@@ -67,22 +21,7 @@ IsCause input faults.NotYet = AsksBeyond input ⊎ ((l : Linking) × Links input
 IsCause input faults.OutOfMemory = Unit {0}
 IsCause input fault = (l : Linking) × Links input l × IsLinkCause l fault
 
--- ---- why a component isn't built: what links are refused for, or its size where nothing else is in the way
-
--- every link is there, and nothing is asked for that is still to come
-pub record IsLinkable (l : Linking) : Type 0 where
-  pub plain : IsStillToCome l → ⊥
-  pub distinct : RepeatsPair l.main.imports → ⊥
-  pub linked : IsLinked l
-
--- an index, a count or a size of the component that is to be written has more than 32 bits
-abbrev pub IsTooLarge : Linking → Type 0
-IsTooLarge l = component_fits (component_of l) ≡ false
-
--- why a linking isn't encoded
-abbrev pub IsEncodeCause : Linking → Fault → Type 0
-IsEncodeCause l fault = IsLinkCause l fault ⊎ ((fault ≡ faults.TooLarge) × IsLinkable l × IsTooLarge l)
-
+-- and a component isn't built
 abbrev pub IsBuildCause : Input → Fault → Type 0
 IsBuildCause input faults.TooLarge = (l : Linking) × Links input l × (AsksBeyond input → ⊥) × IsLinkable l × IsTooLarge l
 IsBuildCause input fault = IsCause input fault

@@ -3,7 +3,7 @@ use Rattle.std.specs.Prelude.{◌≡◌, ℕ, List, [], ◌∷◌, length, Optio
 use Rattle.std.specs.List.{position_from}
 use Rattle.wit_syntax.specs.Ast.{PackageNameTree, UsePathTree, id, in_package}
 use Rattle.wit_syntax.specs.WholeText.{IsUsePath}
-use Rattle.component_linker.specs.World.{PackageMeaning, if_unversioned}
+use Rattle.wit_resolve.specs.World.{PackageMeaning, if_unversioned}
 use Rattle.component_linker.specs.Input.{Input, world_at}
 
 -- the world of the one main package

@@ -1,7 +1,7 @@
 -- The input of a session: all that was handed in.
 use Rattle.std.specs.Prelude.{ℕ, Bool, true, false, List, [], Option, None, option_map, slice_get}
-use Rattle.component_linker.specs.declared.options.StringEncoding.{StringEncoding}
-use Rattle.component_linker.specs.World.{PackageMeaning, WorldMeaning}
+use Rattle.wit_component.specs.declared.string_encoding.StringEncoding.{StringEncoding}
+use Rattle.wit_resolve.specs.World.{PackageMeaning, WorldMeaning}
 
 -- a text, by its path and its contents
 pub record SourceText : Type 0 where

@@ -3,8 +3,8 @@ use Rattle.std.specs.Prelude.{◌≡◌, ℕ, List}
 use Rattle.wasm_format.specs.declared.fault.ModuleFault.{ModuleFault}
 use Rattle.wasm_format.specs.declared.fault.ModuleFault.TheVariants as modules
 use Rattle.wasm_format.specs.Grammar.{IsModuleFault}
-use Rattle.component_linker.specs.declared.fault.Fault.{Fault}
-use Rattle.component_linker.specs.declared.fault.Fault.TheVariants as faults
+use Rattle.wit_component.specs.declared.fault.Fault.{Fault}
+use Rattle.wit_component.specs.declared.fault.Fault.TheVariants as faults
 
 -- what a module reader's refusal becomes
 abbrev pub refusal_of : ModuleFault → Fault

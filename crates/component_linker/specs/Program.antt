@@ -12,18 +12,19 @@ use Rattle.component_linker.specs.declared.line.LineFault.{LineFault}
 use Rattle.component_linker.specs.declared.line.LineFault.TheVariants as faults
 use Rattle.component_linker.specs.declared.line.Input.{Input as LineInput}
 use Rattle.component_linker.specs.declared.line.Input.TheVariants as inputs
-use Rattle.component_linker.specs.declared.link.Link.{Link}
-use Rattle.component_linker.specs.declared.options.StringEncoding.TheVariants.{UTF8}
+use Rattle.wit_component.specs.declared.link.Link.{Link}
+use Rattle.wit_component.specs.declared.string_encoding.StringEncoding.TheVariants.{UTF8}
 use Rattle.component_linker.specs.Input.{Input, SourceText, ModuleInput, first_options}
-use Rattle.component_linker.specs.World.{PackageMeaning}
-use Rattle.component_linker.specs.Pushed.{IsInShape}
+use Rattle.wit_resolve.specs.World.{PackageMeaning}
+use Rattle.wit_resolve.specs.Shape.{IsInShape}
 use Rattle.component_linker.specs.Choice.{NamesWorld}
-use Rattle.component_linker.specs.declared.verdict.Verdict.{Verdict}
-use Rattle.component_linker.specs.declared.verdict.Verdict.TheVariants.{Yes, Finding}
+use Rattle.component_audit.specs.declared.verdict.Verdict.{Verdict}
+use Rattle.component_audit.specs.declared.verdict.Verdict.TheVariants.{Yes, Finding}
 use Rattle.component_linker.specs.Answered.{IsBuilt, IsLinkTable}
 use Rattle.component_linker.specs.Judged.{IsJudged}
-use Rattle.component_linker.specs.Links.{link_value}
-use Rattle.component_linker.specs.Texts.{lines_text, verdict_text}
+use Rattle.wit_component.specs.Links.{link_value}
+use Rattle.wit_component.specs.Texts.{lines_text}
+use Rattle.component_audit.specs.Texts.{verdict_text}
 
 -- the exit status for words that are no line
 abbrev pub line_status : LineFault → ℕ

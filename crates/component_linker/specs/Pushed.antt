@@ -1,22 +1,10 @@
 -- What a call of a session leaves.
-use Rattle.std.specs.Prelude.{◌≡◌, ℕ, List, [], ◌∷◌, ◌++◌, length, Some, true}
-use Rattle.wit_syntax.specs.Ast.{FileTree}
-use Rattle.wit_syntax.specs.WholeText.{IsText}
-use Rattle.component_linker.specs.World.{PackageMeaning, package_of, world_fits}
+use Rattle.std.specs.Prelude.{◌≡◌, ℕ, List, [], ◌∷◌, ◌++◌, length}
+use Rattle.wit_resolve.specs.World.{PackageMeaning}
+use Rattle.wit_resolve.specs.Shape.{IsInShape}
 use Rattle.component_linker.specs.Input.{Input}
 
--- the file is of the shape, and this is its package
-pub record IsShaped (tree : FileTree) (p : PackageMeaning) : Type 0 where
-  pub is : package_of tree ≡ Some p
-  pub fits : world_fits p.world ≡ true
-
--- the text is of the grammar, and its file of the shape
-pub record IsInShape (contents : List ℕ) (p : PackageMeaning) : Type 0 where
-  pub tree : FileTree
-  pub reads : IsText 0 contents tree
-  pub shaped : IsShaped tree p
-
--- and no package is there yet
+-- the text is of the shape, and no package is there yet
 pub record CanPush (old : Input) (contents : List ℕ) (p : PackageMeaning) : Type 0 where
   pub shape : IsInShape contents p
   pub first : old.packages ≡ []

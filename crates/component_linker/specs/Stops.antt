@@ -4,8 +4,8 @@ use Rattle.std.specs.List.{HoldsAt}
 use Rattle.std.specs.Borrow.{Bor}
 use Rattle.std.specs.Io.KnownBytes.{Appends}
 use Rattle.std.specs.declared.alloc.Global.{Global}
-use Rattle.component_linker.specs.declared.fault.Fault.{Fault}
-use Rattle.component_linker.specs.declared.fault.Fault.TheVariants as causes
+use Rattle.wit_component.specs.declared.fault.Fault.{Fault}
+use Rattle.wit_component.specs.declared.fault.Fault.TheVariants as causes
 use Rattle.component_linker.specs.declared.line.Action.{Action}
 use Rattle.component_linker.specs.declared.line.Action.TheVariants.{Build, Links, Audit}
 use Rattle.component_linker.specs.declared.line.Input.{Input as LineInput}
@@ -16,7 +16,7 @@ use Rattle.component_linker.specs.declared.line.LineFault.TheVariants as faults
 use Rattle.component_linker.specs.declared.program.Stop.{Stop}
 use Rattle.component_linker.specs.declared.program.Stop.TheVariants as stops
 use Rattle.component_linker.specs.Input.{Input}
-use Rattle.component_linker.specs.Code.{code, name, place}
+use Rattle.wit_component.specs.Code.{code, name, place}
 use Rattle.component_linker.specs.Cause.{IsCause, IsBuildCause}
 use Rattle.component_linker.specs.Judged.{IsAuditCause}
 use Rattle.component_linker.specs.ModuleCause.{IsModuleCause}

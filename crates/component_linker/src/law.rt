@@ -3,18 +3,18 @@
 ghost use Rattle.std.specs.Prelude.{◌≡◌, ℕ, List, MatchResult};
 ghost use Rattle.component_format.specs.Grammar.{IsComponent};
 ghost use Rattle.component_linker.specs.Input.{Input};
-ghost use Rattle.component_linker.specs.Linking.{Linking, Links};
-ghost use Rattle.component_linker.specs.Table.{IsLinked};
-ghost use Rattle.component_linker.specs.Component.{component_of};
+ghost use Rattle.wit_component.specs.Linking.{Linking};
+ghost use Rattle.component_linker.specs.Linking.{Links};
+ghost use Rattle.wit_component.specs.Table.{IsLinked};
+ghost use Rattle.wit_component.specs.Component.{component_of};
 ghost use Rattle.component_linker.specs.Right.{IsRight};
 ghost use Rattle.component_linker.specs.Cause.{IsCause, IsBuildCause};
 ghost use Rattle.component_linker.specs.Answered.{IsReady, IsBuilt};
 ghost use Rattle.component_linker.specs.Judged.{IsJudged, IsAuditCause};
 
-use crate::auditor::audit;
-use crate::fault::Fault;
-use crate::session::Session;
-use crate::verdict::Verdict;
+use crate::session::{Session, audit};
+use component_audit::Verdict;
+use wit_component::Fault;
 
 /// What is written for a linking is right for its input, whatever bytes the grammar relates to it.
 pub fn law_written_is_right()

@@ -6,24 +6,16 @@ use std::alloc::Global;
 use std::collections::HashMap;
 use std::marker::Model;
 
-/// How a module lays out its strings (Component Model, Canonical ABI, String Encoding).
-#[derive(Clone, Copy, Debug, PartialEq, Eq)]
-pub enum StringEncoding {
-    UTF8,
-    UTF16,
-    CompactUTF16,
-}
-
 /// The options of a session.
 #[derive(Drop)]
 pub struct Options {
-    pub(crate) merge_imports_based_on_semver: bool,
-    pub(crate) emit_canonical_names: bool,
-    pub(crate) reject_legacy_names: bool,
-    pub(crate) shim_return_call_ref: bool,
-    pub(crate) debug_names: bool,
-    pub(crate) validate: bool,
-    pub(crate) import_name_map: HashMap<String, String>,
+    pub merge_imports_based_on_semver: bool,
+    pub emit_canonical_names: bool,
+    pub reject_legacy_names: bool,
+    pub shim_return_call_ref: bool,
+    pub debug_names: bool,
+    pub validate: bool,
+    pub import_name_map: HashMap<String, String>,
 }
 
 impl Model for Options {

@@ -8,18 +8,15 @@ ghost use Rattle.component_linker.specs.Stops.{AppendsFront, AppendsPart, Writes
 ghost use Rattle.component_linker.specs.Cause.{IsCause, IsBuildCause};
 ghost use Rattle.component_linker.specs.Judged.{IsAuditCause};
 
-use crate::auditor::audit;
-use crate::fault::Fault;
-use crate::id::PackageId;
 use crate::line::{Action, Input, Line, LineFault};
-use crate::link::lines_of;
-use crate::options::StringEncoding;
 use crate::output::{EmitFault, emit};
-use crate::session::Session;
-use crate::verdict::Verdict;
+use crate::session::{Session, audit};
+use component_audit::Verdict;
 use std::alloc::{AllocError, AllocFailed, Global};
 use std::io::Write;
 use std::str;
+use wit_component::{Fault, StringEncoding, lines_of};
+use wit_resolve::PackageId;
 
 /// Why the program ends without its answer.
 #[derive(Drop)]
@@ -44,7 +41,7 @@ impl<'a> From<Fault> for Stop<'a> {
 
 impl<'a> From<AllocError> for Stop<'a> {
     ghost use Rattle.component_linker.specs.declared.program.Stop.TheVariants.{Refused};
-    ghost use Rattle.component_linker.specs.declared.fault.Fault.TheVariants.{OutOfMemory};
+    ghost use Rattle.wit_component.specs.declared.fault.Fault.TheVariants.{OutOfMemory};
 
     ghost from_gives = { λ _ e. e ≡ Refused OutOfMemory };
 
@@ -55,7 +52,7 @@ impl<'a> From<AllocError> for Stop<'a> {
 
 impl<'a, T: Drop> From<AllocFailed<T>> for Stop<'a> {
     ghost use Rattle.component_linker.specs.declared.program.Stop.TheVariants.{Refused};
-    ghost use Rattle.component_linker.specs.declared.fault.Fault.TheVariants.{OutOfMemory};
+    ghost use Rattle.wit_component.specs.declared.fault.Fault.TheVariants.{OutOfMemory};
 
     ghost from_gives = { λ _ e. e ≡ Refused OutOfMemory };
 

@@ -1,13 +1,10 @@
 //! The program's own example.
 
-use crate::auditor::audit;
-use crate::fault::Fault;
-use crate::link::lines_of;
-use crate::options::StringEncoding;
 use crate::output::emit;
-use crate::session::Session;
+use crate::session::{Session, audit};
 use std::alloc::Global;
 use std::io::Write;
+use wit_component::{Fault, StringEncoding, lines_of};
 
 /// A world that imports one function.
 const TEXT: &str = "package a:b; world w { import f: func(); }";

@@ -8,9 +8,9 @@ ghost use Rattle.component_linker.specs.Input.{world_at};
 ghost use Rattle.component_linker.specs.Linking.{Links};
 ghost use Rattle.component_linker.specs.Answered.{IsLinkTable, IsBuilt};
 ghost use Rattle.component_linker.specs.Judged.{IsJudged, IsAuditCause};
-ghost use Rattle.component_linker.specs.Links.{link_value};
-ghost use Rattle.component_linker.specs.View as view;
-ghost use Rattle.component_linker.specs.World as spec;
+ghost use Rattle.wit_component.specs.Links.{link_value};
+ghost use Rattle.wit_component.specs.View as view;
+ghost use Rattle.wit_resolve.specs.World as spec;
 ghost use Rattle.component_linker.specs.Choice.{NamesWorld};
 ghost use Rattle.wit_syntax.specs.AstView as tree;
 ghost use Rattle.component_linker.specs.Names.{pairs_of};
@@ -18,21 +18,15 @@ ghost use Rattle.component_linker.specs.ModuleCause.{refusal_of, IsModuleCause};
 ghost use Rattle.wasm_format.specs.Module.{ModuleValue};
 ghost use Rattle.wasm_format.specs.Grammar.{IsModule};
 
-use crate::auditor::judge;
-use crate::encoder::encode;
-use crate::fault::Fault;
-use crate::id::{PackageId, WorldId};
-use crate::link::Link;
-use crate::linking::Linking;
-use crate::links::links_of;
-use crate::options::{Options, StringEncoding};
-use crate::verdict::Verdict;
-use crate::world::{Package, World, read_package};
+use crate::options::Options;
+use component_audit::{Verdict, judge};
 use component_format::{FormatFault, read_component};
 use std::alloc::Global;
 use std::collections::HashMap;
 use std::marker::Model;
 use wasm_format::{ModuleFault, read_module};
+use wit_component::{Fault, Link, Linking, StringEncoding, encode, links_of};
+use wit_resolve::{Package, PackageId, ResolveFault, World, WorldId, read_package};
 use wit_syntax::{PackageName, SyntaxFault, UsePath, parse_use_path};
 
 /// A text that was pushed.
@@ -67,7 +61,7 @@ impl<'a> Model for Session<'a> {
     ghost use Rattle.component_linker.specs.Input.{Input};
     ghost use Rattle.component_linker.specs.Handed.{source_text, module_input};
     ghost use Rattle.component_linker.specs.Kept.{WellKept};
-    ghost use Rattle.component_linker.specs.World.{package_meaning};
+    ghost use Rattle.wit_resolve.specs.World.{package_meaning};
 
     ghost Value = { Input };
 
@@ -86,7 +80,7 @@ impl<'a> Session<'a> {
     ghost use Rattle.std.specs.Prelude.{map};
     ghost use Rattle.std.specs.Option.{option_copied};
     ghost use Rattle.component_linker.specs.Handed.{source_text, module_input};
-    ghost use Rattle.component_linker.specs.World.{PackageMeaning, package_meaning};
+    ghost use Rattle.wit_resolve.specs.World.{PackageMeaning, package_meaning};
     ghost use Rattle.component_linker.specs.Input.{empty_input};
     ghost use Rattle.component_linker.specs.Pushed.{CanPush, Pushed};
 
@@ -144,7 +138,10 @@ impl<'a> Session<'a> {
         if !self.packages.is_empty() {
             return Err(Fault::NotYet);
         }
-        let package = read_package(self.alloc, contents)?;
+        let package = match read_package(self.alloc, contents) {
+            Ok(package) => package,
+            Err(fault) => return Err(text_refusal(fault)),
+        };
         let source = Source {
             path: String::from_str(self.alloc, path)?,
             contents: String::from_str(self.alloc, contents)?,
@@ -494,6 +491,17 @@ impl<'a> Session<'a> {
     }
 }
 
+/// What a text's refusal becomes.
+fn text_refusal(fault: ResolveFault) -> Fault
+    ensures memory { fault ≡ ResolveFault.OutOfMemory → result ≡ Fault.OutOfMemory }
+    ensures cause { (result ≡ Fault.OutOfMemory) ⊎ (result ≡ Fault.NotYet) }
+{
+    match fault {
+        ResolveFault::NotYet => Fault::NotYet,
+        ResolveFault::OutOfMemory => Fault::OutOfMemory,
+    }
+}
+
 /// What a module reader's refusal becomes.
 fn module_refusal(fault: ModuleFault) -> Fault
     ensures { result ≡ refusal_of fault }
@@ -503,4 +511,19 @@ fn module_refusal(fault: ModuleFault) -> Fault
         ModuleFault::OutOfMemory => Fault::OutOfMemory,
         other => Fault::BadModule(other),
     }
+}
+
+/// Judges any bytes against a session's input, whatever order, numbering or spare definitions they use.
+///
+/// Answers yes exactly where they are right for the input, and else a finding: a condition that fails of them, and
+/// where, counted in bytes from the start, or their length where something is absent.
+///
+/// Answers X1 where the bytes have a section or form that is still to come, or a core module that wasn't handed
+/// in, and refuses as `Session::links` does.
+pub fn audit(session: &Session, bytes: &[u8]) -> Result<Verdict, Fault>
+    ensures verdict { IfOk result (IsJudged session.now bytes.now) }
+    ensures cause { IfErr result (IsAuditCause session.now bytes.now) }
+    ensures first { session.now.main ≡ None → result ≡ Err Fault.NoModule }
+{
+    session.audit(bytes)
 }

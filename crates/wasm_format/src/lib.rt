@@ -13,6 +13,3 @@ pub use fault::{Fault, ModuleFault, ReadError, Rule};
 pub use law::{law_a_break_is_one, law_a_break_stays, law_one_module};
 pub use module_reader::read_module;
 pub use types::{EntityType, ExportKind, FuncType, RefType, ValType};
-
-#[cfg(test)]
-mod tests;

@@ -39,28 +39,3 @@ pub use text::{parse_file, parse_type, parse_use_path};
 pub use token::{Comment, Kind, Token};
 pub use token_iterator::{SpannedToken, Tokens};
 pub use types::Type;
-
-#[cfg(test)]
-mod tests_names;
-#[cfg(test)]
-mod tests_packages;
-#[cfg(test)]
-mod tests_rows;
-#[cfg(test)]
-mod tests_rows_files;
-#[cfg(test)]
-mod tests_rows_items;
-#[cfg(test)]
-mod tests_rows_types;
-#[cfg(test)]
-mod tests_source_map;
-#[cfg(test)]
-mod tests_tokens;
-#[cfg(test)]
-mod tests_trees;
-#[cfg(test)]
-mod tests_types;
-#[cfg(test)]
-mod tests_version;
-#[cfg(test)]
-mod tests_walk;

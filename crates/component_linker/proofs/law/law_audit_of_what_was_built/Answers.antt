@@ -1,5 +1,5 @@
 use Rattle.component_linker.proofs.Exact.{right_is_yes, right_is_judged}
-use Rattle.component_linker.proofs.Results.{both_map}
+use Rattle.wit_component.proofs.Results.{both_map}
 use Rattle.component_linker.proofs.law.law_audit_of_what_was_built.Goals as goal
 
 pub returns : goal.returns

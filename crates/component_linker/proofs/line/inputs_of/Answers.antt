@@ -1,4 +1,4 @@
-use Rattle.component_linker.proofs.Results.{moved_up}
+use Rattle.wit_component.proofs.Results.{moved_up}
 use Rattle.component_linker.proofs.LineWords.{no_inputs_cause}
 use Rattle.component_linker.proofs.line.inputs_of.Goals as goal
 

@@ -1,6 +1,6 @@
 use Rattle.std.proofs.Common.{subst}
 use Rattle.component_linker.specs.Program.{HasComponent}
-use Rattle.component_linker.proofs.Results.{ok_map, err_map}
+use Rattle.wit_component.proofs.Results.{ok_map, err_map}
 use Rattle.component_linker.proofs.Answering.{acted}
 use Rattle.component_linker.proofs.program.act.Goals as goal
 

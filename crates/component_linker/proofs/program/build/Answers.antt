@@ -1,6 +1,6 @@
 use Rattle.std.proofs.Common.{refl, subst}
 use Rattle.component_linker.specs.Stops.{AppendsPart, out_path}
-use Rattle.component_linker.proofs.Results.{moved_up}
+use Rattle.wit_component.proofs.Results.{moved_up}
 use Rattle.component_linker.proofs.Answering.{cut_off}
 use Rattle.component_linker.proofs.program.build.Goals as goal
 

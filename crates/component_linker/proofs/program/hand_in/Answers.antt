@@ -2,7 +2,7 @@ use Rattle.std.proofs.Common.{ap}
 use Rattle.component_linker.specs.Input.{Input}
 use Rattle.component_linker.specs.Stops.{IsMainCause}
 use Rattle.component_linker.proofs.Handing.{main_cause_moved}
-use Rattle.component_linker.proofs.Results.{moved_up}
+use Rattle.wit_component.proofs.Results.{moved_up}
 use Rattle.component_linker.proofs.Files.{hand_at}
 use Rattle.component_linker.proofs.program.hand_in.Goals as goal
 

@@ -1,10 +1,10 @@
 use Rattle.std.proofs.Common.{◌∙◌, ◌≡◌, ◌⊎◌, Some, refl, ap, subst}
-use Rattle.component_linker.specs.declared.fault.Fault.TheVariants as causes
+use Rattle.wit_component.specs.declared.fault.Fault.TheVariants as causes
 use Rattle.component_linker.specs.declared.program.Stop.TheVariants as stops
 use Rattle.component_linker.specs.Choice.{NamesWorld}
 use Rattle.component_linker.specs.Program.{IsFile, IsNamed, text_or}
 use Rattle.component_linker.specs.Stops.{IsUnnamed}
-use Rattle.component_linker.proofs.Results.{moved_up}
+use Rattle.wit_component.proofs.Results.{moved_up}
 use Rattle.component_linker.proofs.Handing.{unnamed, main_cause}
 use Rattle.component_linker.proofs.program.hand_in_one.Goals as goal
 

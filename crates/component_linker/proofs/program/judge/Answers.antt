@@ -1,7 +1,7 @@
 use Rattle.std.proofs.Common.{refl, rules}
 use Rattle.component_linker.specs.Program.{verdict_status}
 use Rattle.component_linker.specs.Stops.{out_path}
-use Rattle.component_linker.proofs.Results.{moved_up}
+use Rattle.wit_component.proofs.Results.{moved_up}
 use Rattle.component_linker.proofs.Answering.{cut_off}
 use Rattle.component_linker.proofs.program.judge.Goals as goal
 

@@ -1,7 +1,7 @@
 use Rattle.std.proofs.Common.{refl, ap, ◌∙◌}
-use Rattle.component_linker.specs.Texts.{lines_text}
+use Rattle.wit_component.specs.Texts.{lines_text}
 use Rattle.component_linker.specs.Stops.{out_path}
-use Rattle.component_linker.proofs.Results.{moved_up}
+use Rattle.wit_component.proofs.Results.{moved_up}
 use Rattle.component_linker.proofs.Answering.{cut_off}
 use Rattle.component_linker.proofs.program.list.Goals as goal
 

@@ -1,4 +1,4 @@
-use Rattle.component_linker.proofs.Results.{moved_up}
+use Rattle.wit_component.proofs.Results.{moved_up}
 use Rattle.component_linker.proofs.Files.{fault_past, fault_here}
 use Rattle.component_linker.proofs.program.look_at_files.Goals as goal
 

@@ -1,11 +1,11 @@
 use Rattle.std.proofs.Common.{◌≡◌, ◌∙◌, Some, None, sym, ap, subst, ◌⊎◌, inl, inr, string_bytes}
-use Rattle.component_linker.specs.declared.fault.Fault.TheVariants as causes
+use Rattle.wit_component.specs.declared.fault.Fault.TheVariants as causes
 use Rattle.component_linker.specs.declared.program.Stop.TheVariants as stops
 use Rattle.component_linker.specs.Choice.{NamesWorld}
 use Rattle.component_linker.specs.Input.{Input}
 use Rattle.component_linker.specs.Program.{file_fault, AreSources, ArePackages, IsNamed, IsMain, last_main}
 use Rattle.component_linker.specs.Stops.{IsTextCause, IsMainCause, IsUnnamed, IsHandStop, IsPrepareStop}
-use Rattle.component_linker.proofs.Results.{moved_up}
+use Rattle.wit_component.proofs.Results.{moved_up}
 use Rattle.component_linker.proofs.Files.{prepared}
 use Rattle.component_linker.proofs.Handing.{handed, unnamed, choice_cause}
 use Rattle.component_linker.proofs.program.prepare.Goals as goal

@@ -1,6 +1,6 @@
 use Rattle.std.proofs.Common.{take}
 use Rattle.component_linker.specs.Stops.{IsTextCause}
-use Rattle.component_linker.proofs.Results.{moved_up}
+use Rattle.wit_component.proofs.Results.{moved_up}
 use Rattle.component_linker.proofs.Files.{hand_at}
 use Rattle.component_linker.proofs.Handing.{Sourced, source_past}
 use Rattle.component_linker.proofs.program.push_texts.Goals as goal

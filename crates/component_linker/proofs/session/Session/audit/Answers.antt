@@ -1,5 +1,5 @@
-use Rattle.component_linker.specs.View as view
-use Rattle.component_linker.proofs.Results.{err_map}
+use Rattle.wit_component.specs.View as view
+use Rattle.wit_component.proofs.Results.{err_map}
 use Rattle.component_linker.proofs.Causes.{audit_cause_is}
 use Rattle.component_linker.proofs.session.Session.audit.Goals as goal
 

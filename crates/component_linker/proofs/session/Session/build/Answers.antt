@@ -1,4 +1,4 @@
-use Rattle.component_linker.specs.View as view
+use Rattle.wit_component.specs.View as view
 use Rattle.component_linker.proofs.Causes.{built}
 use Rattle.component_linker.proofs.session.Session.build.Goals as goal
 

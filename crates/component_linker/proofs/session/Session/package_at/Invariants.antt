@@ -1,7 +1,7 @@
 use Rattle.std.proofs.Common.{◌≡◌, map, drop}
 use Rattle.std.specs.List.{position_from}
 use Rattle.component_linker.specs.Choice.{is_package}
-use Rattle.component_linker.specs.World.{package_meaning}
+use Rattle.wit_resolve.specs.World.{package_meaning}
 use Rattle.component_linker.proofs.session.Session.package_at.Given as goal
 
 abbrev pub invariant-loop-index : goal.invariant-loop-index

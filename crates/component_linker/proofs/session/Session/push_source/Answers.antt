@@ -1,7 +1,4 @@
-use Rattle.std.proofs.lemmas.Result.{err_from_is_err_and}
 use Rattle.component_linker.proofs.session.Session.push_source.Goals as goal
 
-pub returns-in_err-package-clause-only : goal.returns-in_err-package-clause-only
-returns-in_err-package-clause-only c =
-    let p = err_from_is_err_and c.from_residual.result c.from_residual.ensures.1 in
-    λ q h. rw (p.1, p.2) (c.in_err-package.ensures.only q h.shape)
+pub returns-in-Err-clause-only : goal.returns-in-Err-clause-only
+returns-in-Err-clause-only c = λ q h. c.text_refusal.ensures.memory (rw c.in-Err.is at (c.read_package.ensures.only q h.shape))

@@ -1,0 +1,191 @@
+-- First places of names.
+use Rattle.std.proofs.Common.{◌≡◌, ℕ, zero, suc, List, [], ◌∷◌, ◌++◌, length, drop, ◌<◌, ◌≤◌, arith, length-drop, Bool, true, false, cond, Option, Some, None, is_some, refl, sym, ap, ◌∙◌, inl, inr}
+use Rattle.std.specs.Prelude.{map, option_map, option_and_then, slice_get, bytes_eq}
+use Rattle.std.proofs.lemmas.Bool.{cases_Bool}
+use Rattle.component_audit.specs.FirstPlaces.{place_of}
+use Rattle.std.proofs.lemmas.List.{drop_all}
+use Rattle.wasm_format.specs.declared.core_module.Import.{Import}
+use Rattle.wasm_format.specs.declared.core_module.Export.{Export}
+use Rattle.wasm_format.specs.Module.{FuncTypeValue, ModuleValue, import_value, export_value}
+use Rattle.wit_component.specs.Linking.{core_import, core_export, function_type_at}
+use Rattle.component_format.specs.declared.definition.Argument.{Argument}
+use Rattle.component_format.specs.declared.definition.InlineExport.{InlineExport}
+use Rattle.component_format.specs.Definition.{argument_value, inline_export_value}
+use Rattle.wit_component.specs.Meaning.{CoreFunction, CoreEntry, Spaces, exported, item_at, entry_named, argument_named, exports_of, inline_entries, all_match}
+use Rattle.component_audit.specs.SpacesView.{core_entries, entry_item, argument_item}
+use Rattle.wit_component.proofs.Lists.{bytes_eq_is, bytes_eq_refl}
+
+-- the first, or else the second
+abbrev or_else : Option ℕ → Option ℕ → Option ℕ
+or_else None b = b
+or_else (Some a) b = Some a
+
+or_none : (a : Option ℕ) → or_else a None ≡ a
+or_none None = refl
+or_none (Some a) = refl
+
+or_some : (a b : Option ℕ) → is_some a ≡ true → or_else a b ≡ a
+or_some None b h = cc
+or_some (Some a) b h = refl
+
+one_later : (a : Option ℕ) (b : Bool) (k : ℕ) → option_map suc (or_else a (cond b (Some k) None)) ≡ or_else (option_map suc a) (cond b (Some (suc k)) None)
+one_later None true k = refl
+one_later None false k = refl
+one_later (Some a) b k = refl
+
+place_push : (name : List ℕ) (ns : List (List ℕ)) (n : List ℕ) → place_of name (ns ++ n ∷ []) ≡ or_else (place_of name ns) (cond (bytes_eq name n) (Some (length ns)) None)
+place_push name [] n = refl
+place_push name (m ∷ ns) n = elim (cases_Bool (bytes_eq name m)) [
+  | inl t ↦ rw t refl
+  | inr t ↦ rw t (ap (option_map suc) (place_push name ns n) ∙ one_later (place_of name ns) (bytes_eq name n) (length ns))
+]
+
+-- names are equal either way round
+apart : (a b : List ℕ) → bytes_eq a b ≡ false → bytes_eq b a ≡ false
+apart a b f = elim (cases_Bool (bytes_eq b a)) [
+  | inl t ↦ let bad : bytes_eq a b ≡ true = rw (bytes_eq_is b a t) (bytes_eq_refl a) in cc
+  | inr t ↦ t
+]
+
+is_none : (a : Option ℕ) → is_some a ≡ false → a ≡ None
+is_none None h = refl
+is_none (Some a) h = cc
+
+module _ (ns : List (List ℕ)) (n : List ℕ) (old : List ℕ → Option ℕ) (right : (name : List ℕ) → old name ≡ place_of name ns) where
+  -- a name that is there keeps its place
+  pub place_of_known : is_some (old n) ≡ true → (name : List ℕ) → old name ≡ place_of name (ns ++ n ∷ [])
+  place_of_known there name = elim (cases_Bool (bytes_eq name n)) [
+    | inl t ↦
+        let known : is_some (place_of name ns) ≡ true = ap is_some (sym (right name)) ∙ ap (λ (x : List ℕ). is_some (old x)) (bytes_eq_is name n t) ∙ there in
+        right name ∙ sym (place_push name ns n ∙ or_some (place_of name ns) (cond (bytes_eq name n) (Some (length ns)) None) known)
+    | inr t ↦
+        let same : or_else (place_of name ns) (cond (bytes_eq name n) (Some (length ns)) None) ≡ place_of name ns = rw t (or_none (place_of name ns)) in
+        right name ∙ sym (place_push name ns n ∙ same)
+  ]
+
+  -- a name that is new is there at the end
+  pub place_of_new : is_some (old n) ≡ false → (new : List ℕ → Option ℕ) → ((name : List ℕ) → new name ≡ cond (bytes_eq n name) (Some (length ns)) (old name)) → (name : List ℕ) → new name ≡ place_of name (ns ++ n ∷ [])
+  place_of_new absent new update name = elim (cases_Bool (bytes_eq n name)) [
+    | inl t ↦
+        let same : n ≡ name = bytes_eq_is n name t in
+        let none : place_of name ns ≡ None = sym (right name) ∙ ap old (sym same) ∙ is_none (old n) absent in
+        let here : bytes_eq name n ≡ true = ap (λ (x : List ℕ). bytes_eq name x) same ∙ bytes_eq_refl name in
+        let last : or_else (place_of name ns) (cond (bytes_eq name n) (Some (length ns)) None) ≡ Some (length ns) = rw (none, here) refl in
+        let value : cond (bytes_eq n name) (Some (length ns)) (old name) ≡ Some (length ns) = rw t refl in
+        update name ∙ value ∙ sym (place_push name ns n ∙ last)
+    | inr t ↦
+        let other : or_else (place_of name ns) (cond (bytes_eq name n) (Some (length ns)) None) ≡ place_of name ns = rw (apart n name t) (or_none (place_of name ns)) in
+        let value : cond (bytes_eq n name) (Some (length ns)) (old name) ≡ old name = rw t refl in
+        update name ∙ value ∙ right name ∙ sym (place_push name ns n ∙ other)
+  ]
+
+pub map_push : {X Y : Type 0} (f : X → Y) (xs : List X) (x : X) → map f (xs ++ x ∷ []) ≡ map f xs ++ f x ∷ []
+map_push f [] x = refl
+map_push f (y ∷ ys) x = rw (map_push f ys x) refl
+
+pub length_map : {X Y : Type 0} (f : X → Y) (xs : List X) → length (map f xs) ≡ length xs
+length_map f [] = refl
+length_map f (x ∷ xs) = ap suc (length_map f xs)
+
+-- ---- looking a name up by its first place
+
+no_item : (i : Option ℕ) → option_and_then (item_at {X = CoreFunction} []) i ≡ None
+no_item None = refl
+no_item (Some i) = refl
+
+next_item : (f : Option CoreFunction) (fs : List (Option CoreFunction)) (i : Option ℕ) → option_and_then (item_at fs) i ≡ option_and_then (item_at (f ∷ fs)) (option_map suc i)
+next_item f fs None = refl
+next_item f fs (Some i) = refl
+
+pub entry_at_place : (name : List ℕ) (ns : List (List ℕ)) (fs : List (Option CoreFunction)) → entry_named name (core_entries ns fs) ≡ option_and_then (item_at fs) (place_of name ns)
+entry_at_place name [] fs = refl
+entry_at_place name (n ∷ ns) [] = sym (no_item (place_of name (n ∷ ns)))
+entry_at_place name (n ∷ ns) (f ∷ fs) = elim (cases_Bool (bytes_eq name n)) [
+  | inl t ↦ rw t refl
+  | inr t ↦ rw t (entry_at_place name ns fs ∙ next_item f fs (place_of name ns))
+]
+
+next_entry : (e : CoreEntry) (es : List CoreEntry) (i : Option ℕ) → option_and_then (entry_item es) i ≡ option_and_then (entry_item (e ∷ es)) (option_map suc i)
+next_entry e es None = refl
+next_entry e es (Some i) = refl
+
+pub entry_named_at : (name : List ℕ) (es : List CoreEntry) → entry_named name es ≡ option_and_then (entry_item es) (place_of name (map (λ (e : CoreEntry). e.name) es))
+entry_named_at name [] = refl
+entry_named_at name (e ∷ es) = elim (cases_Bool (bytes_eq name e.name)) [
+  | inl t ↦ rw t refl
+  | inr t ↦ rw t (entry_named_at name es ∙ next_entry e es (place_of name (map (λ (x : CoreEntry). x.name) es)))
+]
+
+next_argument : (a : Argument) (args : List Argument) (i : Option ℕ) → option_and_then (argument_item args) i ≡ option_and_then (argument_item (a ∷ args)) (option_map suc i)
+next_argument a args None = refl
+next_argument a args (Some i) = refl
+
+pub argument_at_place : (args : List Argument) (name : List ℕ) → argument_named (map argument_value args) name ≡ option_and_then (argument_item args) (place_of name (map (λ (a : Argument). a.name.now) args))
+argument_at_place [] name = refl
+argument_at_place (a ∷ args) name = elim (cases_Bool (bytes_eq name a.name.now)) [
+  | inl t ↦ rw t refl
+  | inr t ↦ rw t (argument_at_place args name ∙ next_argument a args (place_of name (map (λ (x : Argument). x.name.now) args)))
+]
+
+-- ---- what a look-up answers
+
+pub entry_found : (name : List ℕ) (ns : List (List ℕ)) (fs : List (Option CoreFunction)) (p : ℕ) (r : Option CoreFunction) → Some p ≡ place_of name ns → r ≡ item_at fs p → r ≡ entry_named name (core_entries ns fs)
+entry_found name ns fs p r at is = is ∙ ap (option_and_then (item_at fs)) at ∙ sym (entry_at_place name ns fs)
+
+pub entry_missing : (name : List ℕ) (ns : List (List ℕ)) (fs : List (Option CoreFunction)) → None ≡ place_of name ns → None ≡ entry_named name (core_entries ns fs)
+entry_missing name ns fs at = ap (option_and_then (item_at fs)) at ∙ sym (entry_at_place name ns fs)
+
+module _ (args : List Argument) (ns : List (List ℕ)) (names : ns ≡ map (λ (a : Argument). a.name.now) args) (name : List ℕ) where
+  pub argument_found : (p : ℕ) (r : Option ℕ) → Some p ≡ place_of name ns → r ≡ argument_item args p → r ≡ argument_named (map argument_value args) name
+  argument_found p r at is = is ∙ ap (option_and_then (argument_item args)) (at ∙ ap (place_of name) names) ∙ sym (argument_at_place args name)
+
+  pub argument_missing : None ≡ place_of name ns → None ≡ argument_named (map argument_value args) name
+  argument_missing at = ap (option_and_then (argument_item args)) (at ∙ ap (place_of name) names) ∙ sym (argument_at_place args name)
+
+-- the main module's exports, of these
+module _ (m : ModuleValue) (bytes : List ℕ) where
+  abbrev pub export_entries : List Export → List CoreEntry
+  export_entries xs = exports_of (record { bytes = bytes; imports = []; exports = map (core_export m) (map export_value xs) })
+
+  export_names : (xs : List Export) → map (λ (e : Export). e.name.now) xs ≡ map (λ (e : CoreEntry). e.name) (export_entries xs)
+  export_names [] = refl
+  export_names (x ∷ xs) = ap (λ (ns : List (List ℕ)). x.name.now ∷ ns) (export_names xs)
+
+  abbrev pub export_item : Export → Option CoreFunction
+  export_item e = option_map (λ (t : FuncTypeValue). record { end = exported e.name.now; ty = t }) (function_type_at m e.index)
+
+  export_at_place : (xs : List Export) (i : ℕ) → entry_item (export_entries xs) i ≡ option_and_then export_item (slice_get xs i)
+  export_at_place [] i = refl
+  export_at_place (x ∷ xs) zero = refl
+  export_at_place (x ∷ xs) (suc i) = export_at_place xs i
+
+  pub export_here : (xs : List Export) (i : ℕ) (e : Export) (t : Option FuncTypeValue) → slice_get xs i ≡ Some e → t ≡ function_type_at m e.index
+      → option_map (λ (u : FuncTypeValue). record { end = exported e.name.now; ty = u }) t ≡ entry_item (export_entries xs) i
+  export_here xs i e t at is = ap (option_map (λ (u : FuncTypeValue). record { end = exported e.name.now; ty = u })) is ∙ sym (export_at_place xs i ∙ ap (option_and_then export_item) at)
+
+  module _ (xs : List Export) (ns : List (List ℕ)) (names : ns ≡ map (λ (e : Export). e.name.now) xs) (name : List ℕ) where
+    whole : entry_named name (export_entries xs) ≡ option_and_then (entry_item (export_entries xs)) (place_of name ns)
+    whole = entry_named_at name (export_entries xs) ∙ ap (λ (l : List (List ℕ)). option_and_then (entry_item (export_entries xs)) (place_of name l)) (sym (names ∙ export_names xs))
+
+    pub export_found : (p : ℕ) (r : Option CoreFunction) → Some p ≡ place_of name ns → r ≡ entry_item (export_entries xs) p → r ≡ entry_named name (export_entries xs)
+    export_found p r at is = is ∙ ap (option_and_then (entry_item (export_entries xs))) at ∙ sym whole
+
+    pub export_missing : None ≡ place_of name ns → None ≡ entry_named name (export_entries xs)
+    export_missing at = ap (option_and_then (entry_item (export_entries xs))) at ∙ sym whole
+
+-- ---- lists
+
+pub inline_are : (s : Spaces) (xs : List InlineExport) → core_entries (map (λ (e : InlineExport). e.name.now) xs) (map (λ (e : InlineExport). item_at s.core_functions e.func) xs) ≡ inline_entries s (map inline_export_value xs)
+inline_are s [] = refl
+inline_are s (x ∷ xs) = ap (λ (es : List CoreEntry). record { name = x.name.now; item = item_at s.core_functions x.func } ∷ es) (inline_are s xs)
+
+nothing_matches : (m : ModuleValue) (xs : List Import) → 0 < length xs → all_match (map (core_import m) (map import_value xs)) [] ≡ false
+nothing_matches m [] h = absurd (omega arith)
+nothing_matches m (x ∷ xs) h = refl
+
+-- too few are given
+pub too_few : {X : Type 0} (m : ModuleValue) (f : X → Option CoreFunction) (xs : List Import) (gs : List X) (place : ℕ) → place < length xs → length gs ≤ place → all_match (map (core_import m) (map import_value (drop place xs))) (map f (drop place gs)) ≡ false
+too_few {X} m f xs gs place lt le =
+    let none : drop place gs ≡ [] = drop_all place gs le in
+    let some : 0 < length (drop place xs) = omega (arith, length-drop place xs) in
+    ap (λ (l : List X). all_match (map (core_import m) (map import_value (drop place xs))) (map f l)) none ∙ nothing_matches m (drop place xs) some

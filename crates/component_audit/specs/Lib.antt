@@ -1,0 +1,5 @@
+pub mod FirstPlaces
+pub mod SpacesView
+pub mod WalkView
+pub mod Judged
+pub mod Texts

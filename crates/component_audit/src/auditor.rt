@@ -1,0 +1,487 @@
+//! Whether a component is right for its input.
+
+ghost use Rattle.std.specs.Prelude.{◌≡◌, ◌≢◌, ◌⊎◌, nat_le, ℕ, [], None, Any, bytes_eq, map, option_map, slice_get, string_bytes, true, length, IfOk, IfErr};
+ghost use Rattle.std.specs.Bool.{Decides};
+ghost use Rattle.std.specs.Cmp.Lexicographic.{pointwise};
+ghost use Rattle.std.specs.List.{list_all, AllByRecursion as Each};
+ghost use Rattle.wasm_format.specs.Module.{module_value, import_value, export_value};
+ghost use Rattle.component_format.specs.Definition.{function_type_value, parameter_value, definition_values};
+ghost use Rattle.component_format.specs.Found.{AreWithin as DefinitionsWithin};
+ghost use Rattle.component_format.specs.Names.{all_new};
+ghost use Rattle.wit_component.specs.Cause.{IsLinkable};
+ghost use Rattle.component_audit.specs.Judged.{Finds, IsOnce, IsOutside, IsJudgeCause, Says, SaysOf, function_named, is_listed, is_there, is_lift_of, is_lowering_of, IsOwnExport};
+ghost use Rattle.wit_component.specs.Linking.{core_import, core_export};
+ghost use Rattle.wit_component.specs.Meaning as meant;
+ghost use Rattle.wit_component.specs.Places.{ArePlaces, ImportPlace};
+ghost use Rattle.wit_component.specs.Right as right;
+ghost use Rattle.wit_component.specs.Right.{IsIn, IsGiven, EachGiven, LiftsOwn, ImportsRight, LinksRight, type_seen};
+ghost use Rattle.component_audit.specs.SpacesView as seen;
+ghost use Rattle.wit_component.specs.View as view;
+ghost use Rattle.wit_resolve.specs.World.{FunctionItem, function_item, param_item, world_fits};
+
+use crate::first_places::FirstPlaces;
+use crate::spaces::{
+    ComponentFunction, CoreEnd, CoreFunction, ExportEntry, FunctionEnd, Given, ImportEntry, Spaces,
+    same_result,
+};
+use crate::verdict::{FindingKind, Verdict};
+use crate::walk::{Walk, is_of_type};
+use component_format::{Component, FormatFault, FunctionType, Parameter, read_component};
+use std::alloc::{AllocError, Global};
+use wasm_format::{Export, Import};
+use wit_component::{Fault, Linking, Table, needed_functions, references, table_of};
+use wit_resolve::{Function, Param};
+
+/// Judges bytes against what is linked.
+pub fn judge(alloc: Global, linking: &Linking, bytes: &[u8]) -> Result<Verdict, Fault>
+    requires { world_fits (view.linking linking.now).world ≡ true }
+    ensures verdict { IfOk result (Says (view.linking linking.now) bytes.now) }
+    ensures linkable { IfOk result (λ v. IsLinkable (view.linking linking.now)) }
+    ensures cause { IfErr result (IsJudgeCause (view.linking linking.now) bytes.now) }
+{
+    let table = table_of(alloc, linking)?;
+    let component = match read_component(alloc, bytes) {
+        Ok(component) => component,
+        Err(FormatFault::OutOfMemory) => return Err(Fault::OutOfMemory),
+        Err(FormatFault::NotYet { .. }) => return Err(Fault::NotYet),
+        Err(FormatFault::Malformed { offset, .. }) => {
+            return Ok(Verdict::Finding(FindingKind::Format, offset));
+        }
+    };
+    judge_component(alloc, linking, &table, &component, bytes.len())
+}
+
+/// Judges a component of so many bytes.
+fn judge_component<'c>(
+    alloc: Global,
+    linking: &'c Linking<'c, 'c>,
+    table: &Table,
+    component: &'c Component<'c>,
+    length: usize,
+) -> Result<Verdict, Fault>
+    requires fits { world_fits (view.linking linking.now).world ≡ true }
+    requires places { ArePlaces (view.linking linking.now) (view.places table.now) }
+    requires within { DefinitionsWithin length component.now.definitions.items }
+    ensures verdict { IfOk result (SaysOf (view.linking linking.entry.now) (meant.meaning (view.linking linking.entry.now).main (definition_values component.entry.now.definitions.items)) length) }
+    ensures cause { IfErr result (λ e. (e ≡ Fault.OutOfMemory) ⊎ ((e ≡ Fault.NotYet) × Any (λ m. m ≢ (view.linking linking.entry.now).main.bytes) (meant.meaning (view.linking linking.entry.now).main (definition_values component.entry.now.definitions.items)).modules)) }
+{
+    let walk = walk_over(alloc, linking, component, length)?;
+    judge_spaces(alloc, linking, table, &walk.spaces, length)
+}
+
+/// A walk over all definitions of a component of so many bytes.
+fn walk_over<'c>(
+    alloc: Global,
+    linking: &'c Linking<'c, 'c>,
+    component: &'c Component<'c>,
+    length: usize,
+) -> Result<Walk<'c>, Fault>
+    requires { DefinitionsWithin length component.now.definitions.items }
+    ensures spaces { IfOk result (λ w. seen.spaces (view.linking linking.entry.now).main w.spaces ≡ meant.meaning (view.linking linking.entry.now).main (definition_values component.entry.now.definitions.items)) }
+    ensures within { IfOk result (λ w. seen.AreWithin length w.spaces) }
+    ensures memory { IfErr result (λ e. e ≡ Fault.OutOfMemory) }
+{
+    let mut walk = Walk::new(alloc, linking, length)?;
+    for definition in &component.definitions {
+        walk.step(definition)?;
+    }
+    Ok(walk)
+}
+
+/// Judges what the definitions of a component of so many bytes stand for.
+fn judge_spaces(
+    alloc: Global,
+    linking: &Linking,
+    table: &Table,
+    spaces: &Spaces,
+    length: usize,
+) -> Result<Verdict, Fault>
+    requires fits { world_fits (view.linking linking.now).world ≡ true }
+    requires places { ArePlaces (view.linking linking.now) (view.places table.now) }
+    requires within { seen.AreWithin length spaces.now }
+    ensures verdict { IfOk result (SaysOf (view.linking linking.now) (seen.spaces (view.linking linking.now).main spaces.now) length) }
+    ensures cause { IfErr result (λ e. (e ≡ Fault.OutOfMemory) ⊎ ((e ≡ Fault.NotYet) × Any (λ m. m ≢ (view.linking linking.now).main.bytes) (seen.spaces (view.linking linking.now).main spaces.now).modules)) }
+{
+    if !are_handed(linking, spaces) {
+        return Err(Fault::NotYet);
+    }
+    if let Some(offset) = instances_finding(&spaces.given, length) {
+        return Ok(Verdict::Finding(FindingKind::Module, offset));
+    }
+    if let Some(offset) = imports_finding(alloc, linking, table, spaces, length)? {
+        return Ok(Verdict::Finding(FindingKind::Import, offset));
+    }
+    let exports = Listed::new(alloc, &linking.world.exports)?;
+    if let Some(offset) = exports_finding(alloc, &exports, spaces, length)? {
+        return Ok(Verdict::Finding(FindingKind::Export, offset));
+    }
+    if let Some(offset) = links_finding(linking, table, &exports, spaces) {
+        return Ok(Verdict::Finding(FindingKind::Link, offset));
+    }
+    Ok(Verdict::Yes)
+}
+
+/// Whether each core module is the one that was handed in.
+fn are_handed(linking: &Linking, spaces: &Spaces) -> bool
+    ensures { result ≡ list_all (λ m. bytes_eq m linking.now.bytes.now) (map seen.module_bytes spaces.now.modules.items) }
+{
+    for found in &spaces.modules {
+        if found.bytes != linking.bytes {
+            return false;
+        }
+    }
+    true
+}
+
+/// The main module is instantiated exactly once.
+fn instances_finding(given: &[Given], length: usize) -> Option<usize>
+    requires { list_all (λ g. nat_le g.offset length) given.now ≡ true }
+    ensures { Finds length (IsOnce (map seen.given given.now)) result }
+{
+    match given {
+        [_] => None,
+        [_, second, ..] => Some(second.offset),
+        [] => Some(length),
+    }
+}
+
+/// The functions of one side of a world, found by their names.
+#[derive(Drop)]
+struct Listed<'w> {
+    functions: &'w [Function],
+    places: FirstPlaces<'w>,
+    ghost named: { places ≡ map (λ f. string_bytes f.name) functions.now },
+}
+
+impl<'w> Listed<'w> {
+    fn new(alloc: Global, functions: &'w [Function]) -> Result<Listed<'w>, AllocError>
+        ensures { IfOk result (λ l. l.functions.now ≡ functions.entry.now) }
+    {
+        let mut places = FirstPlaces::new(alloc);
+        for function in functions {
+            places.push(function.name.as_str())?;
+        }
+        Ok(Listed { functions, places })
+    }
+
+    /// The function at a place.
+    fn at(&self, place: usize) -> Option<&Function>
+        ensures { option_map (λ f. function_item f.now) result ≡ slice_get (map function_item self.now.functions.now) place }
+    {
+        let function = self.functions.get(place)?;
+        Some(function)
+    }
+
+    /// The function of a name.
+    fn find(&self, name: &str) -> Option<&Function>
+        ensures { option_map (λ f. function_item f.now) result ≡ function_named name.now (map function_item self.now.functions.now) }
+    {
+        match self.places.first(name) {
+            Some(place) => self.at(place),
+            None => None,
+        }
+    }
+
+    /// Whether an import, or an export as the outside sees it, is one of the functions.
+    fn has(&self, entry: &ImportEntry) -> bool
+        ensures { result ≡ is_listed (map function_item self.now.functions.now) (seen.import_entry entry.now) }
+    {
+        match (self.find(entry.name), entry.item) {
+            (Some(function), Some(ty)) => has_type(function, ty),
+            _ => false,
+        }
+    }
+}
+
+/// Whether a function of the world has this type.
+fn has_type(function: &Function, ty: &FunctionType) -> bool
+    ensures { result ≡ meant.same_type (function_item function.now).ty (function_type_value ty.now) }
+{
+    have_types(&function.params, &ty.params) && same_result(function.result, ty.result)
+}
+
+/// Whether parameters of the world are these, in the same order.
+fn have_types(a: &[Param], b: &[Parameter]) -> bool
+    ensures { result ≡ pointwise meant.same_parameter (map param_item a.now) (map parameter_value b.now) }
+{
+    if a.len() != b.len() {
+        return false;
+    }
+    for (place, p) in a.iter().enumerate() {
+        if !is_parameter(p, &b[place]) {
+            return false;
+        }
+    }
+    true
+}
+
+/// Whether a parameter of the world is this one.
+fn is_parameter(a: &Param, b: &Parameter) -> bool
+    ensures { result ≡ meant.same_parameter (param_item a.now) (parameter_value b.now) }
+{
+    a.name.as_str() == b.name && a.ty == b.ty
+}
+
+/// Where the first entry stands that isn't listed.
+fn first_unlisted(listed: &Listed, entries: &[ImportEntry]) -> Option<usize>
+    ensures { (n : ℕ) → list_all (λ e. nat_le e.offset n) entries.now ≡ true → Finds n (Each (λ e. is_listed (map function_item listed.now.functions.now) e ≡ true) (map seen.import_entry entries.now)) result }
+{
+    for entry in entries {
+        if !listed.has(entry) {
+            return Some(entry.offset);
+        }
+    }
+    None
+}
+
+/// The names of entries, found by them.
+fn names_of<'c>(alloc: Global, entries: &[ImportEntry<'c>]) -> Result<FirstPlaces<'c>, AllocError>
+    ensures { IfOk result (λ p. p ≡ map (λ e. e.name.now) entries.now) }
+{
+    let mut names = FirstPlaces::new(alloc);
+    for entry in entries {
+        names.push(entry.name)?;
+    }
+    Ok(names)
+}
+
+/// Whether the names have each function's.
+fn are_there(names: &FirstPlaces, functions: &[&Function]) -> bool
+    ensures { result ≡ list_all (is_there names.now) (map (λ f. function_item f.now) functions.now) }
+{
+    for function in functions {
+        if names.first(function.name.as_str()).is_none() {
+            return false;
+        }
+    }
+    true
+}
+
+/// Where one side of the outside isn't as the world lists it: an entry that isn't listed, or the end, where a wanted
+/// function isn't there.
+fn outside_finding(
+    alloc: Global,
+    listed: &Listed,
+    wanted: &[&Function],
+    entries: &[ImportEntry],
+    length: usize,
+) -> Result<Option<usize>, AllocError>
+    requires distinct { all_new [] (map (λ f. f.name) (map function_item listed.now.functions.now)) ≡ true }
+    requires among { (f : FunctionItem) → IsIn f (map (λ f. function_item f.now) wanted.now) → IsIn f (map function_item listed.now.functions.now) }
+    requires within { list_all (λ e. nat_le e.offset length) entries.now ≡ true }
+    ensures { IfOk result (Finds length (IsOutside (map function_item listed.now.functions.now) (map (λ f. function_item f.now) wanted.now) (map seen.import_entry entries.now))) }
+{
+    if let Some(offset) = first_unlisted(listed, entries) {
+        return Ok(Some(offset));
+    }
+    let names = names_of(alloc, entries)?;
+    if !are_there(&names, wanted) {
+        return Ok(Some(length));
+    }
+    Ok(None)
+}
+
+/// Each import is listed by the world, and each that links need is there.
+fn imports_finding(
+    alloc: Global,
+    linking: &Linking,
+    table: &Table,
+    spaces: &Spaces,
+    length: usize,
+) -> Result<Option<usize>, AllocError>
+    requires fits { world_fits (view.linking linking.now).world ≡ true }
+    requires places { ArePlaces (view.linking linking.now) (view.places table.now) }
+    requires within { seen.AreWithin length spaces.now }
+    ensures { IfOk result (Finds length (ImportsRight (view.linking linking.now) (seen.spaces (view.linking linking.now).main spaces.now))) }
+{
+    let listed = Listed::new(alloc, &linking.world.imports)?;
+    let needed = needed_functions(alloc, linking, table)?;
+    outside_finding(alloc, &listed, &needed, &spaces.imports, length)
+}
+
+/// Exports as the outside sees them.
+fn types_seen<'c>(
+    alloc: Global,
+    entries: &[ExportEntry<'c>],
+) -> Result<Vec<ImportEntry<'c>>, AllocError>
+    ensures seen { IfOk result (λ v. map seen.import_entry v.items ≡ map type_seen (map seen.export_entry entries.now)) }
+    ensures within { (n : ℕ) → list_all (λ e. nat_le e.offset n) entries.now ≡ true → IfOk result (λ v. list_all (λ e. nat_le e.offset n) v.items ≡ true) }
+{
+    let mut found = Vec::new(alloc);
+    for entry in entries {
+        found.push(type_of(entry))?;
+    }
+    Ok(found)
+}
+
+/// An export as the outside sees it.
+fn type_of<'c>(entry: &ExportEntry<'c>) -> ImportEntry<'c>
+    ensures seen { seen.import_entry result ≡ type_seen (seen.export_entry entry.now) }
+    ensures offset { result.offset ≡ entry.now.offset }
+{
+    let item = match entry.item {
+        Some(function) => Some(function.ty),
+        None => None,
+    };
+    ImportEntry {
+        offset: entry.offset,
+        name: entry.name,
+        item,
+    }
+}
+
+/// The exports are exactly the world's.
+fn exports_finding(
+    alloc: Global,
+    exports: &Listed,
+    spaces: &Spaces,
+    length: usize,
+) -> Result<Option<usize>, AllocError>
+    requires distinct { all_new [] (map (λ f. f.name) (map function_item exports.now.functions.now)) ≡ true }
+    requires within { seen.AreWithin length spaces.now }
+    ensures { IfOk result (Finds length (IsOutside (map function_item exports.now.functions.now) (map function_item exports.now.functions.now) (map type_seen (map seen.export_entry spaces.now.exports.items)))) }
+{
+    let wanted = references(alloc, exports.functions)?;
+    let entries = types_seen(alloc, &spaces.exports)?;
+    outside_finding(alloc, exports, &wanted, &entries, length)
+}
+
+/// Each core import is given the lowering of its own function, and each export lifts its own core export.
+fn links_finding(
+    linking: &Linking,
+    table: &Table,
+    exports: &Listed,
+    spaces: &Spaces,
+) -> Option<usize>
+    requires places { ArePlaces (view.linking linking.now) (view.places table.now) }
+    requires listed { exports.now.functions.now ≡ linking.now.world.now.exports.items }
+    requires distinct { all_new [] (map (λ f. f.name) (view.linking linking.now).world.exports) ≡ true }
+    requires known { Each (λ e. IsIn (type_seen e) (map right.listed (view.linking linking.now).world.exports)) (map seen.export_entry spaces.now.exports.items) }
+    ensures { (n : ℕ) → seen.AreWithin n spaces.now → Finds n (LinksRight (view.linking linking.now) (seen.spaces (view.linking linking.now).main spaces.now)) result }
+{
+    match first_wrong_given(linking, table, &spaces.given) {
+        Some(offset) => Some(offset),
+        None => first_wrong_lift(linking, table, exports, &spaces.exports),
+    }
+}
+
+/// Where the first instance stands that isn't given the lowerings of its own functions.
+fn first_wrong_given(linking: &Linking, table: &Table, given: &[Given]) -> Option<usize>
+    requires { ArePlaces (view.linking linking.now) (view.places table.now) }
+    ensures { (n : ℕ) → list_all (λ g. nat_le g.offset n) given.now ≡ true → Finds n (Each (EachGiven (view.linking linking.now) (view.linking linking.now).main.imports) (map seen.given given.now)) result }
+{
+    for one in given {
+        if !takes_own(linking, table, &one.functions) {
+            return Some(one.offset);
+        }
+    }
+    None
+}
+
+/// Whether each core import is given the lowering of its own function.
+fn takes_own(linking: &Linking, table: &Table, functions: &[Option<CoreFunction>]) -> bool
+    requires { ArePlaces (view.linking linking.now) (view.places table.now) }
+    ensures { Decides result (EachGiven (view.linking linking.now) (view.linking linking.now).main.imports (map (option_map seen.core_function) functions.now)) }
+{
+    if functions.len() != linking.main.imports.len() {
+        return false;
+    }
+    for (index, import) in linking.main.imports.iter().enumerate() {
+        if !is_own_lowering(linking, import, table.imports[index], &functions[index]) {
+            return false;
+        }
+    }
+    true
+}
+
+/// Whether a core import is given the lowering of its function, which stands at a place of the world.
+fn is_own_lowering(
+    linking: &Linking,
+    import: &Import,
+    place: usize,
+    function: &Option<CoreFunction>,
+) -> bool
+    requires { ImportPlace (view.linking linking.now) (core_import (module_value linking.now.main) (import_value import.now)) place }
+    ensures { Decides result (IsGiven (view.linking linking.now) (core_import (module_value linking.now.main) (import_value import.now)) (option_map seen.core_function function.now)) }
+{
+    let wanted = &linking.world.imports[place];
+    is_lowering_of(function, wanted.name.as_str()) && is_of_type(linking, import, function)
+}
+
+/// Whether a core function is the lowering of the import of this name.
+fn is_lowering_of(function: &Option<CoreFunction>, name: &str) -> bool
+    ensures { result ≡ is_lowering_of (option_map seen.core_function function.now) name.now }
+{
+    let Some(function) = function else {
+        return false;
+    };
+    match function.end {
+        CoreEnd::Lowered(of) => of == name,
+        CoreEnd::Exported(_) | CoreEnd::Elsewhere => false,
+    }
+}
+
+/// Where the first export stands that doesn't lift the core export of its function.
+fn first_wrong_lift(
+    linking: &Linking,
+    table: &Table,
+    exports: &Listed,
+    entries: &[ExportEntry],
+) -> Option<usize>
+    requires places { ArePlaces (view.linking linking.now) (view.places table.now) }
+    requires listed { exports.now.functions.now ≡ linking.now.world.now.exports.items }
+    requires distinct { all_new [] (map (λ f. f.name) (view.linking linking.now).world.exports) ≡ true }
+    requires known { Each (λ e. IsIn (type_seen e) (map right.listed (view.linking linking.now).world.exports)) (map seen.export_entry entries.now) }
+    ensures { (n : ℕ) → list_all (λ e. nat_le e.offset n) entries.now ≡ true → Finds n (Each (LiftsOwn (view.linking linking.now)) (map seen.export_entry entries.now)) result }
+{
+    for entry in entries {
+        if !lifts_own(linking, table, exports, entry) {
+            return Some(entry.offset);
+        }
+    }
+    None
+}
+
+/// Whether an export, which the world lists, lifts the core export of its function.
+fn lifts_own(linking: &Linking, table: &Table, exports: &Listed, entry: &ExportEntry) -> bool
+    requires places { ArePlaces (view.linking linking.now) (view.places table.now) }
+    requires listed { exports.now.functions.now ≡ linking.now.world.now.exports.items }
+    requires distinct { all_new [] (map (λ f. f.name) (view.linking linking.now).world.exports) ≡ true }
+    requires known { IsIn (type_seen (seen.export_entry entry.now)) (map right.listed (view.linking linking.now).world.exports) }
+    ensures { Decides result (LiftsOwn (view.linking linking.now) (seen.export_entry entry.now)) }
+{
+    match own_export(linking, table, exports, entry.name) {
+        Some(export) => is_lift_of(entry.item, export.name),
+        None => false,
+    }
+}
+
+/// The core export of the exported function of this name.
+fn own_export<'m>(
+    linking: &'m Linking<'_, 'm>,
+    table: &Table,
+    exports: &Listed,
+    name: &str,
+) -> Option<&'m Export<'m>>
+    requires places { ArePlaces (view.linking linking.now) (view.places table.now) }
+    requires listed { exports.now.functions.now ≡ linking.now.world.now.exports.items }
+    ensures { IsOwnExport (view.linking linking.now) name.now (option_map (λ e. core_export (module_value linking.now.main) (export_value e.now)) result) }
+{
+    match exports.places.first(name) {
+        Some(place) => Some(&linking.main.exports[table.exports[place]]),
+        None => None,
+    }
+}
+
+/// Whether a function is the lift of the main module's export of this name.
+fn is_lift_of(item: Option<ComponentFunction>, name: &str) -> bool
+    ensures { result ≡ is_lift_of (option_map seen.component_function item.entry) name.now }
+{
+    let Some(function) = item else {
+        return false;
+    };
+    match function.end {
+        FunctionEnd::Lifted(of) => of == name,
+        FunctionEnd::Imported(_) | FunctionEnd::Elsewhere => false,
+    }
+}

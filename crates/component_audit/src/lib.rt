@@ -1,0 +1,11 @@
+//! Judges any bytes against what is linked.
+#![tactic(auto)]
+
+mod auditor;
+mod first_places;
+mod spaces;
+mod verdict;
+mod walk;
+
+pub use auditor::judge;
+pub use verdict::{FindingKind, Verdict};

@@ -1,0 +1,347 @@
+//! What the indices of a component stand for.
+
+ghost use Rattle.std.specs.Prelude.{◌≡◌, ℕ, [], map, option_map};
+ghost use Rattle.std.specs.Cmp.Lexicographic.{pointwise};
+ghost use Rattle.wasm_format.specs.Module.{func_type_value};
+ghost use Rattle.component_format.specs.Definition.{parameter_value, function_type_value};
+ghost use Rattle.wit_component.specs.Flat.{flat, flat_value, flat_result};
+ghost use Rattle.wit_component.specs.Linking.{MainModule};
+ghost use Rattle.wit_component.specs.Meaning as meant;
+ghost use Rattle.component_audit.specs.SpacesView as view;
+
+use crate::first_places::FirstPlaces;
+use component_format::{FunctionType, Parameter, PrimitiveType};
+use std::alloc::Global;
+use wasm_format::{FuncType, ValType};
+use wit_component::{flat_value, is_flat_result};
+
+/// Where a core function ends.
+#[derive(Clone, Copy)]
+pub enum CoreEnd<'c> {
+    /// In the lowering of the import of this name.
+    Lowered(&'c str),
+    /// In the main module's export of this name.
+    Exported(&'c str),
+    Elsewhere,
+}
+
+/// Where a function ends.
+#[derive(Clone, Copy)]
+pub enum FunctionEnd<'c> {
+    /// In the import of this name.
+    Imported(&'c str),
+    /// In the lift of the main module's export of this name.
+    Lifted(&'c str),
+    Elsewhere,
+}
+
+/// The type of a core function.
+#[derive(Clone, Copy)]
+pub enum CoreType<'c> {
+    /// As a core module has it.
+    Own(&'c FuncType),
+    /// That of the lowering of a function of this type.
+    Flat(&'c FunctionType<'c>),
+}
+
+#[derive(Clone, Copy)]
+pub struct CoreFunction<'c> {
+    pub end: CoreEnd<'c>,
+    pub ty: CoreType<'c>,
+}
+
+#[derive(Clone, Copy)]
+pub struct ComponentFunction<'c> {
+    pub end: FunctionEnd<'c>,
+    pub ty: &'c FunctionType<'c>,
+}
+
+/// A core instance.
+#[derive(Drop)]
+pub enum CoreInstance<'c> {
+    /// It stands for nothing, and exports nothing.
+    Nothing,
+    /// An instance of the main module.
+    Main,
+    /// Made of core functions.
+    Inline(Entries<'c>),
+}
+
+/// Core functions by their names; an item may stand for nothing.
+#[derive(Drop)]
+pub struct Entries<'c> {
+    pub names: FirstPlaces<'c>,
+    pub items: Vec<Option<CoreFunction<'c>>>,
+}
+
+/// What an instance of the main module is given for each of its imports.
+#[derive(Drop)]
+pub struct Given<'c> {
+    pub offset: usize,
+    pub functions: Vec<Option<CoreFunction<'c>>>,
+}
+
+/// An import of the component.
+#[derive(Clone, Copy)]
+pub struct ImportEntry<'c> {
+    pub offset: usize,
+    pub name: &'c str,
+    pub item: Option<&'c FunctionType<'c>>,
+}
+
+/// An export of the component.
+#[derive(Clone, Copy)]
+pub struct ExportEntry<'c> {
+    pub offset: usize,
+    pub name: &'c str,
+    pub item: Option<ComponentFunction<'c>>,
+}
+
+/// A function type.
+#[derive(Clone, Copy)]
+pub struct TypeEntry<'c> {
+    pub ty: &'c FunctionType<'c>,
+}
+
+/// An embedded core module.
+#[derive(Clone, Copy)]
+pub struct ModuleEntry<'c> {
+    pub offset: usize,
+    pub bytes: &'c [u8],
+}
+
+/// The index spaces, and what the outside sees.
+#[derive(Drop)]
+pub struct Spaces<'c> {
+    pub modules: Vec<ModuleEntry<'c>>,
+    pub instances: Vec<CoreInstance<'c>>,
+    pub core_functions: Vec<Option<CoreFunction<'c>>>,
+    pub types: Vec<TypeEntry<'c>>,
+    pub functions: Vec<Option<ComponentFunction<'c>>>,
+    pub given: Vec<Given<'c>>,
+    pub imports: Vec<ImportEntry<'c>>,
+    pub exports: Vec<ExportEntry<'c>>,
+}
+
+/// Whether two function types are equal, names of parameters too.
+pub fn same_type(a: &FunctionType, b: &FunctionType) -> bool
+    ensures { result ≡ meant.same_type (function_type_value a.now) (function_type_value b.now) }
+{
+    same_parameters(&a.params, &b.params) && same_result(a.result, b.result)
+}
+
+/// Whether parameters are equal, in the same order.
+fn same_parameters(a: &[Parameter], b: &[Parameter]) -> bool
+    ensures { result ≡ pointwise meant.same_parameter (map parameter_value a.now) (map parameter_value b.now) }
+{
+    if a.len() != b.len() {
+        return false;
+    }
+    for (place, p) in a.iter().enumerate() {
+        if !same_parameter(p, &b[place]) {
+            return false;
+        }
+    }
+    true
+}
+
+/// Whether two parameters are equal, names too.
+fn same_parameter(a: &Parameter, b: &Parameter) -> bool
+    ensures { result ≡ meant.same_parameter (parameter_value a.now) (parameter_value b.now) }
+{
+    a.name == b.name && a.ty == b.ty
+}
+
+/// Whether two results are of one type.
+pub fn same_result(a: Option<PrimitiveType>, b: Option<PrimitiveType>) -> bool
+    ensures { result ≡ meant.same_result a b }
+{
+    match (a, b) {
+        (None, None) => true,
+        (Some(p), Some(q)) => p == q,
+        _ => false,
+    }
+}
+
+/// Whether core values are equal, in the same order.
+fn same_values(a: &[ValType], b: &[ValType]) -> bool
+    ensures { result ≡ meant.same_values a.now b.now }
+{
+    if a.len() != b.len() {
+        return false;
+    }
+    for (place, value) in a.iter().enumerate() {
+        if *value != b[place] {
+            return false;
+        }
+    }
+    true
+}
+
+/// Whether a core type is that of the lowering of a function of this type.
+fn is_flat_type(core: &FuncType, ty: &FunctionType) -> bool
+    ensures { result ≡ meant.same_core_type (func_type_value core.now) (flat (function_type_value ty.now)) }
+{
+    are_flat(&core.params, &ty.params) && is_flat_result(&core.results, ty.result)
+}
+
+/// Whether core values are those of these parameters.
+fn are_flat(values: &[ValType], params: &[Parameter]) -> bool
+    ensures { result ≡ meant.same_values values.now (map (λ p. flat_value p.ty) (map parameter_value params.now)) }
+{
+    if values.len() != params.len() {
+        return false;
+    }
+    for (place, value) in values.iter().enumerate() {
+        if *value != flat_value(params[place].ty) {
+            return false;
+        }
+    }
+    true
+}
+
+/// Whether the lowerings of functions of these types have one core type.
+fn same_flat_type(a: &FunctionType, b: &FunctionType) -> bool
+    ensures { result ≡ meant.same_core_type (flat (function_type_value a.now)) (flat (function_type_value b.now)) }
+{
+    same_flat_params(&a.params, &b.params) && same_flat_result(a.result, b.result)
+}
+
+/// Whether parameters have the same core values.
+fn same_flat_params(a: &[Parameter], b: &[Parameter]) -> bool
+    ensures { result ≡ meant.same_values (map (λ p. flat_value p.ty) (map parameter_value a.now)) (map (λ p. flat_value p.ty) (map parameter_value b.now)) }
+{
+    if a.len() != b.len() {
+        return false;
+    }
+    for (place, p) in a.iter().enumerate() {
+        if flat_value(p.ty) != flat_value(b[place].ty) {
+            return false;
+        }
+    }
+    true
+}
+
+/// Whether results have the same core values.
+fn same_flat_result(a: Option<PrimitiveType>, b: Option<PrimitiveType>) -> bool
+    ensures { result ≡ meant.same_values (flat_result a) (flat_result b) }
+{
+    match (a, b) {
+        (None, None) => true,
+        (Some(p), Some(q)) => flat_value(p) == flat_value(q),
+        _ => false,
+    }
+}
+
+impl<'c> CoreType<'c> {
+    /// Whether it is this core type.
+    pub fn is(self, asked: &FuncType) -> bool
+        ensures { result ≡ meant.same_core_type (func_type_value asked.now) (view.core_type self.entry) }
+    {
+        match self {
+            CoreType::Own(own) => {
+                same_values(&asked.params, &own.params) && same_values(&asked.results, &own.results)
+            }
+            CoreType::Flat(ty) => is_flat_type(asked, ty),
+        }
+    }
+
+    /// Whether it is the core type of a function of this type.
+    fn is_flat_of(self, ty: &FunctionType) -> bool
+        ensures { result ≡ meant.same_core_type (view.core_type self.entry) (flat (function_type_value ty.now)) }
+    {
+        match self {
+            CoreType::Own(own) => is_flat_type(own, ty),
+            CoreType::Flat(other) => same_flat_type(other, ty),
+        }
+    }
+}
+
+/// A function as a core function.
+pub fn lowering(function: ComponentFunction<'_>) -> CoreFunction<'_>
+    ensures { view.core_function result ≡ meant.lowering (view.component_function function.entry) }
+{
+    let end = match function.end {
+        FunctionEnd::Imported(name) => CoreEnd::Lowered(name),
+        FunctionEnd::Lifted(_) | FunctionEnd::Elsewhere => CoreEnd::Elsewhere,
+    };
+    CoreFunction {
+        end,
+        ty: CoreType::Flat(function.ty),
+    }
+}
+
+/// A core function as a function of a type, if that has its core type.
+pub fn lifting<'c>(
+    core: CoreFunction<'c>,
+    ty: &'c FunctionType<'c>,
+) -> Option<ComponentFunction<'c>>
+    ensures { option_map view.component_function result ≡ meant.lifting (view.core_function core.entry) (function_type_value ty.entry.now) }
+{
+    if !core.ty.is_flat_of(ty) {
+        return None;
+    }
+    let end = match core.end {
+        CoreEnd::Exported(name) => FunctionEnd::Lifted(name),
+        CoreEnd::Lowered(_) | CoreEnd::Elsewhere => FunctionEnd::Elsewhere,
+    };
+    Some(ComponentFunction { end, ty })
+}
+
+impl<'c> Entries<'c> {
+    /// No entries.
+    pub fn new(alloc: Global) -> Entries<'c>
+        ensures { view.entries result ≡ [] }
+    {
+        Entries {
+            names: FirstPlaces::new(alloc),
+            items: Vec::new(alloc),
+        }
+    }
+
+    /// What the first entry of a name stands for.
+    pub fn get(&self, name: &str) -> Option<CoreFunction<'c>>
+        ensures { option_map view.core_function result ≡ meant.entry_named name.now (view.entries self.now) }
+    {
+        match self.names.first(name) {
+            Some(place) => core_at(&self.items, place),
+            None => None,
+        }
+    }
+}
+
+/// The core function at a place, if it stands for something.
+pub fn core_at<'c>(items: &[Option<CoreFunction<'c>>], place: usize) -> Option<CoreFunction<'c>>
+    ensures { option_map view.core_function result ≡ meant.item_at (map (option_map view.core_function) items.now) place }
+{
+    *items.get(place)?
+}
+
+/// The function at a place, if it stands for something.
+pub fn function_at<'c>(
+    items: &[Option<ComponentFunction<'c>>],
+    place: usize,
+) -> Option<ComponentFunction<'c>>
+    ensures { option_map view.component_function result ≡ meant.item_at (map (option_map view.component_function) items.now) place }
+{
+    *items.get(place)?
+}
+
+impl<'c> Spaces<'c> {
+    /// No definitions.
+    pub fn new(alloc: Global) -> Spaces<'c>
+        ensures none { (main : MainModule) → view.spaces main result ≡ meant.no_spaces }
+        ensures within { (n : ℕ) → view.AreWithin n result }
+    {
+        Spaces {
+            modules: Vec::new(alloc),
+            instances: Vec::new(alloc),
+            core_functions: Vec::new(alloc),
+            types: Vec::new(alloc),
+            functions: Vec::new(alloc),
+            given: Vec::new(alloc),
+            imports: Vec::new(alloc),
+            exports: Vec::new(alloc),
+        }
+    }
+}

@@ -1,8 +1,0 @@
-use Rattle.component_linker.specs.View as view
-use Rattle.component_linker.specs.SpacesView.{export_entry}
-use Rattle.component_linker.specs.Right.{LiftsOwn}
-use Rattle.component_linker.proofs.Searching.{Going}
-use Rattle.component_linker.proofs.auditor.first_wrong_lift.Given as goal
-
-abbrev pub invariant-loop-entry : goal.invariant-loop-entry
-invariant-loop-entry l = Going export_entry (λ e. e.offset) (LiftsOwn (view.linking l.linking)) l.entries l.entry-index

@@ -1,7 +1,0 @@
-use Rattle.std.proofs.Common.{◌≡◌, map, take}
-use Rattle.component_format.specs.Definition.{parameter_value}
-use Rattle.component_linker.specs.World.{param_item}
-use Rattle.component_linker.proofs.encoder.parameters_of.Given as goal
-
-abbrev pub invariant-loop-param : goal.invariant-loop-param
-invariant-loop-param l = map parameter_value l.found.items ≡ map param_item (take l.param-index l.params)

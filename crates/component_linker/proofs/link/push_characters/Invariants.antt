@@ -1,7 +1,0 @@
-use Rattle.std.proofs.Common.{◌≡◌, ◌++◌, string_bytes}
-use Rattle.std.specs.List.{flat_map}
-use Rattle.component_linker.specs.Texts.{escaped}
-use Rattle.component_linker.proofs.link.push_characters.Given as goal
-
-abbrev pub invariant-loop-character : goal.invariant-loop-character
-invariant-loop-character l = string_bytes l.line ≡ string_bytes l.fn.line ++ flat_map escaped l.yielded

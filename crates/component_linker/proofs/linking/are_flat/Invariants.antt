@@ -1,7 +1,0 @@
-use Rattle.std.proofs.Common.{◌≡◌, map, take}
-use Rattle.component_linker.specs.World.{param_item}
-use Rattle.component_linker.specs.Flat.{flat_value}
-use Rattle.component_linker.proofs.linking.are_flat.Given as goal
-
-abbrev pub invariant-loop-place : goal.invariant-loop-place
-invariant-loop-place l = take l.place l.values ≡ map (λ p. flat_value p.ty) (map param_item (take l.place l.params))

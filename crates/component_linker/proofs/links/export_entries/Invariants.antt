@@ -1,7 +1,0 @@
-use Rattle.std.proofs.Common.{◌≡◌, ◌++◌, map, flat_map, drop}
-use Rattle.component_linker.specs.Links.{export_texts, export_entries, export_entries_for}
-use Rattle.component_linker.specs.View.{linking}
-use Rattle.component_linker.proofs.links.export_entries.Given as goal
-
-abbrev pub invariant-loop-index : goal.invariant-loop-index
-invariant-loop-index l = map export_texts l.found.items ++ flat_map (export_entries_for (linking l.linking)) (drop l.index (linking l.linking).world.exports) ≡ export_entries (linking l.linking)

@@ -1,7 +1,0 @@
-use Rattle.std.proofs.Common.{◌≡◌, ◌++◌, map, flat_map, drop}
-use Rattle.component_linker.specs.Links.{import_texts, import_entries, import_entries_for}
-use Rattle.component_linker.specs.View.{linking}
-use Rattle.component_linker.proofs.links.import_entries.Given as goal
-
-abbrev pub invariant-loop-index : goal.invariant-loop-index
-invariant-loop-index l = map import_texts l.found.items ++ flat_map (import_entries_for (linking l.linking)) (drop l.index (linking l.linking).main.imports) ≡ import_entries (linking l.linking)

@@ -1,8 +1,0 @@
-use Rattle.std.proofs.Common.{◌≡◌, drop, map}
-use Rattle.component_format.specs.Definition.{parameter_value}
-use Rattle.component_linker.specs.Flat.{flat_value}
-use Rattle.component_linker.specs.Meaning.{same_values}
-use Rattle.component_linker.proofs.spaces.are_flat.Given as goal
-
-abbrev pub invariant-loop-place : goal.invariant-loop-place
-invariant-loop-place l = same_values l.values (map (λ p. flat_value p.ty) (map parameter_value l.params)) ≡ same_values (drop l.place l.values) (map (λ p. flat_value p.ty) (map parameter_value (drop l.place l.params)))

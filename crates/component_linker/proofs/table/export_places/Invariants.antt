@@ -1,8 +1,0 @@
-use Rattle.std.proofs.Common.{map, take}
-use Rattle.component_linker.specs.World.{function_item}
-use Rattle.component_linker.specs.Places.{Placed, ExportPlace}
-use Rattle.component_linker.specs.View as view
-use Rattle.component_linker.proofs.table.export_places.Given as goal
-
-abbrev pub invariant-loop-function : goal.invariant-loop-function
-invariant-loop-function l = Placed (ExportPlace (view.linking l.linking)) (map function_item (take l.function-index l.linking.world.now.exports.items)) l.places.items

@@ -1,0 +1,17 @@
+pub mod Naming
+pub mod Results
+pub mod LinkLines
+pub mod Lists
+pub mod Blocks
+pub mod Given
+pub mod Right
+pub mod PlacesFlat
+pub mod PlacesLists
+pub mod PlacesNames
+pub mod PlacesRepeats
+pub mod PlacesCauses
+pub mod WrittenNames
+pub mod WrittenLinks
+pub mod Written
+pub mod WrittenGiven
+pub mod WrittenComponent

@@ -1,0 +1,14 @@
+pub mod Flat
+pub mod CoreNames
+pub mod Linking
+pub mod Table
+pub mod Component
+pub mod Places
+pub mod Links
+pub mod View
+pub mod Cause
+pub mod Code
+pub mod Meaning
+pub mod Right
+pub mod Texts
+pub mod Candidates

@@ -1,0 +1,135 @@
+//! Why a call of a session is refused.
+
+ghost use Rattle.std.specs.Prelude.{◌≡◌, option_map};
+ghost use Rattle.wit_component.specs.Code as spec;
+
+use std::alloc::{AllocError, AllocFailed};
+use thiserror::Error;
+use wasm_format::ModuleFault;
+
+/// Why a call is refused; its text is what the program prints behind `error: `.
+#[derive(Clone, Copy, Debug, PartialEq, Eq, Drop, Error)]
+pub enum Fault {
+    /// X1: the input lies outside what is built so far.
+    #[error("X1 NotYet")]
+    NotYet,
+    /// G8: the text or list names no single world.
+    #[error("G8 WorldNotFound")]
+    WorldNotFound,
+    /// B1: no main module was handed in; given before any other.
+    #[error("B1 NoModule")]
+    NoModule,
+    /// B2: no world was chosen.
+    #[error("B2 NoWorld")]
+    NoWorld,
+    /// B6: the bytes of a module can't be read.
+    #[error("{0}")]
+    BadModule(ModuleFault),
+    /// B7: the module imports one pair of names twice.
+    #[error("B7 DuplicateImport")]
+    DuplicateImport,
+    /// B8: a core import stands for nothing.
+    #[error("B8 UnknownImport")]
+    UnknownImport,
+    /// B9: a used core name has two meanings, or a needed item has two core exports.
+    #[error("B9 Ambiguous")]
+    Ambiguous,
+    /// B10: legacy names are rejected, and an import has only a legacy meaning.
+    #[error("B10 LegacyName")]
+    LegacyName,
+    /// B11: a core import or a used core export isn't of its entry's core type.
+    #[error("B11 WrongCoreType")]
+    WrongCoreType,
+    /// B12: a needed core export isn't there.
+    #[error("B12 MissingCoreExport")]
+    MissingCoreExport,
+    /// B25: a size or index of the component would pass 4,294,967,295.
+    #[error("B25 TooLarge")]
+    TooLarge,
+    /// A request for memory was refused.
+    #[error("out of memory")]
+    OutOfMemory,
+}
+
+impl From<AllocError> for Fault {
+    ghost use Rattle.wit_component.specs.declared.fault.Fault.TheVariants.{OutOfMemory};
+
+    ghost from_gives = { λ _ e. e ≡ OutOfMemory };
+
+    fn from(_e: AllocError) -> Fault {
+        Fault::OutOfMemory
+    }
+}
+
+impl<T: Drop> From<AllocFailed<T>> for Fault {
+    ghost use Rattle.wit_component.specs.declared.fault.Fault.TheVariants.{OutOfMemory};
+
+    ghost from_gives = { λ _ e. e ≡ OutOfMemory };
+
+    fn from(_e: AllocFailed<T>) -> Fault {
+        Fault::OutOfMemory
+    }
+}
+
+impl Fault {
+    /// The code of its cause, as `B8`; none for want of memory.
+    pub fn code(&self) -> Option<&'static str>
+        ensures { option_map (λ s. s.now) result ≡ spec.code self.now }
+    {
+        match self {
+            Fault::NotYet => Some("X1"),
+            Fault::WorldNotFound => Some("G8"),
+            Fault::NoModule => Some("B1"),
+            Fault::NoWorld => Some("B2"),
+            Fault::BadModule(fault) => match fault {
+                ModuleFault::Malformed => Some("M1"),
+                ModuleFault::Unsupported => Some("M2"),
+                ModuleFault::TooLarge => Some("M3"),
+                ModuleFault::NotYet => Some("X1"),
+                ModuleFault::OutOfMemory => None,
+            },
+            Fault::DuplicateImport => Some("B7"),
+            Fault::UnknownImport => Some("B8"),
+            Fault::Ambiguous => Some("B9"),
+            Fault::LegacyName => Some("B10"),
+            Fault::WrongCoreType => Some("B11"),
+            Fault::MissingCoreExport => Some("B12"),
+            Fault::TooLarge => Some("B25"),
+            Fault::OutOfMemory => None,
+        }
+    }
+
+    /// The name of its cause, as `UnknownImport`.
+    pub fn name(&self) -> &'static str
+        ensures { result.now ≡ spec.name self.now }
+    {
+        match self {
+            Fault::NotYet => "NotYet",
+            Fault::WorldNotFound => "WorldNotFound",
+            Fault::NoModule => "NoModule",
+            Fault::NoWorld => "NoWorld",
+            Fault::BadModule(fault) => match fault {
+                ModuleFault::Malformed => "Malformed",
+                ModuleFault::Unsupported => "Unsupported",
+                ModuleFault::TooLarge => "TooLarge",
+                ModuleFault::NotYet => "NotYet",
+                ModuleFault::OutOfMemory => "OutOfMemory",
+            },
+            Fault::DuplicateImport => "DuplicateImport",
+            Fault::UnknownImport => "UnknownImport",
+            Fault::Ambiguous => "Ambiguous",
+            Fault::LegacyName => "LegacyName",
+            Fault::WrongCoreType => "WrongCoreType",
+            Fault::MissingCoreExport => "MissingCoreExport",
+            Fault::TooLarge => "TooLarge",
+            Fault::OutOfMemory => "OutOfMemory",
+        }
+    }
+
+    /// Its place in a text, as `PATH:LINE:COLUMN`; no fault of this stage has one.
+    pub fn place(&self) -> Option<&str>
+        ensures { option_map (λ s. s.now) result ≡ spec.place self.now }
+    {
+        None
+    }
+}

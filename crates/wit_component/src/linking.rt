@@ -1,0 +1,122 @@
+//! What is linked: the chosen world and the main module.
+
+ghost use Rattle.std.specs.Prelude.{◌≡◌, ◌∷◌, [], map, option_map, Some, true, false};
+ghost use Rattle.wit_component.specs.Meaning.{same_values};
+ghost use Rattle.wasm_format.specs.Module.{func_type_value, import_value, export_value, module_value};
+ghost use Rattle.wit_component.specs.Flat.{flat_value, flat_result, flat};
+ghost use Rattle.wit_resolve.specs.World.{param_item, function_item};
+ghost use Rattle.wit_component.specs.Linking.{entity_type, function_type_at};
+
+use component_format::PrimitiveType;
+use wasm_format::{CoreModule, EntityType, Export, FuncType, Import, ValType};
+use wit_resolve::{Function, Param, World};
+
+/// The chosen world, the main module, and whether legacy names stand for nothing.
+#[derive(Drop)]
+pub struct Linking<'s, 'a> {
+    pub world: &'s World,
+    pub bytes: &'a [u8],
+    pub main: CoreModule<'a>,
+    pub rejects_legacy: bool,
+}
+
+impl<'s, 'a> Linking<'s, 'a> {
+    /// The core type of an import.
+    pub fn import_type(&self, import: &Import) -> Option<&FuncType>
+        ensures { option_map (λ t. func_type_value t.now) result ≡ entity_type (module_value self.now.main) import.now.ty }
+    {
+        match import.ty {
+            EntityType::Function(ty) => self.main.types.get(ty as usize),
+        }
+    }
+
+    /// The core type of an export; imported functions come first in the index space
+    /// (WebAssembly Core, Modules, Indices).
+    pub fn export_type(&self, export: &Export) -> Option<&FuncType>
+        ensures { option_map (λ t. func_type_value t.now) result ≡ function_type_at (module_value self.now.main) export.now.index }
+    {
+        let index = export.index as usize;
+        let imports = self.main.imports.len();
+        if index < imports {
+            let import = self.main.imports.get(index)?;
+            return self.import_type(import);
+        }
+        let ty = self.main.functions.get(index - imports)?;
+        self.main.types.get(*ty as usize)
+    }
+}
+
+/// The core value of a primitive type (Canonical ABI, Flattening).
+pub fn flat_value(ty: PrimitiveType) -> ValType
+    ensures { result ≡ flat_value ty }
+{
+    match ty {
+        PrimitiveType::S64 | PrimitiveType::U64 => ValType::I64,
+        PrimitiveType::Bool
+        | PrimitiveType::S8
+        | PrimitiveType::U8
+        | PrimitiveType::S16
+        | PrimitiveType::U16
+        | PrimitiveType::S32
+        | PrimitiveType::U32 => ValType::I32,
+    }
+}
+
+/// Whether this is the core value of a primitive type.
+fn is_flat_value(value: ValType, ty: PrimitiveType) -> bool
+    ensures is { result ≡ true → value ≡ flat_value ty }
+    ensures is_not { result ≡ false → ¬ (value ≡ flat_value ty) }
+    ensures same { result ≡ same_values (value ∷ []) (flat_value ty ∷ []) }
+{
+    value == flat_value(ty)
+}
+
+/// Whether these are the core values of a result.
+pub fn is_flat_result(values: &[ValType], result_type: Option<PrimitiveType>) -> bool
+    ensures is { result ≡ true → values.now ≡ flat_result result_type }
+    ensures is_not { result ≡ false → ¬ (values.now ≡ flat_result result_type) }
+    ensures same { result ≡ same_values values.now (flat_result result_type) }
+{
+    match result_type {
+        None => values.is_empty(),
+        Some(ty) => match values {
+            [value] => is_flat_value(*value, ty),
+            _ => false,
+        },
+    }
+}
+
+/// Whether these are the core values of parameters.
+fn are_flat(values: &[ValType], params: &[Param]) -> bool
+    ensures is { result ≡ true → values.now ≡ map (λ p. flat_value p.ty) (map param_item params.now) }
+    ensures is_not { result ≡ false → ¬ (values.now ≡ map (λ p. flat_value p.ty) (map param_item params.now)) }
+{
+    if values.len() != params.len() {
+        return false;
+    }
+    for (place, value) in values.iter().enumerate() {
+        if !is_flat_value(*value, params[place].ty) {
+            return false;
+        }
+    }
+    true
+}
+
+/// Whether a core type is that of a function.
+pub fn is_flat(core: &FuncType, function: &Function) -> bool
+    ensures is { result ≡ true → func_type_value core.now ≡ flat (function_item function.now).ty }
+    ensures is_not { result ≡ false → ¬ (func_type_value core.now ≡ flat (function_item function.now).ty) }
+{
+    are_flat(&core.params, &function.params) && is_flat_result(&core.results, function.result)
+}
+
+/// Whether there is a core type, that of a function.
+pub fn is_of_type(core: Option<&FuncType>, function: &Function) -> bool
+    ensures is { result ≡ true → option_map (λ t. func_type_value t.now) core.entry ≡ Some (flat (function_item function.now).ty) }
+    ensures is_not { result ≡ false → ¬ (option_map (λ t. func_type_value t.now) core.entry ≡ Some (flat (function_item function.now).ty)) }
+{
+    match core {
+        Some(core) => is_flat(core, function),
+        None => false,
+    }
+}
