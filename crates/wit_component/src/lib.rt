@@ -14,7 +14,7 @@ pub use encoder::encode;
 pub use fault::Fault;
 pub use law::law_written_meets_all;
 pub use link::{Link, LinkKind, LinkSide, Owner, lines_of};
-pub use linking::{Linking, flat_value, is_flat, is_flat_result};
+pub use linking::{Linking, flat_value, is_flat_result};
 pub use links::links_of;
 pub use string_encoding::StringEncoding;
 pub use table::{Table, needed_functions, references, table_of};

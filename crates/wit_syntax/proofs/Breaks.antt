@@ -25,7 +25,7 @@ rule_is : (r s : Rule) → refused r ≡ refused s → s ≡ r
 rule_is r s e = cc
 
 -- which rule is broken where no lexeme is cut
-abbrev Which : Rule → Text → Type 0
+abbrev pub Which : Rule → Text → Type 0
 Which rule z = ((rule ≡ rules.BadCharacter) × (begins 47 42 z ≡ false)) ⊎ ((rule ≡ rules.OpenComment) × (begins 47 42 z ≡ true))
 
 not_opened : (b : ℕ) (z : Text) → eqb b 47 ≡ false → begins 47 42 (b ∷ z) ≡ false
@@ -67,7 +67,7 @@ digits_refuse : (o : Option ℕ) (z : Text) (rule : Rule) → version_or_number 
 digits_refuse (Some n) z rule e = absurd cc
 digits_refuse None z rule e = absurd cc
 
-lexeme_refuses : (z : Text) (rule : Rule) → 1 ≤ length z → lexeme_at z ≡ Err rule → Which rule z
+pub lexeme_refuses : (z : Text) (rule : Rule) → 1 ≤ length z → lexeme_at z ≡ Err rule → Which rule z
 unfolding lexeme_at
 lexeme_refuses [] rule some e = absurd (omega arith)
 lexeme_refuses (b ∷ z) rule some e = elim (cases_Bool (is_in class.Blank b)) [

@@ -5,6 +5,7 @@ pub mod Comments
 pub mod Lexemes
 pub mod Breaks
 pub mod Readings
+pub mod OneBreak
 pub mod ItemLaws
 pub mod Slices
 pub mod Laws

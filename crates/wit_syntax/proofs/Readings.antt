@@ -51,7 +51,7 @@ first at (b ∷ z) some = cut (lexeme_at (b ∷ z)) refl
 adds : (span : Span) (p : Piece) (o : Result Piece Rule) (ts : List Tok) → o ≡ Ok p → Adds span o ts (put span p ts)
 adds span p o ts is = rw is refl
 
-some_break : (b : Break) → Some b ≡ None → ⊥
+pub some_break : (b : Break) → Some b ≡ None → ⊥
 some_break b e = absurd cc
 
 -- where no rule is broken; the number is at least the text's length
@@ -121,7 +121,7 @@ record StopsThere (at : ℕ) (z : Text) (ts : List Tok) (b : Break) : Type 0 whe
   lies : b.at ≡ at + length before
   broken : BreaksText b.rule place
 
-some_same : (b c : Break) → Some b ≡ Some c → b ≡ c
+pub some_same : (b c : Break) → Some b ≡ Some c → b ≡ c
 some_same b c e = cc
 
 break_found : (n at : ℕ) (z : Text) (r : Reading) (b : Break) → length z ≤ n → read_bare at z ≡ r → r.broken ≡ Some b → StopsThere at z r.tokens b
@@ -161,10 +161,10 @@ break_found (suc n) at (c ∷ z) r b fits is e = elim (first at (c ∷ z) (omega
 -- ---- whole texts
 
 -- a byte order mark is passed over
-abbrev Marking : ℕ → Text → Type 0
+abbrev pub Marking : ℕ → Text → Type 0
 Marking at text = ((rest : Text) × (text ≡ mark ++ rest) × (without_mark at text ≡ (at + 3, rest))) ⊎ (((rest : Text) → text ≡ mark ++ rest → ⊥) × (without_mark at text ≡ (at, text)))
 
-marking : (at : ℕ) (text : Text) → Marking at text
+pub marking : (at : ℕ) (text : Text) → Marking at text
 marking at [] = inr (λ rest is. absurd cc, refl)
 marking at (a ∷ []) = inr (λ rest is. absurd cc, refl)
 marking at (a ∷ b ∷ []) = inr (λ rest is. absurd cc, refl)

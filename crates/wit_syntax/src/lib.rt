@@ -32,7 +32,9 @@ pub use ast::{
 pub use docs::Docs;
 pub use fault::{Rule, SyntaxFault};
 pub use identifier::{is_identifier, validate_id};
-pub use law::{law_one_reading, law_tokens_are_slices};
+pub use law::{
+    law_a_break_is_one, law_a_fault_denies_a_tree, law_one_reading, law_tokens_are_slices,
+};
 pub use name_key::{NameKey, law_name_keys_fold_as_names_do};
 pub use source_map::{SourceFault, SourceMap, Span};
 pub use text::{parse_file, parse_type, parse_use_path};

@@ -1,6 +1,6 @@
 //! Whole texts.
 
-ghost use Rattle.std.specs.Prelude.{◌≡◌, ◌-◌, ◌+◌, ◌<◌, ◌^◌, ◌≤◌, List, length, IfOk, IfErr};
+ghost use Rattle.std.specs.Prelude.{◌≡◌, ◌-◌, ◌+◌, ◌<◌, ◌^◌, ◌≤◌, List, length, Err, IfOk, IfErr};
 ghost use Rattle.wit_syntax.specs.AstView as view;
 ghost use Rattle.wit_syntax.specs.Ast.{FileTree, UsePathTree};
 ghost use Rattle.wit_syntax.specs.Broken.{IsSyntaxFault};
@@ -77,6 +77,7 @@ pub fn parse_file<'a>(alloc: Global, text: &'a str, offset: u32) -> Result<File<
     ensures found { IfOk result (λ f. IsText offset text.now (view.file f)) }
     ensures only { (d : FileTree) → IsText offset text.now d → AnswersText view.file result d }
     ensures cause { IfErr result (IsSyntaxFault file offset text.now) }
+    ensures large { 2 ^ 32 ≤ offset + length text.now → result ≡ Err SyntaxFault.TooLarge }
 {
     let tokens = lex(alloc, text, offset)?;
     file_of(alloc, &tokens, end_of(text, offset))
@@ -97,6 +98,7 @@ pub fn parse_use_path(alloc: Global, text: &str) -> Result<UsePath<'_>, SyntaxFa
     ensures found { IfOk result (λ p. IsUsePath text.now (view.use_path p)) }
     ensures only { (d : UsePathTree) → IsUsePath text.now d → AnswersText view.use_path result d }
     ensures cause { IfErr result (IsSyntaxFault whole_use_path 0 text.now) }
+    ensures large { 2 ^ 32 ≤ length text.now → result ≡ Err SyntaxFault.TooLarge }
 {
     let tokens = lex(alloc, text, 0)?;
     use_path_of(&tokens, end_of(text, 0))
@@ -121,6 +123,7 @@ pub fn parse_type(alloc: Global, text: &str) -> Result<Type<'_>, SyntaxFault>
     ensures found { IfOk result (λ t. IsType text.now (type_tree t)) }
     ensures only { (d : TypeTree) → IsType text.now d → AnswersText type_tree result d }
     ensures cause { IfErr result (IsSyntaxFault whole_type 0 text.now) }
+    ensures large { 2 ^ 32 ≤ length text.now → result ≡ Err SyntaxFault.TooLarge }
 {
     let tokens = lex(alloc, text, 0)?;
     type_of(alloc, &tokens, end_of(text, 0))
