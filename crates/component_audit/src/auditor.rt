@@ -32,7 +32,11 @@ use wasm_format::{Export, Import};
 use wit_component::{Fault, Linking, Table, needed_functions, references, table_of};
 use wit_resolve::{Function, Param};
 
-/// Judges bytes against what is linked.
+/// Judges bytes against what is linked: yes where they meet each condition of being right, and else a finding, a condition
+/// that fails of them, and where.
+///
+/// Refuses as `table_of` does, and with X1 where the bytes have a section or form that is still to come, or a core module
+/// other than the main one.
 pub fn judge(alloc: Global, linking: &Linking, bytes: &[u8]) -> Result<Verdict, Fault>
     requires { world_fits (view.linking linking.now).world ≡ true }
     ensures verdict { IfOk result (Says (view.linking linking.now) bytes.now) }

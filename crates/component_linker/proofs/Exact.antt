@@ -18,7 +18,8 @@ use Rattle.component_linker.specs.Answered.{IsReady}
 use Rattle.wit_component.specs.Right.{MeetsAll}
 use Rattle.component_audit.specs.Judged.{Denies, IsFinding, IsBeyond}
 use Rattle.component_linker.specs.Judged.{IsJudged, IsAuditCause}
-use Rattle.component_linker.proofs.NoCause.{any_each, one_linking, no_cause}
+use Rattle.wit_component.proofs.NoCause.{any_each}
+use Rattle.component_linker.proofs.NoCause.{one_linking, no_cause}
 
 -- what right bytes stand for meets all conditions, however they are linked and read
 meets : (input : Input) (bytes : List ℕ) → IsRight input bytes → (l : Linking) → IsReady input l → (ds : List DefinitionValue) → IsComponent bytes ds → MeetsAll l (meaning l.main ds)

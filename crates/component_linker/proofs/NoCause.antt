@@ -1,28 +1,21 @@
 -- Where nothing stands in the way of an input, no cause of a refusal holds.
-use Rattle.std.proofs.Common.{◌≡◌, ℕ, zero, suc, ◌⊎◌, Bool, true, false, List, [], ◌∷◌, length, filter, Any, Some, refl, sym, ap, subst, ◌∙◌, arith, inl, inr}
-use Rattle.std.specs.Prelude.{bytes_eq}
-use Rattle.std.specs.List.{AllByRecursion as Each}
-use Rattle.std.proofs.lemmas.Bool.{cases_Bool, and_parts}
-use Rattle.std.proofs.lemmas.Slice.Eq.{bytes_eq-Decides}
+use Rattle.std.proofs.Common.{◌≡◌, true, false, List, ℕ, refl, sym, ap, subst, ◌∙◌, arith, inl, inr}
 use Rattle.std.proofs.lemmas.Option.{same_Some}
 use Rattle.wasm_format.specs.declared.fault.ModuleFault.{ModuleFault}
 use Rattle.wasm_format.specs.declared.fault.ModuleFault.TheVariants as modules
 use Rattle.wasm_format.specs.Module.{ModuleValue}
 use Rattle.wasm_format.specs.Grammar.{IsModule, IsModuleFault}
 use Rattle.wasm_format.proofs.Sections.{one_break, one_module}
+use Rattle.component_format.specs.Spelling.{component_fits}
 use Rattle.wit_component.specs.declared.fault.Fault.{Fault}
 use Rattle.wit_component.specs.declared.fault.Fault.TheVariants as faults
-use Rattle.wit_resolve.specs.World.{FunctionItem}
-use Rattle.wit_component.specs.Flat.{flat}
-use Rattle.wit_component.specs.CoreNames.{root, standard, is_import_name, is_memory_name}
+use Rattle.wit_component.specs.Linking.{Linking, main_of}
+use Rattle.wit_component.specs.Component.{component_of}
+use Rattle.wit_component.specs.Cause.{IsLinkCause}
+use Rattle.wit_component.proofs.NoCause.{no_link_cause}
 use Rattle.component_linker.specs.Input.{Input, ModuleInput, world_at}
 use Rattle.component_linker.specs.ModuleCause.{refusal_of}
-use Rattle.wit_component.specs.Linking.{CoreImport, CoreExport, Linking, main_of}
 use Rattle.component_linker.specs.Linking.{Links}
-use Rattle.wit_component.specs.Table.{imported_by, exported_by, ImportLink, ExportLink, IsLinked}
-use Rattle.component_format.specs.Spelling.{component_fits}
-use Rattle.wit_component.specs.Component.{component_of}
-use Rattle.wit_component.specs.Cause.{IsImportCause, IsExportCause, IsLinkCause, IsLinkable}
 use Rattle.component_linker.specs.Cause.{IsCause, IsBuildCause}
 use Rattle.component_linker.specs.Answered.{IsReady, IsBuilt}
 
@@ -37,73 +30,6 @@ one_linking input l m h k =
     let main : l.main ≡ m.main = h.main ∙ ap (λ (x : ModuleInput). main_of x.bytes h.core) handed ∙ ap (main_of k.handed.bytes) core ∙ sym k.main in
     let rejects : l.rejects_legacy ≡ m.rejects_legacy = h.rejects ∙ sym k.rejects in
     λ i. record { world = world i; main = main i; rejects_legacy = rejects i }
-
--- ---- a link, and a cause that denies it
-
-pub any_each : {X : Type 0} (P Q : X → Type 0) (xs : List X) → Each P xs → Any Q xs → (x : X) × P x × Q x
-any_each P Q [] h (k, x, l, is, q) = absurd (omega arith)
-any_each P Q (y ∷ ys) h (zero, x, l, is, q) = (y, h.0, subst Q (sym is) q)
-any_each P Q (y ∷ ys) h (suc k, x, l, is, q) = any_each P Q ys h.1 (k, x, omega arith, is, q)
-
-passes : {X : Type 0} (p : X → Bool) (xs : List X) (x : X) (more : List X) → filter p xs ≡ x ∷ more → p x ≡ true
-passes p [] x more e = absurd cc
-passes p (y ∷ ys) x more e = elim (cases_Bool (p y)) [
-  | inl yes_it ↦ let kept = rw yes_it at e in let same : y ≡ x = cc in subst (λ z. p z ≡ true) same yes_it
-  | inr other ↦ passes p ys x more (rw other at e)
-]
-
-two_places : (place : List ℕ) → bytes_eq place root ≡ true → bytes_eq place standard ≡ true → ⊥
-two_places place r s =
-    let same : root ≡ standard = sym ((bytes_eq-Decides place root).0 r) ∙ (bytes_eq-Decides place standard).0 s in
-    absurd cc
-
--- where legacy names are rejected, what stands for an import stands under the standard text
-rejected : (place name function : List ℕ) → is_import_name true place name function ≡ true → bytes_eq place standard ≡ true
-rejected place name function e = elim (cases_Bool (bytes_eq place standard)) [
-  | inl is ↦ is
-  | inr other ↦ absurd (let bad = rw other at e in cc)
-]
-
-import_link : (l : Linking) (i : CoreImport) (f : FunctionItem) → ImportLink l i f → (fault : Fault) → IsImportCause l fault i → ⊥
-import_link l i f h faults.UnknownImport none = let bad = sym h.only ∙ none in absurd cc
-import_link l i f h faults.Ambiguous several = let one : length (imported_by l i) ≡ 1 = ap length h.only in absurd (omega arith)
-import_link l i f h faults.LegacyName (rejects, any) =
-    let stands : is_import_name l.rejects_legacy i.place i.name f.name ≡ true = passes (λ g. is_import_name l.rejects_legacy i.place i.name g.name) l.world.imports f [] h.only in
-    let under = rejected i.place i.name f.name (rw rejects at stands) in
-    let legacy = (and_parts (bytes_eq i.place root) (bytes_eq i.name any.1.name) any.4).0 in
-    two_places i.place legacy under
-import_link l i f h faults.WrongCoreType (g, only, differs) =
-    let same : f ∷ [] ≡ g ∷ [] = sym h.only ∙ only in
-    let is : f ≡ g = cc in
-    differs (h.matches ∙ ap (λ (x : FunctionItem). Some (flat x.ty)) is)
-import_link l i f h _ cause = absurd cause
-
-export_link : (l : Linking) (f : FunctionItem) (e : CoreExport) → ExportLink l f e → (fault : Fault) → IsExportCause l fault f → ⊥
-export_link l f e h faults.MissingCoreExport none = let bad = sym h.only ∙ none in absurd cc
-export_link l f e h faults.Ambiguous (inl several) = let one : length (exported_by l f) ≡ 1 = ap length h.only in absurd (omega arith)
-export_link l f e h faults.Ambiguous (inr memory) =
-    let shared = any_each (λ x. is_memory_name l.rejects_legacy x.name ≡ false) (λ x. is_memory_name l.rejects_legacy x.name ≡ true) (e ∷ []) (h.one_meaning, tt) (subst (λ xs. Any (λ x. is_memory_name l.rejects_legacy x.name ≡ true) xs) h.only memory) in
-    let bad : false ≡ true = sym shared.1 ∙ shared.2 in absurd cc
-export_link l f e h faults.WrongCoreType (g, only, differs) =
-    let same : e ∷ [] ≡ g ∷ [] = sym h.only ∙ only in
-    let is : e ≡ g = cc in
-    differs (ap (λ (x : CoreExport). x.ty) (sym is) ∙ h.matches)
-export_link l f e h _ cause = absurd cause
-
-some_link : (l : Linking) → IsLinked l → (fault : Fault) → Any (IsImportCause l fault) l.main.imports ⊎ Any (IsExportCause l fault) l.world.exports → ⊥
-some_link l h fault (inl any) = let at = any_each (λ i. (f : FunctionItem) × ImportLink l i f) (IsImportCause l fault) l.main.imports h.imports any in import_link l at.0 at.1.0 at.1.1 fault at.2
-some_link l h fault (inr any) = let at = any_each (λ f. (e : CoreExport) × ExportLink l f e) (IsExportCause l fault) l.world.exports h.exports any in export_link l at.0 at.1.0 at.1.1 fault at.2
-
-pub no_link_cause : (l : Linking) → IsLinkable l → (fault : Fault) → IsLinkCause l fault → fault ≡ faults.OutOfMemory
-no_link_cause l h faults.NoModule cause = absurd cause
-no_link_cause l h faults.NoWorld cause = absurd cause
-no_link_cause l h faults.WorldNotFound cause = absurd cause
-no_link_cause l h (faults.BadModule m) cause = absurd cause
-no_link_cause l h faults.TooLarge cause = absurd cause
-no_link_cause l h faults.OutOfMemory cause = refl
-no_link_cause l h faults.NotYet cause = absurd (h.plain cause)
-no_link_cause l h faults.DuplicateImport cause = absurd (h.distinct cause)
-no_link_cause l h fault cause = absurd (some_link l h.linked fault cause)
 
 -- ---- of an input
 

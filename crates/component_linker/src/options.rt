@@ -6,15 +6,22 @@ use std::alloc::Global;
 use std::collections::HashMap;
 use std::marker::Model;
 
-/// The options of a session.
+/// The options of a session; the setters of `Session` change them.
 #[derive(Drop)]
 pub struct Options {
+    /// Imported interfaces of one version track are merged.
     pub merge_imports_based_on_semver: bool,
+    /// Imports and exports are named by version track.
     pub emit_canonical_names: bool,
+    /// Core names of the legacy mangling stand for nothing.
     pub reject_legacy_names: bool,
+    /// Stand-ins call through references.
     pub shim_return_call_ref: bool,
+    /// Generated modules carry names.
     pub debug_names: bool,
+    /// The component reader looks at the bytes before they are answered.
     pub validate: bool,
+    /// New names of imported instances, by their keys.
     pub import_name_map: HashMap<String, String>,
 }
 

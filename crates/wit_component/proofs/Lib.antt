@@ -15,3 +15,4 @@ pub mod WrittenLinks
 pub mod Written
 pub mod WrittenGiven
 pub mod WrittenComponent
+pub mod NoCause

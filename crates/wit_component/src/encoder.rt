@@ -365,7 +365,8 @@ fn put_component<'e>(
     Ok(())
 }
 
-/// The bytes of the component.
+/// The bytes of the component that joins the main module with the world. Refuses as `table_of` does, and with B25 where
+/// nothing else is in the way.
 pub fn encode(alloc: Global, linking: &Linking) -> Result<Vec<u8>, Fault>
     requires { world_fits (view.linking linking.now).world ≡ true }
     ensures found { IfOk result (λ v. IsComponent v.items (spec.component_of (view.linking linking.now))) }

@@ -12,7 +12,7 @@ mod table;
 
 pub use encoder::encode;
 pub use fault::Fault;
-pub use law::law_written_meets_all;
+pub use law::{law_linkable_has_no_cause, law_written_meets_all};
 pub use link::{Link, LinkKind, LinkSide, Owner, lines_of};
 pub use linking::{Linking, flat_value, is_flat_result};
 pub use links::links_of;

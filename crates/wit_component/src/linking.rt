@@ -14,9 +14,13 @@ use wit_resolve::{Function, Param, World};
 /// The chosen world, the main module, and whether legacy names stand for nothing.
 #[derive(Drop)]
 pub struct Linking<'s, 'a> {
+    /// The world whose imports and exports are linked.
     pub world: &'s World,
+    /// The bytes of the main module.
     pub bytes: &'a [u8],
+    /// What a reader found in them.
     pub main: CoreModule<'a>,
+    /// Names of the legacy mangling stand for nothing.
     pub rejects_legacy: bool,
 }
 

@@ -151,7 +151,7 @@ fn links_in_order(
     Ok(links)
 }
 
-/// The link table: imports by module text and name, then exports by name.
+/// The link table: imports by module text and name, then exports by name. Refuses as `table_of` does.
 pub fn links_of(alloc: Global, linking: &Linking) -> Result<Vec<Link>, Fault>
     ensures links { IfOk result (λ v. AreLinks (view.linking linking.now) (map spec.link_value v.items)) }
     ensures linkable { IfOk result (λ v. IsLinkable (view.linking linking.now)) }

@@ -110,7 +110,7 @@ fn text_of(alloc: Global, front: &str, back: &str) -> Result<String, AllocError>
     Ok(text)
 }
 
-/// The link table, or why there is none.
+/// The link table. Answers X1 where the module asks for, or offers, what is still to come, and B7 to B12.
 pub fn table_of<'a>(alloc: Global, linking: &Linking<'_, 'a>) -> Result<Table<'a>, Fault>
     ensures found { IfOk result (λ t. ArePlaces (view.linking linking.now) (view.places t)) }
     ensures linkable { IfOk result (λ t. IsLinkable (view.linking linking.now)) }
