@@ -2,7 +2,7 @@
 # checks/edits.sh [CRATE..]
 #
 # Tries the edits of checks/edits, of these crates or of all, in a copy of the repository: the prover has to refuse each.
-# They are wrong bodies of functions of which `rt ci` tries another, or of private ones, and would double its time.
+# They are wrong bodies of functions of which `rt ci` tries another, or of private ones.
 set -eu
 
 top=$(CDPATH='' cd -- "$(dirname -- "$0")/.." && pwd)
