@@ -1,8 +1,7 @@
 -- From the causes of a linking to those of its input.
-use Rattle.std.proofs.Common.{◌≡◌, ◌≢◌, ◌⊎◌, true, List, ℕ, Any, sym, subst, inl, inr, ap, ◌∙◌}
+use Rattle.std.proofs.Common.{◌≡◌, true, List, ℕ, sym, subst, inl, inr, ap, ◌∙◌}
 use Rattle.wit_component.specs.declared.fault.Fault.{Fault}
 use Rattle.wit_component.specs.declared.fault.Fault.TheVariants as faults
-use Rattle.component_format.specs.Definition.{DefinitionValue}
 use Rattle.component_format.specs.Grammar.{IsComponent}
 use Rattle.component_format.specs.Spelling.{component_fits}
 use Rattle.component_linker.specs.Input.{Input}

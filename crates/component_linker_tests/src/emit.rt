@@ -1,54 +1,39 @@
-//! Writers that fail, or take nothing, in the middle of a component.
+//! Writers that fail, or take nothing, in the middle of what is written.
 
-use component_linker::{LineFault, emit, read_line, run};
+use crate::first::{IMPORTER, LOWERED, TEXT};
+use component_linker::{Line, LineFault, emit, read_line, run};
 use std::alloc::Global;
 use std::io;
 use std::io::{ErrorKind, Write};
-use std::test::Fail;
-
-const IMPORTS_F: &[u8] = b"package a:b; world w { import f: func(); }";
-
-/// Imports `$root` `f` of type () to ().
-const IMPORTER: [u8; 27] = [
-    0x00, 0x61, 0x73, 0x6d, 0x01, 0x00, 0x00, 0x00, 0x01, 0x04, 0x01, 0x60, 0x00, 0x00, 0x02, 0x0b,
-    0x01, 0x05, 0x24, 0x72, 0x6f, 0x6f, 0x74, 0x01, 0x66, 0x00, 0x00,
-];
-
-/// Its component.
-const LOWERED: [u8; 79] = [
-    0x00, 0x61, 0x73, 0x6d, 0x0d, 0x00, 0x01, 0x00, 0x07, 0x05, 0x01, 0x40, 0x00, 0x01, 0x00, 0x0a,
-    0x06, 0x01, 0x00, 0x01, 0x66, 0x01, 0x00, 0x01, 0x1b, 0x00, 0x61, 0x73, 0x6d, 0x01, 0x00, 0x00,
-    0x00, 0x01, 0x04, 0x01, 0x60, 0x00, 0x00, 0x02, 0x0b, 0x01, 0x05, 0x24, 0x72, 0x6f, 0x6f, 0x74,
-    0x01, 0x66, 0x00, 0x00, 0x08, 0x05, 0x01, 0x01, 0x00, 0x00, 0x00, 0x02, 0x12, 0x02, 0x01, 0x01,
-    0x01, 0x66, 0x00, 0x00, 0x00, 0x00, 0x01, 0x05, 0x24, 0x72, 0x6f, 0x6f, 0x74, 0x12, 0x00,
-];
+use std::process::Abort;
 
 /// What a writer does once it has taken its bytes.
-#[derive(Clone, Copy, Debug, PartialEq, Eq)]
+#[derive(Clone, Copy)]
 enum Then {
     Fails,
     TakesNothing,
 }
 
-/// Takes so many bytes, at most so many a call.
+/// How a writer takes bytes: so many a call, and what it does at its end.
+type Way = (usize, Then);
+
+/// Takes so many bytes, and then ends.
 #[derive(Drop)]
 struct Stops {
     held: Vec<u8>,
     left: usize,
-    most: usize,
-    then: Then,
+    way: Way,
     /// Whether it was called again behind its end.
     again: bool,
     ended: bool,
 }
 
 impl Stops {
-    fn after(alloc: Global, left: usize, most: usize, then: Then) -> Stops {
+    fn after(alloc: Global, left: usize, way: Way) -> Stops {
         Stops {
             held: Vec::new(alloc),
             left,
-            most,
-            then,
+            way,
             again: false,
             ended: false,
         }
@@ -57,15 +42,16 @@ impl Stops {
 
 impl Write for Stops {
     fn write(&mut self, bytes: &[u8]) -> io::Result<usize> {
+        let (most, then) = self.way;
         self.again = self.ended;
         if self.left == 0 {
             self.ended = true;
-            return match self.then {
+            return match then {
                 Then::Fails => Err(io::Error::from(ErrorKind::Other)),
                 Then::TakesNothing => Ok(0),
             };
         }
-        let count = bytes.len().min(self.most).min(self.left);
+        let count = bytes.len().min(most).min(self.left);
         self.held.extend_from_slice(&bytes[..count])?;
         self.left -= count;
         Ok(count)
@@ -76,206 +62,261 @@ impl Write for Stops {
     }
 }
 
-const WAYS: [(usize, Then); 6] = [
+const WAYS: &[Way] = &[
     (1000, Then::Fails),
     (1000, Then::TakesNothing),
-    (1, Then::Fails),
-    (1, Then::TakesNothing),
+    (100, Then::Fails),
+    (79, Then::Fails),
+    (78, Then::Fails),
     (32, Then::Fails),
     (32, Then::TakesNothing),
+    (7, Then::Fails),
+    (2, Then::Fails),
+    (1, Then::Fails),
+    (1, Then::TakesNothing),
+];
+
+/// The first so many bytes, or all where there are fewer.
+fn front(bytes: &[u8], count: usize) -> &[u8] {
+    &bytes[..count.min(bytes.len())]
+}
+
+/// A writer that ends after so many of the bytes gets those, and isn't called again behind its end.
+fn check_front(rt: &(impl Abort + AllocGlobal), bytes: &[u8], left: usize, way: Way) {
+    let mut out = Stops::after(rt.alloc(), left, way);
+    let written = match emit(bytes, &mut out) {
+        Ok(()) => bytes.len(),
+        Err(fault) => fault.written,
+    };
+    assert!(rt;
+        written == left.min(bytes.len()),
+        "wrote {written} of {left}"
+    );
+    assert!(rt; out.held.as_slice() == front(bytes, left), "after {left}");
+    // One that has no room behind the last byte is never asked again.
+    assert!(rt; out.ended == (left < bytes.len()), "after {left}");
+    assert!(rt; !out.again, "it is called again after {left}");
+}
+
+/// The bytes 0 to 78.
+const COUNTING: &[u8] = &[
+    0, 1, 2, 3, 4, 5, 6, 7, 8, 9, 10, 11, 12, 13, 14, 15, 16, 17, 18, 19, 20, 21, 22, 23, 24, 25,
+    26, 27, 28, 29, 30, 31, 32, 33, 34, 35, 36, 37, 38, 39, 40, 41, 42, 43, 44, 45, 46, 47, 48, 49,
+    50, 51, 52, 53, 54, 55, 56, 57, 58, 59, 60, 61, 62, 63, 64, 65, 66, 67, 68, 69, 70, 71, 72, 73,
+    74, 75, 76, 77, 78,
 ];
 
 #[test]
-fn writes_the_front_of_a_component(rt: HostRuntime) -> Result<(), Fail> {
-    for (most, then) in WAYS {
-        for left in 0..79usize {
-            let mut out = Stops::after(rt.alloc(), left, most, then);
-            let Err(fault) = emit(&LOWERED, &mut out) else {
-                return Ok(assert!(rt; false, "{then:?} after {left}, {most} a call"));
-            };
-            assert_eq!(rt; fault.written, left, "{then:?}, {most} a call");
-            let (front, _) = LOWERED.as_slice().split_at(left);
-            assert_eq!(rt; out.held.as_slice(), front, "{then:?}, {most} a call");
-            assert!(rt;
-                out.ended && !out.again,
-                "it isn't called again after {left}"
-            );
-        }
-    }
-    Ok(())
-}
-
-#[test]
-fn writes_a_whole_component(rt: HostRuntime) {
-    for (most, then) in WAYS {
-        // One that has no room behind the last byte is never asked again.
-        for left in [79usize, 80] {
-            let mut out = Stops::after(rt.alloc(), left, most, then);
-            assert!(rt; emit(&LOWERED, &mut out).is_ok(), "{then:?}, {most} a call");
-            assert_eq!(rt;
-                out.held.as_slice(),
-                LOWERED.as_slice(),
-                "{then:?}, {most} a call"
-            );
-            assert!(rt; !out.ended, "{then:?}, {most} a call");
+fn emit_writes_the_front_and_the_whole(rt: HostRuntime) {
+    for bytes in [LOWERED, COUNTING, b""] {
+        for way in WAYS {
+            for left in 0..81usize {
+                check_front(&rt, bytes, left, *way);
+            }
         }
     }
 }
 
-const FILES: [(&str, &[u8]); 3] = [
-    ("a.wit", IMPORTS_F),
-    ("m.wasm", &IMPORTER),
-    ("c.wasm", &LOWERED),
-];
+/// A run over the files that is answered: its words, the answer, and what is said where that can't be written.
+type Answered = (&'static [&'static str], &'static [u8], &'static [u8]);
 
 const LINK_LINE: &[u8] = b"import main $root f lower $root f - - - - -\n";
 
-/// Actions with what each writes.
-const ACTIONS: [(&str, &[u8]); 3] = [
-    ("build", &LOWERED),
-    ("links", LINK_LINE),
-    ("audit", b"yes\n"),
+const ANSWERED: &[Answered] = &[
+    (
+        &["build", "--world", "w", "text=a.wit", "main==m.wasm"],
+        LOWERED,
+        b"error: file -\n",
+    ),
+    (
+        &[
+            "build",
+            "--world",
+            "w",
+            "-o",
+            "d/c.wasm",
+            "text=a.wit",
+            "main==m.wasm",
+        ],
+        LOWERED,
+        b"error: file d/c.wasm\n",
+    ),
+    (
+        &["links", "--world", "w", "text=a.wit", "main==m.wasm"],
+        LINK_LINE,
+        b"error: file -\n",
+    ),
+    (
+        &[
+            "links",
+            "--world",
+            "w",
+            "-o",
+            "d/c.wasm",
+            "text=a.wit",
+            "main==m.wasm",
+        ],
+        LINK_LINE,
+        b"error: file d/c.wasm\n",
+    ),
+    (
+        &[
+            "audit",
+            "--world",
+            "w",
+            "text=a.wit",
+            "main==m.wasm",
+            "component=c.wasm",
+        ],
+        b"yes\n",
+        b"error: file -\n",
+    ),
+    (
+        &[
+            "audit",
+            "--world",
+            "w",
+            "-o",
+            "d/c.wasm",
+            "text=a.wit",
+            "main==m.wasm",
+            "component=c.wasm",
+        ],
+        b"yes\n",
+        b"error: file d/c.wasm\n",
+    ),
 ];
 
-/// The words of an action on the files, with OUT where there is one.
-fn words<'t>(alloc: Global, action: &'t str, out: Option<&'t str>) -> Result<Vec<&'t str>, Fail> {
-    let mut words = Vec::from_slice(alloc, &[action, "--world", "w"])?;
-    if let Some(path) = out {
-        words.push("-o")?;
-        words.push(path)?;
-    }
-    words.push("text=a.wit")?;
-    words.push("main==m.wasm")?;
-    if action == "audit" {
-        words.push("component=c.wasm")?;
-    }
-    Ok(words)
-}
-
-#[test]
-fn names_the_file_that_cannot_be_written(rt: HostRuntime) -> Result<(), Fail> {
-    let outs: [(Option<&str>, &[u8]); 2] = [
-        (Some("d/c.wasm"), b"error: file d/c.wasm\n"),
-        (None, b"error: file -\n"),
+/// Runs a line over the files of the first row, and answers the exit status.
+fn run_first(
+    alloc: Global,
+    line: &Result<Line, LineFault>,
+    out: &mut Stops,
+    err: &mut Stops,
+) -> u8 {
+    let files: [(&str, &[u8]); 3] = [
+        ("a.wit", TEXT.as_bytes()),
+        ("m.wasm", IMPORTER),
+        ("c.wasm", LOWERED),
     ];
-    for (action, answer) in ACTIONS {
-        for (path, want) in outs {
-            let words = words(rt.alloc(), action, path)?;
-            let line = read_line(rt.alloc(), &words);
-            for (most, then) in WAYS {
-                for left in 0..answer.len() {
-                    let mut out = Stops::after(rt.alloc(), left, most, then);
-                    let mut err: Vec<u8> = Vec::new(rt.alloc());
-                    let status = run(rt.alloc(), &line, &FILES, &mut out, &mut err);
-                    assert_eq!(rt; status, 3, "{action}, {then:?} after {left}");
-                    assert_eq!(rt; err.as_slice(), want, "{action}, {then:?} after {left}");
-                    let (front, _) = answer.split_at(left);
-                    assert_eq!(rt;
-                        out.held.as_slice(),
-                        front,
-                        "{action}, {then:?} after {left}"
-                    );
-                }
-            }
-        }
-    }
-    Ok(())
+    run(alloc, line, &files, out, err)
 }
 
-#[test]
-fn writes_each_answer(rt: HostRuntime) -> Result<(), Fail> {
-    for (action, answer) in ACTIONS {
-        for path in [Some("d/c.wasm"), None] {
-            let words = words(rt.alloc(), action, path)?;
-            let line = read_line(rt.alloc(), &words);
-            let mut out = Stops::after(rt.alloc(), answer.len(), 1, Then::Fails);
-            let mut err: Vec<u8> = Vec::new(rt.alloc());
-            let status = run(rt.alloc(), &line, &FILES, &mut out, &mut err);
-            assert_eq!(rt; status, 0, "{action}");
-            assert_eq!(rt; err.len(), 0, "{action}");
-            assert_eq!(rt; out.held.as_slice(), answer, "{action}");
-        }
-    }
-    Ok(())
-}
-
-#[test]
-fn writes_the_front_of_a_refusal(rt: HostRuntime) -> Result<(), Fail> {
-    let rows: [(&[&str], &[u8], u8); 5] = [
-        (
-            &["frob", "--world", "w", "text=a.wit"],
-            b"error: usage\n",
-            2,
-        ),
-        (
-            &["build", "--world", "v", "text=a.wit", "main==m.wasm"],
-            b"error: G8 WorldNotFound\n",
-            1,
-        ),
-        (
-            &["links", "--world", "w", "text=b.wit"],
-            b"error: file b.wit\n",
-            3,
-        ),
-        // OUT takes no byte of these answers.
-        (
-            &["build", "--world", "w", "text=a.wit", "main==m.wasm"],
-            b"error: file -\n",
-            3,
-        ),
-        (
-            &[
-                "links",
-                "--world",
-                "w",
-                "-o",
-                "x",
-                "text=a.wit",
-                "main==m.wasm",
-            ],
-            b"error: file x\n",
-            3,
-        ),
-    ];
-    for (words, text, want) in rows {
-        let line = read_line(rt.alloc(), words);
-        for (most, then) in WAYS {
-            for left in 0..32usize {
-                let mut out = Stops::after(rt.alloc(), 0, most, then);
-                let mut err = Stops::after(rt.alloc(), left, most, then);
-                let status = run(rt.alloc(), &line, &FILES, &mut out, &mut err);
-                assert_eq!(rt; status, want, "{words:?}, {then:?} after {left}");
-                assert_eq!(rt; out.held.len(), 0, "{words:?}");
-                let (front, _) = text.split_at(left.min(text.len()));
-                assert_eq!(rt;
-                    err.held.as_slice(),
-                    front,
-                    "{words:?}, {then:?} after {left}"
-                );
-                assert!(rt; !err.again, "{words:?}, {then:?} after {left}");
-            }
-        }
-    }
-    Ok(())
-}
-
-#[test]
-fn writes_the_front_of_what_clap_says(rt: HostRuntime) -> Result<(), Fail> {
-    let line = read_line(rt.alloc(), &["build", "text=a.wit"]);
-    let Err(LineFault::Clap(text)) = &line else {
-        return Ok(assert!(rt; false, "clap took the words"));
+/// Where standard output takes a part of the answer, the file is named that can't be written.
+fn check_answer(rt: &(impl Abort + AllocGlobal), row: Answered, left: usize, way: Way) {
+    let (words, answer, unwritten) = row;
+    let (status, said): (u8, &[u8]) = if left < answer.len() {
+        (3, unwritten)
+    } else {
+        (0, b"")
     };
-    let text = text.as_str().as_bytes();
-    for (most, then) in WAYS {
-        for left in [0, 1, 7, text.len() / 2, text.len()] {
-            let mut out: Vec<u8> = Vec::new(rt.alloc());
-            let mut err = Stops::after(rt.alloc(), left, most, then);
-            let status = run(rt.alloc(), &line, &FILES, &mut out, &mut err);
-            assert_eq!(rt; status, 2, "{then:?} after {left}");
-            assert_eq!(rt; out.len(), 0);
-            let (front, _) = text.split_at(left.min(text.len()));
-            assert_eq!(rt; err.held.as_slice(), front, "{then:?} after {left}");
+    let line = read_line(rt.alloc(), words);
+    let mut out = Stops::after(rt.alloc(), left, way);
+    let mut err = Stops::after(rt.alloc(), 1000, way);
+    let found = run_first(rt.alloc(), &line, &mut out, &mut err);
+    assert!(rt; found == status, "{words:?} after {left}");
+    assert!(rt; err.held.as_slice() == said, "{words:?} after {left}");
+    assert!(rt;
+        out.held.as_slice() == front(answer, left),
+        "{words:?} after {left}"
+    );
+}
+
+#[test]
+fn answers_as_far_as_they_are_taken(rt: HostRuntime) {
+    for row in ANSWERED {
+        for way in WAYS {
+            for left in 0..row.1.len().saturating_add(1) {
+                check_answer(&rt, *row, left, *way);
+            }
         }
     }
-    Ok(())
+}
+
+/// A run over the files that is refused: its words, what is said, and the status.
+type Refused = (&'static [&'static str], &'static [u8], u8);
+
+const REFUSED: &[Refused] = &[
+    (
+        &["frob", "--world", "w", "text=a.wit"],
+        b"error: usage\n",
+        2,
+    ),
+    (
+        &["build", "--world", "v", "text=a.wit", "main==m.wasm"],
+        b"error: G8 WorldNotFound\n",
+        1,
+    ),
+    (
+        &["links", "--world", "w", "text=b.wit"],
+        b"error: file b.wit\n",
+        3,
+    ),
+    // Standard output takes no byte of these answers.
+    (
+        &["build", "--world", "w", "text=a.wit", "main==m.wasm"],
+        b"error: file -\n",
+        3,
+    ),
+    (
+        &[
+            "links",
+            "--world",
+            "w",
+            "-o",
+            "x",
+            "text=a.wit",
+            "main==m.wasm",
+        ],
+        b"error: file x\n",
+        3,
+    ),
+];
+
+/// Standard error gets what is said as far as it takes it, and the status stays.
+fn check_refusal(
+    rt: &(impl Abort + AllocGlobal),
+    line: &Result<Line, LineFault>,
+    said: &[u8],
+    status: u8,
+    left: usize,
+    way: Way,
+) {
+    let mut out = Stops::after(rt.alloc(), 0, way);
+    let mut err = Stops::after(rt.alloc(), left, way);
+    let found = run_first(rt.alloc(), line, &mut out, &mut err);
+    assert!(rt; found == status, "status {found} after {left}");
+    assert!(rt; out.held.is_empty(), "after {left}");
+    assert!(rt;
+        err.held.as_slice() == front(said, left),
+        "status {status} after {left}"
+    );
+    assert!(rt; !err.again, "status {status} after {left}");
+}
+
+#[test]
+fn refusals_as_far_as_they_are_taken(rt: HostRuntime) {
+    for (words, said, status) in REFUSED {
+        let line = read_line(rt.alloc(), words);
+        for way in WAYS {
+            for left in 0..32usize {
+                check_refusal(&rt, &line, said, *status, left, *way);
+            }
+        }
+    }
+}
+
+#[test]
+fn what_clap_says_as_far_as_it_is_taken(rt: HostRuntime) {
+    let line = read_line(rt.alloc(), &["build", "text=a.wit"]);
+    let said: &[u8] = match &line {
+        Err(LineFault::Clap(text)) => text.as_str().as_bytes(),
+        _ => b"",
+    };
+    assert!(rt; !said.is_empty(), "clap took the words");
+    for way in WAYS {
+        for left in [0, 1, 7, said.len() / 2, said.len()] {
+            check_refusal(&rt, &line, said, 2, left, *way);
+        }
+    }
 }

@@ -1,21 +1,9 @@
-//! Tests of `component_linker`.
+//! Tests of `component_linker` that no row of data can say: writers that stop, and requests for memory that are refused.
 #![tactic(auto)]
 
 #[cfg(test)]
 mod emit;
 #[cfg(test)]
-mod forms;
+mod first;
 #[cfg(test)]
 mod memory;
-#[cfg(test)]
-mod program;
-#[cfg(test)]
-mod rows;
-#[cfg(test)]
-mod session;
-#[cfg(test)]
-mod table;
-#[cfg(test)]
-mod text;
-#[cfg(test)]
-mod writers;

@@ -10,7 +10,7 @@ use Rattle.component_format.specs.Names.{all_new}
 use Rattle.wit_syntax.specs.Ast as ast
 use Rattle.wit_syntax.specs.Ast.{PackageNameTree, AttributeTree, GatedTree, ParamTree, FuncTree, NamedFuncTree, ExternTree, WorldItemTree, WorldTree, AstItemTree, FileItemTree, HeaderTree, FileTree}
 use Rattle.wit_syntax.specs.TypeTree as types
-use Rattle.wit_syntax.specs.TypeTree.{TypeTree}
+use Rattle.wit_syntax.specs.TypeTree.{TypeTree, TypeShape}
 use Rattle.wit_resolve.specs.declared.world.Param.{Param}
 use Rattle.wit_resolve.specs.declared.world.Function.{Function}
 use Rattle.wit_resolve.specs.declared.world.Side.{Side}
@@ -67,17 +67,20 @@ side_item x = record { side = x.0; function = function_item x.1 }
 -- ---- from the tree of a text, where it is of the shape
 
 -- the type, if it is bool or an integer
+abbrev pub shape_type : TypeShape → Option PrimitiveType
+shape_type types.bool = Some primitives.Bool
+shape_type types.u8 = Some primitives.U8
+shape_type types.u16 = Some primitives.U16
+shape_type types.u32 = Some primitives.U32
+shape_type types.u64 = Some primitives.U64
+shape_type types.s8 = Some primitives.S8
+shape_type types.s16 = Some primitives.S16
+shape_type types.s32 = Some primitives.S32
+shape_type types.s64 = Some primitives.S64
+shape_type _ = None
+
 abbrev pub type_of : TypeTree → Option PrimitiveType
-type_of types.bool = Some primitives.Bool
-type_of types.u8 = Some primitives.U8
-type_of types.u16 = Some primitives.U16
-type_of types.u32 = Some primitives.U32
-type_of types.u64 = Some primitives.U64
-type_of types.s8 = Some primitives.S8
-type_of types.s16 = Some primitives.S16
-type_of types.s32 = Some primitives.S32
-type_of types.s64 = Some primitives.S64
-type_of _ = None
+type_of (types.standing span shape) = shape_type shape
 
 abbrev pub put : {A : Type 0} → Option A → Option (List A) → Option (List A)
 put (Some x) (Some xs) = Some (x ∷ xs)

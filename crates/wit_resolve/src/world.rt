@@ -16,7 +16,7 @@ use component_format::{Names, PrimitiveType};
 use std::alloc::{AllocError, Global};
 use wit_syntax::{
     AstItem, ExternKind, File, FileItem, Gated, NamedFunc, PackageHeader, SyntaxFault, Type,
-    WorldItem, parse_file,
+    TypeKind, WorldItem, parse_file,
 };
 
 /// A parameter of a function.
@@ -69,16 +69,16 @@ pub enum Side {
 fn type_of(ty: &Type) -> Option<PrimitiveType>
     ensures { result ≡ spec.type_of (type_tree ty.now) }
 {
-    match ty {
-        Type::Bool => Some(PrimitiveType::Bool),
-        Type::U8 => Some(PrimitiveType::U8),
-        Type::U16 => Some(PrimitiveType::U16),
-        Type::U32 => Some(PrimitiveType::U32),
-        Type::U64 => Some(PrimitiveType::U64),
-        Type::S8 => Some(PrimitiveType::S8),
-        Type::S16 => Some(PrimitiveType::S16),
-        Type::S32 => Some(PrimitiveType::S32),
-        Type::S64 => Some(PrimitiveType::S64),
+    match ty.kind {
+        TypeKind::Bool => Some(PrimitiveType::Bool),
+        TypeKind::U8 => Some(PrimitiveType::U8),
+        TypeKind::U16 => Some(PrimitiveType::U16),
+        TypeKind::U32 => Some(PrimitiveType::U32),
+        TypeKind::U64 => Some(PrimitiveType::U64),
+        TypeKind::S8 => Some(PrimitiveType::S8),
+        TypeKind::S16 => Some(PrimitiveType::S16),
+        TypeKind::S32 => Some(PrimitiveType::S32),
+        TypeKind::S64 => Some(PrimitiveType::S64),
         _ => None,
     }
 }

@@ -1,40 +1,19 @@
 -- What stands where a text breaks a rule.
-use Rattle.std.proofs.Common.{List, Bool, Option, Some, None, refl, inl, inr}
-use Rattle.wit_syntax.specs.declared.token.Kind.TheVariants as kind
+use Rattle.std.proofs.Common.{List, Bool, Option, Some, None, refl, inr}
+use Rattle.wit_tokens.specs.declared.token.Kind.TheVariants as kind
 use Rattle.wit_syntax.specs.Ast as tree
 use Rattle.wit_syntax.specs.Ast.{PackageNameTree, TypeDefTree, TypeDefKindTree}
-use Rattle.wit_syntax.specs.Slice.{Slice}
-use Rattle.wit_syntax.specs.Token.{What, plain, ident, same_kind}
-use Rattle.wit_syntax.specs.Production.{Production, ◌>>=◌, sign, optional, documented, commas, some_commas, until, many}
-use Rattle.wit_syntax.specs.Terminal.{id, version}
-use Rattle.wit_syntax.specs.FileGrammar.{package_behind, package_name, path_behind, use_path, version_argument, feature_argument, AttributeWord, since, unstable, deprecated, attribute_word, attribute_by, attribute_at, attribute, attributed, gated, use_name, use_behind, toplevel_use_behind, param, params, func_behind, func, named_func_behind, named_func, alias_behind, field, label, case_parts, case, parts, defined_by, constructor_behind, method_behind, method, resource_func, resource_behind, type_def_at, defined, definition, interface_item, interface_items, interface_behind, extern_func, extern_behind, extern_item, include_name, include_behind, world_item_at, world_item, world_behind, ast_item_at, ast_item, package_items, file_item_at, file_item, package_first, gated_first, first, some_file, file, whole_use_path}
-use Rattle.wit_syntax.proofs.BracketLaws.{Tells, NextTells, Behind, behind_other, behind_bind, tells_yield, tells_bind, tells_map, tells_documented, tells_branch, tells_sign, tells_sign_other, tells_by, tells_by_or, tells_next_then, tells_commas, tells_some_commas, tells_until, tells_many, tells_optional, tells_at_end, tells_all, tells_finish}
-use Rattle.wit_syntax.proofs.TerminalBreaks.{id_tells, word_tells, behind_version}
-use Rattle.wit_syntax.proofs.TypeBreaks.{any_type_tells}
+use Rattle.wit_tokens.specs.Slice.{Slice}
+use Rattle.wit_tokens.specs.Token.{What, plain, ident, same_kind}
+use Rattle.wit_productions.specs.Production.{Production, ◌>>=◌, sign, documented, located, commas, some_commas, until, many}
+use Rattle.wit_productions.specs.Terminal.{id, version}
+use Rattle.wit_syntax.specs.FileGrammar.{package_name, version_argument, feature_argument, AttributeWord, since, unstable, deprecated, attribute_word, gate_by, gate_at, gate, attribute, attributed, gated, use_name, use_behind, toplevel_use_behind, param, params, func_behind, func, named_func_behind, named_func, alias_behind, field, label, case_parts, case, parts, defined_by, constructor_behind, method_behind, method, resource_func, resource_behind, type_def_at, defined, definition, interface_item, interface_items, interface_behind, extern_func, extern_behind, extern_item, include_name, include_behind, world_item_at, world_item, world_behind, ast_item_at, ast_item, package_items, file_item_at, file_item, package_opening, opening, gated_first, first, some_file, file}
+use Rattle.wit_productions.proofs.BracketLaws.{Tells, NextTells, Behind, behind_other, behind_bind, tells_yield, tells_bind, tells_map, tells_documented, tells_located, tells_branch, tells_sign, tells_sign_other, tells_by, tells_by_or, tells_next_then, tells_commas, tells_some_commas, tells_until, tells_many, tells_optional, tells_at_end, tells_all}
+use Rattle.wit_productions.proofs.TerminalBreaks.{id_tells, word_tells, behind_version}
+use Rattle.wit_productions.proofs.TypeBreaks.{any_type_tells}
+use Rattle.wit_productions.proofs.NameBreaks.{package_name_tells, path_behind_tells, use_path_tells}
 
 ruleset tells = (tells_bind, tells_yield, tells_sign_other, tells_branch, behind_other, tells_optional, id_tells)
-
--- ---- names of packages, and paths
-
-at_version_tells : Tells 0 0 (optional kind.At version)
-unfolding same_kind
-at_version_tells = tells_optional 0 kind.At version (behind_version 0 kind.At (inl refl) refl refl)
-
-package_behind_tells : (namespace : Slice) → Tells 0 0 (package_behind namespace)
-unfolding package_behind
-package_behind_tells namespace = search (at_version_tells, tells)
-
-package_name_tells : Tells 0 0 package_name
-unfolding package_name same_kind
-package_name_tells = search (package_behind_tells, tells)
-
-path_behind_tells : (namespace : Slice) → Tells 0 0 (path_behind namespace)
-unfolding path_behind same_kind
-path_behind_tells namespace = search (at_version_tells, tells) depth 8
-
-use_path_tells : Tells 0 0 use_path
-unfolding use_path same_kind
-use_path_tells = search (path_behind_tells, tells)
 
 -- ---- attributes
 
@@ -50,19 +29,23 @@ feature_argument_tells : Tells 0 0 feature_argument
 unfolding feature_argument same_kind
 feature_argument_tells = search (word_tells, tells) depth 14
 
-attribute_next_by : (word : Option AttributeWord) → NextTells 0 0 (attribute_by word)
-attribute_next_by None = tt
-attribute_next_by (Some since) = tells_map 0 0 version_argument _ version_argument_tells
-attribute_next_by (Some unstable) = tells_map 0 0 feature_argument _ feature_argument_tells
-attribute_next_by (Some deprecated) = tells_map 0 0 version_argument _ version_argument_tells
+gate_next_by : (word : Option AttributeWord) → NextTells 0 0 (gate_by word)
+gate_next_by None = tt
+gate_next_by (Some since) = tells_map 0 0 version_argument _ version_argument_tells
+gate_next_by (Some unstable) = tells_map 0 0 feature_argument _ feature_argument_tells
+gate_next_by (Some deprecated) = tells_map 0 0 version_argument _ version_argument_tells
 
-attribute_next : (t : What) → NextTells 0 0 (attribute_at t)
-attribute_next (ident name) = attribute_next_by (attribute_word name)
-attribute_next _ = tt
+gate_next : (t : What) → NextTells 0 0 (gate_at t)
+gate_next (ident name) = gate_next_by (attribute_word name)
+gate_next _ = tt
+
+gate_tells : Tells 0 0 gate
+unfolding gate
+gate_tells = tells_by 0 0 gate_at refl refl gate_next
 
 attribute_tells : Tells 0 0 attribute
 unfolding attribute
-attribute_tells = tells_by 0 0 attribute_at refl refl attribute_next
+attribute_tells = tells_map 0 0 (located gate) _ (tells_located 0 0 gate gate_tells)
 
 attributes_tells : Tells 0 0 (many kind.At attribute)
 unfolding same_kind
@@ -72,7 +55,7 @@ attributes_tells = tells_many 0 kind.At attribute refl refl attribute_tells
 
 gated_tells : {X : Type 0} (item : Production X) → Tells 0 0 item → Tells 0 0 (gated item)
 unfolding gated
-gated_tells item t = tells_map 0 0 (documented (attributed item)) _ (tells_documented 0 0 (attributed item) (tells_bind 0 0 (many kind.At attribute) _ attributes_tells (λ attributes. tells_map 0 0 item (λ i. (attributes, i)) t)))
+gated_tells item t = tells_map 0 0 (documented (attributed item)) _ (tells_documented 0 0 (attributed item) (tells_bind 0 0 (many kind.At attribute) _ attributes_tells (λ attributes. tells_map 0 0 (located item) (λ i. (attributes, i.0, i.1)) (tells_located 0 0 item t))))
 
 -- items up to a closing brace
 gated_items_tells : {X : Type 0} (item : Production X) → Tells 0 0 item → Tells 0 0 (until (gated item) kind.RightBrace)
@@ -262,17 +245,21 @@ file_item_tells : Tells 0 0 file_item
 unfolding file_item
 file_item_tells = tells_by 0 0 file_item_at refl refl file_item_next
 
-package_first_tells : Tells 0 0 package_first
-unfolding package_first same_kind
-package_first_tells = search (package_name_tells, package_items_tells, tells)
+package_opening_tells : Tells 0 0 package_opening
+unfolding package_opening same_kind
+package_opening_tells = search (package_name_tells, package_items_tells, tells)
+
+opening_tells : Tells 0 0 opening
+unfolding opening same_kind
+opening_tells = search (package_opening_tells, ast_item_tells, tells)
 
 gated_first_tells : Tells 0 0 gated_first
 unfolding gated_first
-gated_first_tells = search (attribute_tells, attributes_tells, file_item_tells, tells)
+gated_first_tells = search (attribute_tells, attributes_tells, file_item_tells, tells_located, tells)
 
 first_tells : Tells 0 0 first
 unfolding first same_kind
-first_tells = search (package_first_tells, gated_first_tells, ast_item_tells, tells)
+first_tells = search (gated_first_tells, opening_tells, tells_located, tells)
 
 some_file_tells : Tells 0 0 some_file
 unfolding some_file
@@ -281,9 +268,3 @@ some_file_tells = search (tells_documented, first_tells, tells_all, gated_tells,
 pub file_tells : Tells 0 0 file
 unfolding file
 file_tells = tells_at_end 0 _ some_file some_file_tells
-
--- ---- paths by themselves
-
-pub whole_use_path_tells : Tells 0 0 whole_use_path
-unfolding whole_use_path
-whole_use_path_tells = tells_bind 0 0 use_path _ use_path_tells (λ p. tells_finish 0 p)

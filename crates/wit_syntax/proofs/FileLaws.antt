@@ -1,52 +1,29 @@
 -- Each production of texts is read as it says.
 use Rattle.std.proofs.Common.{◌≡◌, List, [], ◌∷◌, refl, ap, ◌∙◌, true, false, Bool, Option, Some, None}
-use Rattle.wit_syntax.specs.declared.fault.Rule.TheVariants as rules
-use Rattle.wit_syntax.specs.declared.token.Kind.{Kind}
-use Rattle.wit_syntax.specs.declared.token.Kind.TheVariants as kind
+use Rattle.wit_tokens.specs.declared.fault.Rule.TheVariants as rules
+use Rattle.wit_tokens.specs.declared.token.Kind.{Kind}
+use Rattle.wit_tokens.specs.declared.token.Kind.TheVariants as kind
 use Rattle.wit_syntax.specs.Ast as tree
 use Rattle.wit_syntax.specs.Ast.{PackageNameTree, AttributeTree, GatedTree, NamedFuncTree, TypeDefTree, TypeDefKindTree, InterfaceItemTree}
-use Rattle.wit_syntax.specs.Slice.{Slice}
-use Rattle.wit_syntax.specs.Token.{What, Tok, plain, ident, same_kind}
-use Rattle.wit_syntax.specs.Production.{Production, Takes, wrong, and_then, next_at, or_at, by_or, ◌>>=◌, ◌>>◌, yield, sign, optional, documented, Next, none, goes, next_then, commas, some_commas, until, many, all}
-use Rattle.wit_syntax.specs.Terminal.{id, version}
-use Rattle.wit_syntax.specs.TypeGrammar.{any_type}
-use Rattle.wit_syntax.specs.FileGrammar.{package_behind, package_name, path_behind, use_path, version_argument, feature_argument, AttributeWord, since, unstable, deprecated, attribute_word, attribute_by, attribute_at, attribute, attributed, gated, use_name, use_behind, toplevel_use_behind, param, params, func_behind, func, named_func_behind, named_func, alias_behind, field, label, case_parts, case, parts, defined_by, constructor_behind, method_behind, method, resource_func, resource_behind, type_def_at, defined, definition, interface_item, interface_items, interface_behind, extern_func, extern_behind, extern_item, include_name, include_behind, world_item_at, world_item, world_behind, ast_item_at, ast_item, package_items, file_item_at, file_item, package_first, gated_first, first, some_file, file, whole_use_path}
-use Rattle.wit_syntax.proofs.Laws.{Law, Avoids, NextLaw, bind_law, bind_open, yield_law, sign_law, branch_law, map_law, map_avoids}
-use Rattle.wit_syntax.proofs.Choices.{Goes, Beyond, is_within, is_outside, beyond_first, by_law, by_or_law, avoid_yield, avoid_sign, avoid_first, avoid_skip, avoid_branch, avoid_by, avoid_by_or, leads_nowhere, goes_first, goes_second, goes_by, goes_by_or, goes_branch}
-use Rattle.wit_syntax.proofs.Documented.{documented_law, documented_goes, documented_avoids}
-use Rattle.wit_syntax.proofs.Terminals.{id_law, id_avoids, id_goes, version_law, word_law, beyond_id, optional_law, bind_optional_open, finish_law, finish_avoids}
-use Rattle.wit_syntax.proofs.Turns.{weaken, commas_law, commas_open, some_commas_law, until_law, until_open, many_law, many_avoids, all_law, at_end_law, next_then_law, takes}
-use Rattle.wit_syntax.proofs.TypeLaws.{open_type, any_type_law}
+use Rattle.wit_tokens.specs.declared.source_map.Span.{Span}
+use Rattle.wit_tokens.specs.Slice.{Slice}
+use Rattle.wit_tokens.specs.Token.{What, Tok, plain, ident, same_kind}
+use Rattle.wit_productions.specs.Production.{Production, Takes, wrong, and_then, next_at, or_at, by_or, ◌>>=◌, ◌>>◌, yield, sign, optional, documented, located, Next, none, goes, next_then, commas, some_commas, until, many, all}
+use Rattle.wit_productions.specs.Terminal.{id}
+use Rattle.wit_productions.specs.TypeGrammar.{any_type}
+use Rattle.wit_syntax.specs.FileGrammar.{package_name, path_behind, use_path, version_argument, feature_argument, AttributeWord, since, unstable, deprecated, attribute_word, gate_by, gate_at, gate, attribute, attributed, gated, use_name, use_behind, toplevel_use_behind, param, params, func_behind, func, named_func_behind, named_func, alias_behind, field, label, case_parts, case, parts, defined_by, constructor_behind, method_behind, method, resource_func, resource_behind, type_def_at, defined, definition, interface_item, interface_items, interface_behind, extern_func, extern_behind, extern_item, include_name, include_behind, world_item_at, world_item, world_behind, ast_item_at, ast_item, package_items, file_item_at, file_item, package_opening, opening, gated_first, first, some_file, file}
+use Rattle.wit_productions.proofs.Laws.{Law, Avoids, NextLaw, bind_law, bind_open, yield_law, sign_law, branch_law, map_law, map_avoids}
+use Rattle.wit_productions.proofs.Choices.{Goes, Beyond, is_within, is_outside, beyond_first, by_law, by_or_law, avoid_yield, avoid_sign, avoid_first, avoid_skip, avoid_branch, avoid_by, avoid_by_or, leads_nowhere, goes_first, goes_second, goes_by, goes_by_or, goes_branch}
+use Rattle.wit_productions.proofs.Located.{located_law, located_goes, located_avoids}
+use Rattle.wit_productions.proofs.Documented.{documented_law, documented_goes, documented_avoids}
+use Rattle.wit_productions.proofs.Terminals.{id_law, id_avoids, id_goes, version_law, word_law, beyond_id, optional_law, bind_optional_open}
+use Rattle.wit_productions.proofs.Turns.{weaken, commas_law, commas_open, some_commas_law, until_law, until_open, many_law, many_avoids, all_law, at_end_law, next_then_law, takes}
+use Rattle.wit_productions.proofs.TypeLaws.{open_type, any_type_law}
+use Rattle.wit_productions.proofs.NameLaws.{open_version, open_path, package_name_law, path_behind_law, path_behind_avoids, use_path_law}
 
 ruleset laws = (bind_law, yield_law, sign_law, branch_law)
 
 ruleset avoids = (avoid_yield, avoid_sign, avoid_first, avoid_skip, avoid_branch)
-
--- ---- names of packages, and paths
-
-abbrev open_version : List Kind
-open_version = kind.At ∷ []
-
--- what may go on with a path
-abbrev open_path : List Kind
-open_path = kind.Colon ∷ kind.At ∷ []
-
-package_behind_law : (namespace : Slice) → Law open_version (package_behind namespace)
-unfolding package_behind same_kind
-package_behind_law namespace = bind_law open_version id _ (id_law []) (λ n. map_law open_version (optional kind.At version) _ (optional_law open_version kind.At version (version_law open_version) refl refl))
-
-package_name_law : Law open_version package_name
-unfolding package_name
-package_name_law = search (laws, id_law, package_behind_law)
-
-path_behind_law : (namespace : Slice) → Law open_path (path_behind namespace)
-unfolding path_behind same_kind
-path_behind_law namespace = bind_law open_path id _ (id_law []) (λ p. bind_law open_path (sign kind.Slash) _ (sign_law [] kind.Slash)
-    (λ u. bind_law open_path id _ (id_law []) (λ n. map_law open_path (optional kind.At version) _ (optional_law open_path kind.At version (version_law open_path) refl refl))))
-
-use_path_law : Law open_path use_path
-unfolding use_path same_kind
-use_path_law = search (laws, avoids, id_law, path_behind_law)
 
 -- ---- attributes
 
@@ -58,23 +35,31 @@ feature_argument_law : (ends : List Kind) → Law ends feature_argument
 unfolding feature_argument
 feature_argument_law ends = search (laws, word_law, id_law) depth 14
 
-attribute_next_by : (word : Option AttributeWord) → NextLaw [] (attribute_by word)
-attribute_next_by None = tt
-attribute_next_by (Some since) = map_law [] version_argument _ (version_argument_law [])
-attribute_next_by (Some unstable) = map_law [] feature_argument _ (feature_argument_law [])
-attribute_next_by (Some deprecated) = map_law [] version_argument _ (version_argument_law [])
+gate_next_by : (word : Option AttributeWord) → NextLaw [] (gate_by word)
+gate_next_by None = tt
+gate_next_by (Some since) = map_law [] version_argument _ (version_argument_law [])
+gate_next_by (Some unstable) = map_law [] feature_argument _ (feature_argument_law [])
+gate_next_by (Some deprecated) = map_law [] version_argument _ (version_argument_law [])
 
-attribute_next : (t : What) → NextLaw [] (attribute_at t)
-attribute_next (ident name) = attribute_next_by (attribute_word name)
-attribute_next _ = tt
+gate_next : (t : What) → NextLaw [] (gate_at t)
+gate_next (ident name) = gate_next_by (attribute_word name)
+gate_next _ = tt
+
+gate_law : Law [] gate
+unfolding gate
+gate_law = by_law [] gate_at gate_next
 
 attribute_law : Law [] attribute
 unfolding attribute
-attribute_law = by_law [] attribute_at attribute_next
+attribute_law = map_law [] (located gate) _ (located_law [] gate gate_law)
+
+gate_goes : Goes [] gate
+unfolding gate
+gate_goes = goes_by [] gate_at gate_next
 
 attribute_goes : Goes [] attribute
 unfolding attribute
-attribute_goes = goes_by [] attribute_at attribute_next
+attribute_goes = goes_first [] (located gate) _ (located_goes [] gate gate_goes) (λ x. yield_law [] _)
 
 pub attribute_takes : Takes attribute
 attribute_takes = takes [] attribute attribute_law attribute_goes
@@ -88,17 +73,20 @@ attributes_law = many_law kind.At attribute refl attribute_law attribute_goes
 
 -- ---- items behind docs and attributes
 
-abbrev with_attributes : {X : Type 0} → List AttributeTree → X → List AttributeTree × X
-with_attributes attributes i = (attributes, i)
+abbrev with_attributes : {X : Type 0} → List AttributeTree → Span × X → List AttributeTree × Span × X
+with_attributes attributes i = (attributes, i.0, i.1)
 
 attributed_law : {X : Type 0} (ends : List Kind) (item : Production X) → Law ends item → Avoids ends open_attributes item → Law ends (attributed item)
-attributed_law ends item l a = bind_open ends open_attributes (many kind.At attribute) _ attributes_law (λ attributes. map_law ends item (with_attributes attributes) l) (λ attributes. map_avoids ends open_attributes item (with_attributes attributes) a)
+attributed_law ends item l a = bind_open ends open_attributes (many kind.At attribute) _ attributes_law (λ attributes. map_law ends (located item) (with_attributes attributes) (located_law ends item l))
+    (λ attributes. map_avoids ends open_attributes (located item) (with_attributes attributes) (located_avoids ends open_attributes item a))
 
 attributed_goes : {X : Type 0} (ends : List Kind) (item : Production X) → Goes ends item → Goes ends (attributed item)
-attributed_goes ends item g = goes_second ends open_attributes (many kind.At attribute) _ attributes_law (λ attributes. goes_first ends item _ (record { shorter = g.shorter }) (λ i. yield_law ends (with_attributes attributes i)))
+attributed_goes ends item g = goes_second ends open_attributes (many kind.At attribute) _ attributes_law
+    (λ attributes. goes_first ends (located item) _ (located_goes [] item (record { shorter = g.shorter })) (λ i. yield_law ends (with_attributes attributes i)))
 
 attributed_avoids : {X : Type 0} (ends begins : List Kind) (item : Production X) → is_outside kind.At begins ≡ true → is_within begins begins ≡ true → Avoids ends begins item → Avoids ends begins (attributed item)
-attributed_avoids ends begins item out within a = avoid_skip ends begins (many kind.At attribute) _ (many_avoids begins begins kind.At attribute out within) (λ attributes. map_avoids ends begins item (with_attributes attributes) a)
+attributed_avoids ends begins item out within a = avoid_skip ends begins (many kind.At attribute) _ (many_avoids begins begins kind.At attribute out within)
+    (λ attributes. map_avoids ends begins (located item) (with_attributes attributes) (located_avoids ends begins item a))
 
 gated_law : {X : Type 0} (ends : List Kind) (item : Production X) → Law ends item → Goes ends item → Avoids ends open_attributes item → Law ends (gated item)
 unfolding gated
@@ -416,10 +404,6 @@ extern_func_law : (name : Slice) (is_async : Bool) → Law [] (extern_func name 
 unfolding extern_func same_kind
 extern_func_law name is_async = bind_open [] open_func (func_behind is_async) _ (func_behind_law is_async) (λ f. search laws) (λ f. search avoids)
 
-path_behind_avoids : (name : Slice) (begins : List Kind) → Avoids [] begins (path_behind name)
-unfolding path_behind
-path_behind_avoids name begins = avoid_first [] begins id _ (id_avoids [] begins)
-
 extern_behind_law : (name : Slice) → Law [] (extern_behind name)
 unfolding extern_behind same_kind
 extern_behind_law name = branch_law [] kind.Interface _ _ (map_law [] interface_items _ (interface_items_law []))
@@ -568,26 +552,36 @@ gated_file_item_goes = gated_goes [] file_item file_item_goes
 pub file_item_takes : Takes (gated file_item)
 file_item_takes = takes [] (gated file_item) gated_file_item_law gated_file_item_goes
 
-package_first_law : Law [] package_first
-unfolding package_first same_kind
-package_first_law = bind_open [] open_version package_name _ package_name_law
+package_opening_law : Law [] package_opening
+unfolding package_opening same_kind
+package_opening_law = bind_open [] open_version package_name _ package_name_law
     (λ p. branch_law [] kind.Semicolon _ _ (yield_law [] _) (map_law [] (package_items p) _ (package_items_law p)) (avoid_first [] (kind.Semicolon ∷ []) (package_items p) _ (package_items_avoids p (kind.Semicolon ∷ []) refl)))
     (λ p. avoid_branch [] open_version kind.Semicolon _ _ refl (avoid_first [] open_version (package_items p) _ (package_items_avoids p open_version refl)))
 
+opening_law : Law [] opening
+unfolding opening same_kind
+opening_law = branch_law [] kind.Package _ _ package_opening_law (map_law [] ast_item _ ast_item_law) (avoid_first [] (kind.Package ∷ []) ast_item _ (ast_item_avoids (kind.Package ∷ []) (refl, tt)))
+
+opening_goes : Goes [] opening
+unfolding opening
+opening_goes = goes_branch [] kind.Package _ _ package_opening_law (goes_first [] ast_item _ ast_item_goes (λ i. yield_law [] _))
+
+opening_avoids : Avoids [] open_attributes opening
+unfolding opening same_kind
+opening_avoids = avoid_branch [] open_attributes kind.Package _ _ refl (avoid_first [] open_attributes ast_item _ (ast_item_avoids open_attributes (refl, tt)))
+
 gated_first_law : Law [] gated_first
 unfolding gated_first
-gated_first_law = bind_law [] attribute _ attribute_law (λ a. bind_open [] open_attributes (many kind.At attribute) _ attributes_law (λ more. map_law [] file_item _ file_item_law)
-    (λ more. avoid_first [] open_attributes file_item _ (file_item_avoids open_attributes (refl, tt))))
+gated_first_law = bind_law [] attribute _ attribute_law (λ a. bind_open [] open_attributes (many kind.At attribute) _ attributes_law (λ more. map_law [] (located file_item) _ (located_law [] file_item file_item_law))
+    (λ more. avoid_first [] open_attributes (located file_item) _ (located_avoids [] open_attributes file_item (file_item_avoids open_attributes (refl, tt)))))
 
 first_law : Law [] first
 unfolding first same_kind
-first_law = branch_law [] kind.Package _ _ package_first_law
-    (branch_law [] kind.At _ _ gated_first_law (map_law [] ast_item _ ast_item_law) (avoid_first [] open_attributes ast_item _ (ast_item_avoids open_attributes (refl, tt))))
-    (avoid_branch [] (kind.Package ∷ []) kind.At _ _ refl (avoid_first [] (kind.Package ∷ []) ast_item _ (ast_item_avoids (kind.Package ∷ []) (refl, tt))))
+first_law = branch_law [] kind.At _ _ gated_first_law (map_law [] (located opening) _ (located_law [] opening opening_law)) (avoid_first [] open_attributes (located opening) _ (located_avoids [] open_attributes opening opening_avoids))
 
 first_goes : Goes [] first
 unfolding first
-first_goes = goes_branch [] kind.Package _ _ package_first_law (goes_branch [] kind.At _ _ gated_first_law (goes_first [] ast_item _ ast_item_goes (λ i. yield_law [] _)))
+first_goes = goes_branch [] kind.At _ _ gated_first_law (goes_first [] (located opening) _ (located_goes [] opening opening_goes) (λ x. yield_law [] _))
 
 some_file_law : Law [] some_file
 unfolding some_file
@@ -600,9 +594,3 @@ some_file_goes = goes_first [] (documented first) _ (documented_goes [] first fi
 pub file_law : Law [] file
 unfolding file
 file_law = at_end_law [] _ some_file some_file_law some_file_goes
-
--- ---- paths and types by themselves
-
-pub whole_use_path_law : Law [] whole_use_path
-unfolding whole_use_path
-whole_use_path_law = bind_open [] open_path use_path _ use_path_law (λ p. finish_law [] p) (λ p. finish_avoids [] open_path p)

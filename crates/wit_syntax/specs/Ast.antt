@@ -1,30 +1,27 @@
 -- The tree of a text, without where its names lie in memory (WIT).
 use Rattle.std.specs.Prelude.{Bool, List, Option}
-use Rattle.wit_syntax.specs.Slice.{Slice}
-use Rattle.wit_syntax.specs.TypeTree.{TypeTree}
+use Rattle.wit_tokens.specs.declared.source_map.Span.{Span}
+use Rattle.wit_tokens.specs.Slice.{Slice}
+use Rattle.wit_productions.specs.TypeTree.{TypeTree}
+pub use Rattle.wit_productions.specs.NameTree.{PackageNameTree, UsePathTree, id, in_package}
 
--- namespace:name@version
-pub record PackageNameTree : Type 0 where
-  pub namespace : Slice
-  pub name : Slice
-  pub version : Option Slice
+-- since(version = ..), unstable(feature = ..), deprecated(version = ..)
+pub data GateTree : Type 0 where
+  since : Slice → GateTree
+  unstable : Slice → GateTree
+  deprecated : Slice → GateTree
 
--- name, or namespace:package/name@version
-pub data UsePathTree : Type 0 where
-  id : Slice → UsePathTree
-  in_package : PackageNameTree → Slice → UsePathTree
+-- the same, and where it stands behind its `@`
+pub record AttributeTree : Type 0 where
+  pub gate : GateTree
+  pub span : Span
 
--- @since(version = ..), @unstable(feature = ..), @deprecated(version = ..)
-pub data AttributeTree : Type 0 where
-  since : Slice → AttributeTree
-  unstable : Slice → AttributeTree
-  deprecated : Slice → AttributeTree
-
--- an item with the docs and attributes in front of it
+-- an item and where it stands, with the docs and attributes in front of it
 pub record GatedTree (X : Type 0) : Type 0 where
   pub docs : List Slice
   pub attributes : List AttributeTree
   pub item : X
+  pub span : Span
 
 -- name as other
 pub record UseNameTree : Type 0 where
@@ -150,10 +147,15 @@ pub record HeaderTree : Type 0 where
   pub docs : List Slice
   pub name : PackageNameTree
 
--- what stands first in a file: the name of its package, or an item behind its attributes
+-- what stands first in a file where no attribute does: the name of its package, or an item
+pub data OpeningTree : Type 0 where
+  header : PackageNameTree → OpeningTree
+  item : FileItemTree → OpeningTree
+
+-- what stands first in a file: the name of its package, or an item and where it stands, behind its attributes
 pub data FirstTree : Type 0 where
   header : PackageNameTree → FirstTree
-  item : List AttributeTree → FileItemTree → FirstTree
+  item : List AttributeTree → Span → FileItemTree → FirstTree
 
 pub record FileTree : Type 0 where
   pub header : Option HeaderTree

@@ -1,11 +1,8 @@
 -- Trees as values.
-use Rattle.std.specs.Prelude.{List, map, option_map}
-use Rattle.wit_syntax.specs.declared.ast.Version.{Version}
-use Rattle.wit_syntax.specs.declared.ast.PackageName.{PackageName}
-use Rattle.wit_syntax.specs.declared.ast.UsePath.{UsePath}
-use Rattle.wit_syntax.specs.declared.ast.UsePath.TheVariants as paths
+use Rattle.std.specs.Prelude.{map, option_map}
 use Rattle.wit_syntax.specs.declared.ast.Attribute.{Attribute}
-use Rattle.wit_syntax.specs.declared.ast.Attribute.TheVariants as attributes
+use Rattle.wit_syntax.specs.declared.ast.Gate.{Gate}
+use Rattle.wit_syntax.specs.declared.ast.Gate.TheVariants as gates
 use Rattle.wit_syntax.specs.declared.ast.Gated.{Gated}
 use Rattle.wit_syntax.specs.declared.ast.UseName.{UseName}
 use Rattle.wit_syntax.specs.declared.ast.Use.{Use}
@@ -39,36 +36,25 @@ use Rattle.wit_syntax.specs.declared.ast.FileItem.{FileItem}
 use Rattle.wit_syntax.specs.declared.ast.FileItem.TheVariants as file_items
 use Rattle.wit_syntax.specs.declared.ast.PackageHeader.{PackageHeader}
 use Rattle.wit_syntax.specs.declared.ast.File.{File}
-use Rattle.wit_syntax.specs.declared.docs.Docs.{Docs}
+use Rattle.wit_syntax.specs.declared.parse_files.Opening.{Opening}
+use Rattle.wit_syntax.specs.declared.parse_files.Opening.TheVariants as openings
 use Rattle.wit_syntax.specs.declared.parse_files.First.{First}
 use Rattle.wit_syntax.specs.declared.parse_files.First.TheVariants as firsts
 use Rattle.wit_syntax.specs.Ast as tree
-use Rattle.wit_syntax.specs.Ast.{PackageNameTree, UsePathTree, AttributeTree, GatedTree, UseNameTree, UseTree, ToplevelUseTree, ParamTree, FuncTree, NamedFuncTree, FieldTree, LabelTree, CaseTree, ResourceFuncTree, TypeDefKindTree, TypeDefTree, InterfaceItemTree, InterfaceTree, ExternTree, IncludeNameTree, IncludeTree, WorldItemTree, WorldTree, AstItemTree, PackageTree, FileItemTree, HeaderTree, FirstTree, FileTree}
-use Rattle.wit_syntax.specs.Slice.{Slice}
-use Rattle.wit_syntax.specs.Token.{comment}
-use Rattle.wit_syntax.specs.TypeView.{type_tree}
-pub use Rattle.wit_syntax.specs.TypeView.{id}
+use Rattle.wit_syntax.specs.Ast.{PackageNameTree, UsePathTree, GateTree, AttributeTree, GatedTree, UseNameTree, UseTree, ToplevelUseTree, ParamTree, FuncTree, NamedFuncTree, FieldTree, LabelTree, CaseTree, ResourceFuncTree, TypeDefKindTree, TypeDefTree, InterfaceItemTree, InterfaceTree, ExternTree, IncludeNameTree, IncludeTree, WorldItemTree, WorldTree, AstItemTree, PackageTree, FileItemTree, HeaderTree, OpeningTree, FirstTree, FileTree}
+use Rattle.wit_productions.specs.TypeView.{type_tree}
+pub use Rattle.wit_productions.specs.NameView.{id, version, docs, package_name, use_path}
 
-abbrev pub version : Version → Slice
-version v = record { text = v.text.now; span = v.span }
-
-abbrev pub docs : Docs → List Slice
-docs d = map comment d.comments.items
-
-abbrev pub package_name : PackageName → PackageNameTree
-package_name p = record { namespace = id p.namespace; name = id p.name; version = option_map version p.version }
-
-abbrev pub use_path : UsePath → UsePathTree
-use_path (paths.Id n) = tree.id (id n)
-use_path (paths.Package p n) = tree.in_package (package_name p) (id n)
+abbrev pub gate : Gate → GateTree
+gate (gates.Since v) = tree.since (version v)
+gate (gates.Unstable n) = tree.unstable (id n)
+gate (gates.Deprecated v) = tree.deprecated (version v)
 
 abbrev pub attribute : Attribute → AttributeTree
-attribute (attributes.Since v) = tree.since (version v)
-attribute (attributes.Unstable n) = tree.unstable (id n)
-attribute (attributes.Deprecated v) = tree.deprecated (version v)
+attribute a = record { gate = gate a.gate; span = a.span }
 
 abbrev pub gated : {T X : Type 0} → (T → X) → Gated T → GatedTree X
-gated view g = record { docs = docs g.docs; attributes = map attribute g.attributes.items; item = view g.item }
+gated view g = record { docs = docs g.docs; attributes = map attribute g.attributes.items; item = view g.item; span = g.span }
 
 abbrev pub use_name : UseName → UseNameTree
 use_name u = record { name = id u.name; other = option_map id u.as_ }
@@ -165,4 +151,8 @@ file f = record { header = option_map header f.package; items = map (gated file_
 
 abbrev pub first : First → FirstTree
 first (firsts.Header p) = tree.FirstTree.header (package_name p)
-first (firsts.Item attributes i) = tree.FirstTree.item (map attribute attributes.items) (file_item i)
+first (firsts.Item attributes span i) = tree.FirstTree.item (map attribute attributes.items) span (file_item i)
+
+abbrev pub opening : Opening → OpeningTree
+opening (openings.Header p) = tree.OpeningTree.header (package_name p)
+opening (openings.Item i) = tree.OpeningTree.item (file_item i)

@@ -1,45 +1,16 @@
 -- The grammar of texts (WIT).
 use Rattle.std.specs.Prelude.{ℕ, Bool, true, false, if◌then◌else◌, List, [], ◌∷◌, Option, Some, None, bytes_eq, codes}
-use Rattle.wit_syntax.specs.declared.token.Kind.TheVariants as kind
+use Rattle.wit_tokens.specs.declared.token.Kind.TheVariants as kind
 use Rattle.wit_syntax.specs.Ast as tree
-use Rattle.wit_syntax.specs.Ast.{PackageNameTree, UsePathTree, AttributeTree, GatedTree, UseNameTree, UseTree, ToplevelUseTree, ParamTree, FuncTree, NamedFuncTree, FieldTree, LabelTree, CaseTree, ResourceFuncTree, TypeDefKindTree, TypeDefTree, InterfaceItemTree, InterfaceTree, ExternTree, IncludeNameTree, IncludeTree, WorldItemTree, WorldTree, AstItemTree, PackageTree, FileItemTree, HeaderTree, FirstTree, FileTree}
-use Rattle.wit_syntax.specs.Production.{Production, ◌>>=◌, ◌>>◌, yield, sign, branch, optional, documented, Next, none, goes, next_then, by, by_or, commas, some_commas, until, many, all, at_end, finish}
-use Rattle.wit_syntax.specs.Slice.{Slice}
-use Rattle.wit_syntax.specs.Terminal.{id, version, word}
-use Rattle.wit_syntax.specs.Token.{What, plain, ident}
-use Rattle.wit_syntax.specs.TypeGrammar.{any_type}
-use Rattle.wit_syntax.specs.TypeTree.{TypeTree}
-
--- ---- names of packages, and paths
-
--- name@version or name, behind a namespace and a colon
-unfoldable pub package_behind : Slice → Production PackageNameTree
-package_behind namespace = do
-  n ← id
-  v ← optional kind.At version
-  yield (record { namespace = namespace; name = n; version = v })
-
--- namespace:name@version or namespace:name
-unfoldable pub package_name : Production PackageNameTree
-package_name = do
-  n ← id
-  sign kind.Colon
-  package_behind n
-
--- package/name@version or package/name, behind a namespace and a colon
-unfoldable pub path_behind : Slice → Production UsePathTree
-path_behind namespace = do
-  p ← id
-  sign kind.Slash
-  n ← id
-  v ← optional kind.At version
-  yield (tree.in_package (record { namespace = namespace; name = p; version = v }) n)
-
--- name, or namespace:package/name@version
-unfoldable pub use_path : Production UsePathTree
-use_path = do
-  n ← id
-  branch kind.Colon (path_behind n) (yield (tree.UsePathTree.id n))
+use Rattle.wit_syntax.specs.Ast.{PackageNameTree, UsePathTree, GateTree, AttributeTree, GatedTree, UseNameTree, UseTree, ToplevelUseTree, ParamTree, FuncTree, NamedFuncTree, FieldTree, LabelTree, CaseTree, ResourceFuncTree, TypeDefKindTree, TypeDefTree, InterfaceItemTree, InterfaceTree, ExternTree, IncludeNameTree, IncludeTree, WorldItemTree, WorldTree, AstItemTree, PackageTree, FileItemTree, HeaderTree, OpeningTree, FirstTree, FileTree}
+use Rattle.wit_productions.specs.Production.{Production, ◌>>=◌, ◌>>◌, yield, sign, branch, optional, documented, located, Next, none, goes, next_then, by, by_or, commas, some_commas, until, many, all, at_end}
+use Rattle.wit_tokens.specs.declared.source_map.Span.{Span}
+use Rattle.wit_tokens.specs.Slice.{Slice}
+use Rattle.wit_productions.specs.Terminal.{id, version, word}
+use Rattle.wit_tokens.specs.Token.{What, plain, ident}
+use Rattle.wit_productions.specs.TypeGrammar.{any_type}
+pub use Rattle.wit_productions.specs.NameGrammar.{package_name, path_behind, use_path}
+use Rattle.wit_productions.specs.TypeTree.{TypeTree}
 
 -- ---- attributes
 
@@ -76,29 +47,34 @@ attribute_word name =
     else if bytes_eq name (codes "deprecated") then Some deprecated
     else None
 
-abbrev pub attribute_by : Option AttributeWord → Next AttributeTree
-attribute_by None = none
-attribute_by (Some since) = goes (version_argument >>= (λ v. yield (tree.since v)))
-attribute_by (Some unstable) = goes (feature_argument >>= (λ n. yield (tree.unstable n)))
-attribute_by (Some deprecated) = goes (version_argument >>= (λ v. yield (tree.deprecated v)))
+abbrev pub gate_by : Option AttributeWord → Next GateTree
+gate_by None = none
+gate_by (Some since) = goes (version_argument >>= (λ v. yield (tree.since v)))
+gate_by (Some unstable) = goes (feature_argument >>= (λ n. yield (tree.unstable n)))
+gate_by (Some deprecated) = goes (version_argument >>= (λ v. yield (tree.deprecated v)))
 
-abbrev pub attribute_at : What → Next AttributeTree
-attribute_at (ident name) = attribute_by (attribute_word name)
-attribute_at _ = none
+abbrev pub gate_at : What → Next GateTree
+gate_at (ident name) = gate_by (attribute_word name)
+gate_at _ = none
 
 -- what stands behind the `@` of an attribute
-unfoldable pub attribute : Production AttributeTree
-attribute = by attribute_at
+unfoldable pub gate : Production GateTree
+gate = by gate_at
 
--- an item behind its attributes
-abbrev pub attributed : {X : Type 0} → Production X → Production (List AttributeTree × X)
-attributed item = many kind.At attribute >>= (λ attributes. item >>= (λ i. yield (attributes, i)))
+unfoldable pub attribute : Production AttributeTree
+attribute = do
+  x ← located gate
+  yield (record { gate = x.1; span = x.0 })
+
+-- an item behind its attributes, and where it stands
+abbrev pub attributed : {X : Type 0} → Production X → Production (List AttributeTree × Span × X)
+attributed item = many kind.At attribute >>= (λ attributes. located item >>= (λ i. yield (attributes, i.0, i.1)))
 
 -- the same with the docs in front
 unfoldable pub gated : {X : Type 0} → Production X → Production (GatedTree X)
 gated {X = X} item = do
   x ← documented (attributed item)
-  yield (record { docs = x.0; attributes = x.1.0; item = x.1.1 })
+  yield (record { docs = x.0; attributes = x.1.0; item = x.1.2; span = x.1.1 })
 
 -- ---- use
 
@@ -311,7 +287,7 @@ extern_behind name = branch kind.Interface
 unfoldable pub extern_item : Production ExternTree
 extern_item = do
   n ← id
-  branch kind.Colon (extern_behind n) (sign kind.Semicolon >> yield (tree.ExternTree.path (tree.UsePathTree.id n)))
+  branch kind.Colon (extern_behind n) (sign kind.Semicolon >> yield (tree.ExternTree.path (tree.id n)))
 
 -- name as other
 unfoldable pub include_name : Production IncludeNameTree
@@ -379,26 +355,37 @@ unfoldable pub file_item : Production FileItemTree
 file_item = by file_item_at
 
 -- package name; or package name { item .. }, behind package
-unfoldable pub package_first : Production FirstTree
-package_first = do
+unfoldable pub package_opening : Production OpeningTree
+package_opening = do
   p ← package_name
-  branch kind.Semicolon (yield (tree.FirstTree.header p)) (package_items p >>= (λ n. yield (tree.FirstTree.item [] (tree.nested n))))
+  branch kind.Semicolon (yield (tree.OpeningTree.header p)) (package_items p >>= (λ n. yield (tree.OpeningTree.item (tree.nested n))))
+
+-- a package, or an item that is none
+unfoldable pub opening : Production OpeningTree
+opening = branch kind.Package package_opening (ast_item >>= (λ i. yield (tree.OpeningTree.item (tree.FileItemTree.item i))))
 
 -- an item behind the `@` of its first attribute
 unfoldable pub gated_first : Production FirstTree
 gated_first = do
   first ← attribute
   more ← many kind.At attribute
-  i ← file_item
-  yield (tree.FirstTree.item (first ∷ more) i)
+  i ← located file_item
+  yield (tree.FirstTree.item (first ∷ more) i.0 i.1)
 
--- a package, or an item behind attributes, or without any, which is no package then
+abbrev pub without_gates : Span × OpeningTree → FirstTree
+without_gates x = place x.0 x.1
+  where
+    place : Span → OpeningTree → FirstTree
+    place span (tree.OpeningTree.header p) = tree.FirstTree.header p
+    place span (tree.OpeningTree.item i) = tree.FirstTree.item [] span i
+
+-- an item behind attributes, or a package or an item without any
 unfoldable pub first : Production FirstTree
-first = branch kind.Package package_first (branch kind.At gated_first (ast_item >>= (λ i. yield (tree.FirstTree.item [] (tree.FileItemTree.item i)))))
+first = branch kind.At gated_first (located opening >>= (λ x. yield (without_gates x)))
 
 abbrev pub file_of : List Slice → FirstTree → List (GatedTree FileItemTree) → FileTree
 file_of docs (tree.FirstTree.header p) is = record { header = Some (record { docs = docs; name = p }); items = is }
-file_of docs (tree.FirstTree.item attributes i) is = record { header = None; items = record { docs = docs; attributes = attributes; item = i } ∷ is }
+file_of docs (tree.FirstTree.item attributes span i) is = record { header = None; items = record { docs = docs; attributes = attributes; item = i; span = span } ∷ is }
 
 -- package name; item .. or item ..
 unfoldable pub some_file : Production FileTree
@@ -409,10 +396,3 @@ some_file = do
 
 unfoldable pub file : Production FileTree
 file = at_end (record { header = None; items = [] }) some_file
-
--- ---- paths by themselves
-
-unfoldable pub whole_use_path : Production UsePathTree
-whole_use_path = do
-  p ← use_path
-  finish p

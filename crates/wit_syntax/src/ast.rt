@@ -1,65 +1,30 @@
 //! The tree of a text (WIT). Each name is a slice of the text, with where it stands.
 
-use crate::docs::Docs;
-use crate::source_map::Span;
-use crate::types::Type;
+use wit_productions::{Id, PackageName, Type, UsePath, Version};
+use wit_tokens::{Docs, Span};
 
-/// An identifier (WIT, Identifiers).
-#[derive(Clone, Copy, Debug, PartialEq)]
-pub struct Id<'a> {
-    /// The name, without a `%` in front of it.
-    pub name: &'a str,
-    /// Where the name stands.
-    pub span: Span,
-}
-
-/// A version of SemVer 2.0.
-#[derive(Clone, Copy, Debug, PartialEq)]
-pub struct Version<'a> {
-    /// The version as it stands in the text.
-    pub text: &'a str,
-    /// Where it stands.
-    pub span: Span,
-}
-
-/// `namespace:name` or `namespace:name@version` (WIT, Package Names).
+/// Since when, or on what terms, an item is there (WIT, Feature Gates).
 #[derive(Clone, Copy, Debug)]
-pub struct PackageName<'a> {
-    /// What stands in front of the colon.
-    pub namespace: Id<'a>,
-    /// The package's name.
-    pub name: Id<'a>,
-    /// Its version, if it has one.
-    pub version: Option<Version<'a>>,
-}
-
-/// What a path names (WIT, Package and Interface Names).
-#[derive(Clone, Copy, Debug)]
-pub enum UsePath<'a> {
-    /// Something of the own package, or used by its file: `name`.
-    Id(Id<'a>),
-    /// Something of a package: `namespace:package/name` or `namespace:package/name@version`.
-    Package {
-        /// The package.
-        id: PackageName<'a>,
-        /// The name in it.
-        name: Id<'a>,
-    },
-}
-
-/// Since when and on what terms an item is there (WIT, Feature Gates).
-#[derive(Clone, Copy, Debug)]
-pub enum Attribute<'a> {
-    /// `@since(version = version)`
+pub enum Gate<'a> {
+    /// `since(version = version)`
     Since(Version<'a>),
-    /// `@unstable(feature = name)`
+    /// `unstable(feature = name)`
     Unstable(Id<'a>),
-    /// `@deprecated(version = version)`
+    /// `deprecated(version = version)`
     Deprecated(Version<'a>),
 }
 
+/// A gate behind an `@`.
+#[derive(Clone, Copy, Debug)]
+pub struct Attribute<'a> {
+    /// What it says.
+    pub gate: Gate<'a>,
+    /// Where it stands, without the `@`.
+    pub span: Span,
+}
+
 /// An item with what stands in front of it.
-#[derive(Debug, Drop)]
+#[derive(Drop)]
 pub struct Gated<'a, T> {
     /// The docs in front of the first of its attributes, or of the item where it has none.
     pub docs: Docs<'a>,
@@ -67,6 +32,8 @@ pub struct Gated<'a, T> {
     pub attributes: Vec<Attribute<'a>>,
     /// The item.
     pub item: T,
+    /// Where the item stands: from its keyword or its name to its closing brace or semicolon.
+    pub span: Span,
 }
 
 /// `name` or `name as other`
@@ -79,7 +46,7 @@ pub struct UseName<'a> {
 }
 
 /// `use path.{name, ..};` (WIT, Use)
-#[derive(Debug, Drop)]
+#[derive(Drop)]
 pub struct Use<'a> {
     /// The interface.
     pub from: UsePath<'a>,
@@ -97,7 +64,7 @@ pub struct ToplevelUse<'a> {
 }
 
 /// `name: type`
-#[derive(Debug, Drop)]
+#[derive(Drop)]
 pub struct Param<'a> {
     /// The parameter's name.
     pub name: Id<'a>,
@@ -106,7 +73,7 @@ pub struct Param<'a> {
 }
 
 /// `func(name: type, ..) -> type` or the same behind `async` (WIT, Functions)
-#[derive(Debug, Drop)]
+#[derive(Drop)]
 pub struct Func<'a> {
     /// Whether `async` stands in front of it.
     pub async_: bool,
@@ -117,7 +84,7 @@ pub struct Func<'a> {
 }
 
 /// `name: func(..);`
-#[derive(Debug, Drop)]
+#[derive(Drop)]
 pub struct NamedFunc<'a> {
     /// The function's name.
     pub name: Id<'a>,
@@ -126,7 +93,7 @@ pub struct NamedFunc<'a> {
 }
 
 /// A field of a record: `name: type`
-#[derive(Debug, Drop)]
+#[derive(Drop)]
 pub struct Field<'a> {
     /// The docs in front of it.
     pub docs: Docs<'a>,
@@ -137,7 +104,7 @@ pub struct Field<'a> {
 }
 
 /// A flag: `name`
-#[derive(Debug, Drop)]
+#[derive(Drop)]
 pub struct Flag<'a> {
     /// The docs in front of it.
     pub docs: Docs<'a>,
@@ -146,7 +113,7 @@ pub struct Flag<'a> {
 }
 
 /// A case of an enum: `name`
-#[derive(Debug, Drop)]
+#[derive(Drop)]
 pub struct EnumCase<'a> {
     /// The docs in front of it.
     pub docs: Docs<'a>,
@@ -155,7 +122,7 @@ pub struct EnumCase<'a> {
 }
 
 /// A case of a variant: `name` or `name(type)`
-#[derive(Debug, Drop)]
+#[derive(Drop)]
 pub struct Case<'a> {
     /// The docs in front of it.
     pub docs: Docs<'a>,
@@ -166,7 +133,7 @@ pub struct Case<'a> {
 }
 
 /// A function of a resource (WIT, Item: `resource`).
-#[derive(Debug, Drop)]
+#[derive(Drop)]
 pub enum ResourceFunc<'a> {
     /// `constructor(name: type, ..);` or `constructor(name: type, ..) -> type;`
     Constructor {
@@ -182,7 +149,7 @@ pub enum ResourceFunc<'a> {
 }
 
 /// What a type definition defines (WIT, Items).
-#[derive(Debug, Drop)]
+#[derive(Drop)]
 pub enum TypeDefKind<'a> {
     /// `type name = type;`
     Alias(Type<'a>),
@@ -199,7 +166,7 @@ pub enum TypeDefKind<'a> {
 }
 
 /// A type definition.
-#[derive(Debug, Drop)]
+#[derive(Drop)]
 pub struct TypeDef<'a> {
     /// The type's name.
     pub name: Id<'a>,
@@ -208,7 +175,7 @@ pub struct TypeDef<'a> {
 }
 
 /// An item of an interface.
-#[derive(Debug, Drop)]
+#[derive(Drop)]
 pub enum InterfaceItem<'a> {
     /// `use path.{name, ..};`
     Use(Use<'a>),
@@ -219,7 +186,7 @@ pub enum InterfaceItem<'a> {
 }
 
 /// `interface name { item .. }` (WIT, Item: `interface`)
-#[derive(Debug, Drop)]
+#[derive(Drop)]
 pub struct Interface<'a> {
     /// The interface's name.
     pub name: Id<'a>,
@@ -228,7 +195,7 @@ pub struct Interface<'a> {
 }
 
 /// What a world imports or exports.
-#[derive(Debug, Drop)]
+#[derive(Drop)]
 pub enum ExternKind<'a> {
     /// `name: func(..);`
     Func(NamedFunc<'a>),
@@ -248,7 +215,7 @@ pub struct IncludeName<'a> {
 }
 
 /// `include path;` or `include path with { name as other, .. }` (WIT, Item: `include`)
-#[derive(Debug, Drop)]
+#[derive(Drop)]
 pub struct Include<'a> {
     /// The world.
     pub from: UsePath<'a>,
@@ -257,7 +224,7 @@ pub struct Include<'a> {
 }
 
 /// An item of a world.
-#[derive(Debug, Drop)]
+#[derive(Drop)]
 pub enum WorldItem<'a> {
     /// `import ..`
     Import(ExternKind<'a>),
@@ -272,7 +239,7 @@ pub enum WorldItem<'a> {
 }
 
 /// `world name { item .. }` (WIT, Item: `world`)
-#[derive(Debug, Drop)]
+#[derive(Drop)]
 pub struct World<'a> {
     /// The world's name.
     pub name: Id<'a>,
@@ -281,7 +248,7 @@ pub struct World<'a> {
 }
 
 /// An item of a package.
-#[derive(Debug, Drop)]
+#[derive(Drop)]
 pub enum AstItem<'a> {
     /// `use path;`
     Use(ToplevelUse<'a>),
@@ -292,7 +259,7 @@ pub enum AstItem<'a> {
 }
 
 /// A package within a file: `package namespace:name { item .. }`
-#[derive(Debug, Drop)]
+#[derive(Drop)]
 pub struct Package<'a> {
     /// The package's name.
     pub name: PackageName<'a>,
@@ -301,7 +268,7 @@ pub struct Package<'a> {
 }
 
 /// An item of a file.
-#[derive(Debug, Drop)]
+#[derive(Drop)]
 pub enum FileItem<'a> {
     /// An item of the file's own package.
     Item(AstItem<'a>),
@@ -310,7 +277,7 @@ pub enum FileItem<'a> {
 }
 
 /// The package that a file is of: `package namespace:name;`
-#[derive(Debug, Drop)]
+#[derive(Drop)]
 pub struct PackageHeader<'a> {
     /// The docs in front of it.
     pub docs: Docs<'a>,
@@ -319,7 +286,7 @@ pub struct PackageHeader<'a> {
 }
 
 /// A whole text.
-#[derive(Debug, Drop)]
+#[derive(Drop)]
 pub struct File<'a> {
     /// The package that it is of, if it says so.
     pub package: Option<PackageHeader<'a>>,

@@ -3,85 +3,21 @@
 ghost use Rattle.std.specs.Prelude.{◌≡◌, option_map, map, List, length, true, false};
 ghost use Rattle.wit_syntax.specs.AstView as view;
 ghost use Rattle.wit_syntax.specs.FileGrammar as spec;
-ghost use Rattle.wit_syntax.specs.Production.{Reads, many, optional, some_commas, next_at};
-ghost use Rattle.wit_syntax.specs.Terminal.{id, version};
-ghost use Rattle.wit_syntax.specs.Token.{Tok, plain};
-ghost use Rattle.wit_syntax.specs.TypeGrammar.{any_type};
-ghost use Rattle.wit_syntax.specs.TypeView.{type_tree};
-ghost use Rattle.wit_syntax.specs.declared.token.Kind.TheVariants as kind;
+ghost use Rattle.wit_productions.specs.Production.{Reads, many, optional, some_commas, next_at};
+ghost use Rattle.wit_productions.specs.Terminal.{id, version};
+ghost use Rattle.wit_tokens.specs.Token.{Tok, plain};
+ghost use Rattle.wit_productions.specs.TypeGrammar.{any_type};
+ghost use Rattle.wit_productions.specs.TypeView.{type_tree};
+ghost use Rattle.wit_tokens.specs.declared.token.Kind.TheVariants as kind;
 
 use crate::ast::{
-    Attribute, Func, Gated, Id, Include, IncludeName, NamedFunc, PackageName, Param, ToplevelUse,
-    Use, UseName, UsePath, Version,
+    Attribute, Func, Gate, Gated, Include, IncludeName, NamedFunc, Param, ToplevelUse, Use, UseName,
 };
-use crate::cursor::{Cursor, fault};
-use crate::fault::{ReadError, Rule};
-use crate::list::{Part, commas};
-use crate::parse_types::any_type;
-use crate::token::{Kind, Token};
-use crate::types::Type;
 use std::alloc::Global;
-
-// ---- names of packages, and paths
-
-/// A version behind an `@`, if there is one.
-#[tactic(auto, unfolding(crate::specs::Production::branch))]
-fn at_version<'a>(tokens: &mut Cursor<'_, 'a>) -> Result<Option<Version<'a>>, ReadError>
-    ensures { Reads (option_map view.version) result tokens.new ((optional kind.At version).read tokens.old) }
-{
-    if tokens.eat(Kind::At) {
-        return Ok(Some(tokens.version()?));
-    }
-    Ok(None)
-}
-
-/// The name of a package.
-#[tactic(auto, unfolding(crate::specs::FileGrammar::package_name, crate::specs::FileGrammar::package_behind))]
-pub fn package_name<'a>(tokens: &mut Cursor<'_, 'a>) -> Result<PackageName<'a>, ReadError>
-    ensures { Reads view.package_name result tokens.new (spec.package_name.read tokens.old) }
-{
-    let namespace = tokens.id()?;
-    tokens.expect(Kind::Colon)?;
-    let name = tokens.id()?;
-    let version = at_version(tokens)?;
-    Ok(PackageName {
-        namespace,
-        name,
-        version,
-    })
-}
-
-/// What stands behind the namespace of a path and a colon.
-#[tactic(auto, unfolding(crate::specs::FileGrammar::path_behind))]
-pub fn path_behind<'a>(
-    namespace: Id<'a>,
-    tokens: &mut Cursor<'_, 'a>,
-) -> Result<UsePath<'a>, ReadError>
-    ensures { Reads view.use_path result tokens.new ((spec.path_behind (view.id namespace.entry)).read tokens.old) }
-{
-    let package = tokens.id()?;
-    tokens.expect(Kind::Slash)?;
-    let name = tokens.id()?;
-    let version = at_version(tokens)?;
-    let id = PackageName {
-        namespace,
-        name: package,
-        version,
-    };
-    Ok(UsePath::Package { id, name })
-}
-
-/// A path.
-#[tactic(auto, unfolding(crate::specs::FileGrammar::use_path, crate::specs::Production::branch))]
-pub fn use_path<'a>(tokens: &mut Cursor<'_, 'a>) -> Result<UsePath<'a>, ReadError>
-    ensures { Reads view.use_path result tokens.new (spec.use_path.read tokens.old) }
-{
-    let name = tokens.id()?;
-    if tokens.eat(Kind::Colon) {
-        return path_behind(name, tokens);
-    }
-    Ok(UsePath::Id(name))
-}
+use wit_productions::{
+    Cursor, Id, Part, ReadError, Type, Version, any_type, commas, fault_at, use_path,
+};
+use wit_tokens::{Kind, Rule, Token};
 
 // ---- attributes
 
@@ -110,20 +46,31 @@ fn feature_argument<'a>(tokens: &mut Cursor<'_, 'a>) -> Result<Id<'a>, ReadError
 }
 
 /// What stands behind the `@` of an attribute.
-#[tactic(auto, unfolding(crate::specs::FileGrammar::attribute))]
-pub fn attribute<'a>(tokens: &mut Cursor<'_, 'a>) -> Result<Attribute<'a>, ReadError>
-    ensures { Reads view.attribute result tokens.new (spec.attribute.read tokens.old) }
+#[tactic(auto, unfolding(crate::specs::FileGrammar::gate))]
+fn gate<'a>(tokens: &mut Cursor<'_, 'a>) -> Result<Gate<'a>, ReadError>
+    ensures { Reads view.gate result tokens.new (spec.gate.read tokens.old) }
 {
     let left = tokens.left();
     let Some((Token::Id(name), _)) = tokens.next() else {
-        return Err(fault(Rule::Unexpected, left));
+        return Err(fault_at(Rule::Unexpected, left));
     };
     match name {
-        "since" => Ok(Attribute::Since(version_argument(tokens)?)),
-        "unstable" => Ok(Attribute::Unstable(feature_argument(tokens)?)),
-        "deprecated" => Ok(Attribute::Deprecated(version_argument(tokens)?)),
-        _ => Err(fault(Rule::Unexpected, left)),
+        "since" => Ok(Gate::Since(version_argument(tokens)?)),
+        "unstable" => Ok(Gate::Unstable(feature_argument(tokens)?)),
+        "deprecated" => Ok(Gate::Deprecated(version_argument(tokens)?)),
+        _ => Err(fault_at(Rule::Unexpected, left)),
     }
+}
+
+/// An attribute behind its `@`.
+#[tactic(auto, unfolding(crate::specs::FileGrammar::attribute, wit_productions::specs::Production::located))]
+pub fn attribute<'a>(tokens: &mut Cursor<'_, 'a>) -> Result<Attribute<'a>, ReadError>
+    ensures { Reads view.attribute result tokens.new (spec.attribute.read tokens.old) }
+{
+    let start = tokens.here();
+    let gate = gate(tokens)?;
+    let span = tokens.span_from(start);
+    Ok(Attribute { gate, span })
 }
 
 /// As many attributes as stand there.
@@ -151,15 +98,18 @@ impl<'a, T: Part<'a>> Part<'a> for Gated<'a, T> {
 
     ghost tree = { view.gated T.tree };
 
-    #[tactic(auto, unfolding(crate::specs::FileGrammar::gated, crate::specs::Production::documented))]
+    #[tactic(auto, unfolding(crate::specs::FileGrammar::gated, wit_productions::specs::Production::documented, wit_productions::specs::Production::located))]
     fn parse(alloc: Global, tokens: &mut Cursor<'_, 'a>) -> Result<Gated<'a, T>, ReadError> {
         let docs = tokens.docs(alloc)?;
         let attributes = attributes(alloc, tokens)?;
+        let start = tokens.here();
         let item = T::parse(alloc, tokens)?;
+        let span = tokens.span_from(start);
         Ok(Gated {
             docs,
             attributes,
             item,
+            span,
         })
     }
 }
@@ -167,7 +117,7 @@ impl<'a, T: Part<'a>> Part<'a> for Gated<'a, T> {
 // ---- use
 
 /// Another name behind `as`, if there is one.
-#[tactic(auto, unfolding(crate::specs::Production::branch))]
+#[tactic(auto, unfolding(wit_productions::specs::Production::branch))]
 fn as_id<'a>(tokens: &mut Cursor<'_, 'a>) -> Result<Option<Id<'a>>, ReadError>
     ensures { Reads (option_map view.id) result tokens.new ((optional kind.As id).read tokens.old) }
 {
@@ -197,7 +147,7 @@ impl<'a> Part<'a> for UseName<'a> {
 }
 
 /// At least one name that is used, with commas between them, up to a closing brace.
-#[tactic(auto, unfolding(crate::specs::Production::branch), using(crate::proofs::FileLaws::use_name_takes))]
+#[tactic(auto, unfolding(wit_productions::specs::Production::branch), using(crate::proofs::FileLaws::use_name_takes))]
 fn use_names<'a>(alloc: Global, tokens: &mut Cursor<'_, 'a>) -> Result<Vec<UseName<'a>>, ReadError>
     ensures { Reads (λ v. map view.use_name v.items) result tokens.new ((some_commas spec.use_name kind.RightBrace).read tokens.old) }
 {
@@ -269,7 +219,7 @@ pub fn params<'a>(alloc: Global, tokens: &mut Cursor<'_, 'a>) -> Result<Vec<Para
 }
 
 /// A type behind an arrow, if there is one.
-#[tactic(auto, unfolding(crate::specs::Production::branch))]
+#[tactic(auto, unfolding(wit_productions::specs::Production::branch))]
 pub fn arrow<'a>(alloc: Global, tokens: &mut Cursor<'_, 'a>) -> Result<Option<Type<'a>>, ReadError>
     ensures { Reads (option_map type_tree) result tokens.new ((optional kind.RightArrow any_type).read tokens.old) }
 {
@@ -297,7 +247,7 @@ pub fn func_behind<'a>(
     })
 }
 
-#[tactic(auto, unfolding(crate::specs::FileGrammar::func, crate::specs::Production::branch))]
+#[tactic(auto, unfolding(crate::specs::FileGrammar::func, wit_productions::specs::Production::branch))]
 fn func<'a>(alloc: Global, tokens: &mut Cursor<'_, 'a>) -> Result<Func<'a>, ReadError>
     ensures { Reads view.func result tokens.new (spec.func.read tokens.old) }
 {
@@ -341,7 +291,7 @@ impl<'a> Part<'a> for IncludeName<'a> {
 }
 
 /// What stands behind `include`.
-#[tactic(auto, unfolding(crate::specs::FileGrammar::include_behind, crate::specs::Production::branch), using(crate::proofs::FileLaws::include_name_takes))]
+#[tactic(auto, unfolding(crate::specs::FileGrammar::include_behind, wit_productions::specs::Production::branch), using(crate::proofs::FileLaws::include_name_takes))]
 pub fn include_behind<'a>(
     alloc: Global,
     tokens: &mut Cursor<'_, 'a>,

@@ -3,24 +3,15 @@
 ghost use Rattle.std.specs.Prelude.{◌≡◌, List, length, map, IfOk};
 ghost use Rattle.wit_syntax.specs.AstView as view;
 ghost use Rattle.wit_syntax.specs.FileGrammar as spec;
-ghost use Rattle.wit_syntax.specs.Production.{Reads, next_at};
-ghost use Rattle.wit_syntax.specs.Token.{Tok, plain};
-ghost use Rattle.wit_syntax.specs.TypeGrammar.{whole_type};
-ghost use Rattle.wit_syntax.specs.TypeView.{type_tree};
+ghost use Rattle.wit_productions.specs.Production.{Reads, next_at};
+ghost use Rattle.wit_tokens.specs.Token.{Tok, plain};
 
-use crate::ast::{
-    AstItem, Attribute, File, FileItem, Gated, Package, PackageHeader, PackageName, UsePath,
-};
-use crate::cursor::{Cursor, fault};
-use crate::docs::Docs;
-use crate::fault::{ReadError, Rule};
-use crate::list::{Part, all, until};
-use crate::parse::{attribute, attributes, package_name, toplevel_use_behind, use_path};
+use crate::ast::{AstItem, Attribute, File, FileItem, Gated, Package, PackageHeader};
+use crate::parse::{attribute, attributes, toplevel_use_behind};
 use crate::parse_items::{interface_behind, world_behind};
-use crate::parse_types::any_type;
-use crate::token::{Kind, Token};
-use crate::types::Type;
 use std::alloc::{AllocError, Global};
+use wit_productions::{Cursor, PackageName, Part, ReadError, all, fault_at, package_name, until};
+use wit_tokens::{Docs, Kind, Rule, Span, Token};
 
 /// An item of a package behind its keyword, before which `left` tokens were left.
 fn ast_item_behind<'a>(
@@ -35,7 +26,7 @@ fn ast_item_behind<'a>(
         Kind::Use => Ok(AstItem::Use(toplevel_use_behind(tokens)?)),
         Kind::Interface => Ok(AstItem::Interface(interface_behind(alloc, tokens)?)),
         Kind::World => Ok(AstItem::World(world_behind(alloc, tokens)?)),
-        _ => Err(fault(Rule::Unexpected, left)),
+        _ => Err(fault_at(Rule::Unexpected, left)),
     }
 }
 
@@ -54,7 +45,7 @@ impl<'a> Part<'a> for AstItem<'a> {
     fn parse(alloc: Global, tokens: &mut Cursor<'_, 'a>) -> Result<AstItem<'a>, ReadError> {
         let left = tokens.left();
         let Some((Token::Plain(keyword), _)) = tokens.next() else {
-            return Err(fault(Rule::Unexpected, left));
+            return Err(fault_at(Rule::Unexpected, left));
         };
         ast_item_behind(alloc, keyword, left, tokens)
     }
@@ -107,10 +98,19 @@ impl<'a> Part<'a> for FileItem<'a> {
     fn parse(alloc: Global, tokens: &mut Cursor<'_, 'a>) -> Result<FileItem<'a>, ReadError> {
         let left = tokens.left();
         let Some((Token::Plain(keyword), _)) = tokens.next() else {
-            return Err(fault(Rule::Unexpected, left));
+            return Err(fault_at(Rule::Unexpected, left));
         };
         file_item_behind(alloc, keyword, left, tokens)
     }
+}
+
+/// What stands first in a file where no attribute does.
+#[derive(Drop)]
+pub enum Opening<'a> {
+    /// The name of the file's package.
+    Header(PackageName<'a>),
+    /// An item.
+    Item(FileItem<'a>),
 }
 
 /// What stands first in a file.
@@ -118,47 +118,59 @@ impl<'a> Part<'a> for FileItem<'a> {
 pub enum First<'a> {
     /// The name of the file's package.
     Header(PackageName<'a>),
-    /// An item behind its attributes.
-    Item(Vec<Attribute<'a>>, FileItem<'a>),
+    /// An item and where it stands, behind its attributes.
+    Item(Vec<Attribute<'a>>, Span, FileItem<'a>),
 }
 
 /// What stands behind `package` at the front of a file.
-#[tactic(auto, unfolding(crate::specs::FileGrammar::package_first, crate::specs::Production::branch))]
-fn package_first<'a>(alloc: Global, tokens: &mut Cursor<'_, 'a>) -> Result<First<'a>, ReadError>
-    ensures { Reads view.first result tokens.new (spec.package_first.read tokens.old) }
+#[tactic(auto, unfolding(crate::specs::FileGrammar::package_opening, wit_productions::specs::Production::branch))]
+fn package_opening<'a>(alloc: Global, tokens: &mut Cursor<'_, 'a>) -> Result<Opening<'a>, ReadError>
+    ensures { Reads view.opening result tokens.new (spec.package_opening.read tokens.old) }
 {
     let name = package_name(tokens)?;
     if tokens.eat(Kind::Semicolon) {
-        return Ok(First::Header(name));
+        return Ok(Opening::Header(name));
     }
     let package = package_items(alloc, name, tokens)?;
-    Ok(First::Item(Vec::new(alloc), FileItem::Package(package)))
+    Ok(Opening::Item(FileItem::Package(package)))
+}
+
+#[tactic(auto, unfolding(crate::specs::FileGrammar::opening, wit_productions::specs::Production::branch))]
+fn opening_of<'a>(alloc: Global, tokens: &mut Cursor<'_, 'a>) -> Result<Opening<'a>, ReadError>
+    ensures { Reads view.opening result tokens.new (spec.opening.read tokens.old) }
+{
+    if tokens.eat(Kind::Package) {
+        return package_opening(alloc, tokens);
+    }
+    let item = AstItem::parse(alloc, tokens)?;
+    Ok(Opening::Item(FileItem::Item(item)))
 }
 
 /// An item behind the `@` of its first attribute.
-#[tactic(auto, unfolding(crate::specs::FileGrammar::gated_first))]
+#[tactic(auto, unfolding(crate::specs::FileGrammar::gated_first, wit_productions::specs::Production::located))]
 fn gated_first<'a>(alloc: Global, tokens: &mut Cursor<'_, 'a>) -> Result<First<'a>, ReadError>
     ensures { Reads view.first result tokens.new (spec.gated_first.read tokens.old) }
 {
     let first = attribute(tokens)?;
     let mut attributes = attributes(alloc, tokens)?;
     attributes.insert(0, first)?;
+    let start = tokens.here();
     let item = FileItem::parse(alloc, tokens)?;
-    Ok(First::Item(attributes, item))
+    Ok(First::Item(attributes, tokens.span_from(start), item))
 }
 
-#[tactic(auto, unfolding(crate::specs::FileGrammar::first, crate::specs::Production::branch))]
-fn opening<'a>(alloc: Global, tokens: &mut Cursor<'_, 'a>) -> Result<First<'a>, ReadError>
+#[tactic(auto, unfolding(crate::specs::FileGrammar::first, wit_productions::specs::Production::branch, wit_productions::specs::Production::located))]
+fn first_of<'a>(alloc: Global, tokens: &mut Cursor<'_, 'a>) -> Result<First<'a>, ReadError>
     ensures { Reads view.first result tokens.new (spec.first.read tokens.old) }
 {
-    if tokens.eat(Kind::Package) {
-        return package_first(alloc, tokens);
-    }
     if tokens.eat(Kind::At) {
         return gated_first(alloc, tokens);
     }
-    let item = AstItem::parse(alloc, tokens)?;
-    Ok(First::Item(Vec::new(alloc), FileItem::Item(item)))
+    let start = tokens.here();
+    match opening_of(alloc, tokens)? {
+        Opening::Header(name) => Ok(First::Header(name)),
+        Opening::Item(item) => Ok(First::Item(Vec::new(alloc), tokens.span_from(start), item)),
+    }
 }
 
 /// A whole file.
@@ -176,12 +188,12 @@ pub fn file<'a>(alloc: Global, tokens: &mut Cursor<'_, 'a>) -> Result<File<'a>, 
 }
 
 /// The same of one that isn't empty.
-#[tactic(auto, unfolding(crate::specs::FileGrammar::some_file, crate::specs::Production::documented), using(crate::proofs::FileLaws::file_item_takes))]
+#[tactic(auto, unfolding(crate::specs::FileGrammar::some_file, wit_productions::specs::Production::documented), using(crate::proofs::FileLaws::file_item_takes))]
 fn documented_file<'a>(alloc: Global, tokens: &mut Cursor<'_, 'a>) -> Result<File<'a>, ReadError>
     ensures { Reads view.file result tokens.new (spec.some_file.read tokens.old) }
 {
     let docs = tokens.docs(alloc)?;
-    let first = opening(alloc, tokens)?;
+    let first = first_of(alloc, tokens)?;
     let items = all::<Gated<'a, FileItem<'a>>>(alloc, tokens)?;
     Ok(with_first(docs, first, items)?)
 }
@@ -199,13 +211,14 @@ fn with_first<'a>(
             package: Some(PackageHeader { docs, name }),
             items,
         }),
-        First::Item(attributes, item) => {
+        First::Item(attributes, span, item) => {
             items.insert(
                 0,
                 Gated {
                     docs,
                     attributes,
                     item,
+                    span,
                 },
             )?;
             Ok(File {
@@ -214,24 +227,4 @@ fn with_first<'a>(
             })
         }
     }
-}
-
-/// A path, and nothing behind it.
-#[tactic(auto, unfolding(crate::specs::FileGrammar::whole_use_path))]
-pub fn whole_use_path<'a>(tokens: &mut Cursor<'_, 'a>) -> Result<UsePath<'a>, ReadError>
-    ensures { Reads view.use_path result tokens.new (spec.whole_use_path.read tokens.old) }
-{
-    let path = use_path(tokens)?;
-    tokens.end()?;
-    Ok(path)
-}
-
-/// A type, and nothing behind it.
-#[tactic(auto, unfolding(crate::specs::TypeGrammar::whole_type))]
-pub fn whole_type<'a>(alloc: Global, tokens: &mut Cursor<'_, 'a>) -> Result<Type<'a>, ReadError>
-    ensures { Reads type_tree result tokens.new (whole_type.read tokens.old) }
-{
-    let ty = any_type(alloc, tokens)?;
-    tokens.end()?;
-    Ok(ty)
 }

@@ -3,25 +3,21 @@
 ghost use Rattle.std.specs.Prelude.{◌≡◌, option_map, map, List, length};
 ghost use Rattle.wit_syntax.specs.AstView as view;
 ghost use Rattle.wit_syntax.specs.FileGrammar as spec;
-ghost use Rattle.wit_syntax.specs.Production.{Reads, Takes, next_at, optional};
-ghost use Rattle.wit_syntax.specs.Token.{Tok, plain};
-ghost use Rattle.wit_syntax.specs.TypeView.{type_tree};
-ghost use Rattle.wit_syntax.specs.declared.token.Kind.TheVariants as kind;
+ghost use Rattle.wit_productions.specs.Production.{Reads, Takes, next_at, optional};
+ghost use Rattle.wit_tokens.specs.Token.{Tok, plain};
+ghost use Rattle.wit_productions.specs.TypeView.{type_tree};
+ghost use Rattle.wit_tokens.specs.declared.token.Kind.TheVariants as kind;
 
 use crate::ast::{
-    Case, EnumCase, ExternKind, Field, Flag, Gated, Id, Interface, InterfaceItem, NamedFunc,
-    ResourceFunc, TypeDef, TypeDefKind, UsePath, World, WorldItem,
+    Case, EnumCase, ExternKind, Field, Flag, Gated, Interface, InterfaceItem, NamedFunc,
+    ResourceFunc, TypeDef, TypeDefKind, World, WorldItem,
 };
-use crate::cursor::{Cursor, fault};
-use crate::fault::{ReadError, Rule};
-use crate::list::{Part, commas, until};
-use crate::parse::{
-    arrow, func_behind, include_behind, named_func_behind, params, path_behind, use_behind,
-};
-use crate::parse_types::any_type;
-use crate::token::{Kind, Token};
-use crate::types::Type;
+use crate::parse::{arrow, func_behind, include_behind, named_func_behind, params, use_behind};
 use std::alloc::Global;
+use wit_productions::{
+    Cursor, Id, Part, ReadError, Type, UsePath, any_type, commas, fault_at, path_behind, until,
+};
+use wit_tokens::{Kind, Rule, Token};
 
 // ---- definitions of types
 
@@ -48,7 +44,7 @@ impl<'a> Part<'a> for Field<'a> {
 
     ghost tree = { view.field };
 
-    #[tactic(auto, unfolding(crate::specs::FileGrammar::field, crate::specs::FileGrammar::param, crate::specs::Production::documented))]
+    #[tactic(auto, unfolding(crate::specs::FileGrammar::field, crate::specs::FileGrammar::param, wit_productions::specs::Production::documented))]
     fn parse(alloc: Global, tokens: &mut Cursor<'_, 'a>) -> Result<Field<'a>, ReadError> {
         let docs = tokens.docs(alloc)?;
         let name = tokens.id()?;
@@ -69,7 +65,7 @@ impl<'a> Part<'a> for Flag<'a> {
 
     ghost tree = { view.flag };
 
-    #[tactic(auto, unfolding(crate::specs::FileGrammar::label, crate::specs::Production::documented))]
+    #[tactic(auto, unfolding(crate::specs::FileGrammar::label, wit_productions::specs::Production::documented))]
     fn parse(alloc: Global, tokens: &mut Cursor<'_, 'a>) -> Result<Flag<'a>, ReadError> {
         let docs = tokens.docs(alloc)?;
         let name = tokens.id()?;
@@ -88,7 +84,7 @@ impl<'a> Part<'a> for EnumCase<'a> {
 
     ghost tree = { view.enum_case };
 
-    #[tactic(auto, unfolding(crate::specs::FileGrammar::label, crate::specs::Production::documented))]
+    #[tactic(auto, unfolding(crate::specs::FileGrammar::label, wit_productions::specs::Production::documented))]
     fn parse(alloc: Global, tokens: &mut Cursor<'_, 'a>) -> Result<EnumCase<'a>, ReadError> {
         let docs = tokens.docs(alloc)?;
         let name = tokens.id()?;
@@ -97,7 +93,7 @@ impl<'a> Part<'a> for EnumCase<'a> {
 }
 
 /// The type of what a case carries, in parentheses, if it carries something.
-#[tactic(auto, unfolding(crate::specs::Production::branch))]
+#[tactic(auto, unfolding(wit_productions::specs::Production::branch))]
 fn carried<'a>(alloc: Global, tokens: &mut Cursor<'_, 'a>) -> Result<Option<Type<'a>>, ReadError>
     ensures { Reads (option_map type_tree) result tokens.new ((optional kind.LeftParenthesis spec.carried).read tokens.old) }
 {
@@ -120,7 +116,7 @@ impl<'a> Part<'a> for Case<'a> {
 
     ghost tree = { view.case };
 
-    #[tactic(auto, unfolding(crate::specs::FileGrammar::case, crate::specs::FileGrammar::case_parts, crate::specs::Production::documented))]
+    #[tactic(auto, unfolding(crate::specs::FileGrammar::case, crate::specs::FileGrammar::case_parts, wit_productions::specs::Production::documented))]
     fn parse(alloc: Global, tokens: &mut Cursor<'_, 'a>) -> Result<Case<'a>, ReadError> {
         let docs = tokens.docs(alloc)?;
         let name = tokens.id()?;
@@ -144,7 +140,7 @@ fn constructor_behind<'a>(
 }
 
 /// A method or a static function.
-#[tactic(auto, unfolding(crate::specs::FileGrammar::method, crate::specs::FileGrammar::method_behind, crate::specs::Production::branch))]
+#[tactic(auto, unfolding(crate::specs::FileGrammar::method, crate::specs::FileGrammar::method_behind, wit_productions::specs::Production::branch))]
 fn method<'a>(alloc: Global, tokens: &mut Cursor<'_, 'a>) -> Result<ResourceFunc<'a>, ReadError>
     ensures { Reads view.resource_func result tokens.new (spec.method.read tokens.old) }
 {
@@ -170,7 +166,7 @@ impl<'a> Part<'a> for ResourceFunc<'a> {
 
     ghost tree = { view.resource_func };
 
-    #[tactic(auto, unfolding(crate::specs::FileGrammar::resource_func, crate::specs::Production::branch))]
+    #[tactic(auto, unfolding(crate::specs::FileGrammar::resource_func, wit_productions::specs::Production::branch))]
     fn parse(alloc: Global, tokens: &mut Cursor<'_, 'a>) -> Result<ResourceFunc<'a>, ReadError> {
         if tokens.eat(Kind::Constructor) {
             return constructor_behind(alloc, tokens);
@@ -180,7 +176,7 @@ impl<'a> Part<'a> for ResourceFunc<'a> {
 }
 
 /// What stands behind `resource`.
-#[tactic(auto, unfolding(crate::specs::FileGrammar::resource_behind, crate::specs::Production::branch), using(crate::proofs::FileLaws::resource_func_takes))]
+#[tactic(auto, unfolding(crate::specs::FileGrammar::resource_behind, wit_productions::specs::Production::branch), using(crate::proofs::FileLaws::resource_func_takes))]
 fn resource_behind<'a>(alloc: Global, tokens: &mut Cursor<'_, 'a>) -> Result<TypeDef<'a>, ReadError>
     ensures { Reads view.type_def result tokens.new (spec.resource_behind.read tokens.old) }
 {
@@ -262,14 +258,14 @@ fn type_def_behind<'a>(
         Kind::Enum => enum_behind(alloc, tokens),
         Kind::Variant => variant_behind(alloc, tokens),
         Kind::Resource => resource_behind(alloc, tokens),
-        _ => Err(fault(Rule::Unexpected, left)),
+        _ => Err(fault_at(Rule::Unexpected, left)),
     }
 }
 
 // ---- interfaces
 
 /// A definition of a type, or a function.
-#[tactic(auto, unfolding(crate::specs::FileGrammar::definition, crate::specs::FileGrammar::named_func, crate::specs::Terminal::id, crate::specs::Production::by_or), using(crate::proofs::FileLaws::keyword_definition))]
+#[tactic(auto, unfolding(crate::specs::FileGrammar::definition, crate::specs::FileGrammar::named_func, wit_productions::specs::Terminal::id, wit_productions::specs::Production::by_or), using(crate::proofs::FileLaws::keyword_definition))]
 fn definition<'a>(
     alloc: Global,
     tokens: &mut Cursor<'_, 'a>,
@@ -278,7 +274,7 @@ fn definition<'a>(
 {
     let left = tokens.left();
     let Some((token, span)) = tokens.next() else {
-        return Err(fault(Rule::Unexpected, left));
+        return Err(fault_at(Rule::Unexpected, left));
     };
     match token {
         Token::Plain(keyword) => {
@@ -290,7 +286,7 @@ fn definition<'a>(
             let func = named_func_behind(alloc, Id { name, span }, tokens)?;
             Ok(InterfaceItem::Func(func))
         }
-        _ => Err(fault(Rule::Unexpected, left)),
+        _ => Err(fault_at(Rule::Unexpected, left)),
     }
 }
 
@@ -305,7 +301,7 @@ impl<'a> Part<'a> for InterfaceItem<'a> {
 
     ghost tree = { view.interface_item };
 
-    #[tactic(auto, unfolding(crate::specs::FileGrammar::interface_item, crate::specs::Production::branch))]
+    #[tactic(auto, unfolding(crate::specs::FileGrammar::interface_item, wit_productions::specs::Production::branch))]
     fn parse(alloc: Global, tokens: &mut Cursor<'_, 'a>) -> Result<InterfaceItem<'a>, ReadError> {
         if tokens.eat(Kind::Use) {
             return Ok(InterfaceItem::Use(use_behind(alloc, tokens)?));
@@ -357,7 +353,7 @@ fn extern_func<'a>(
 }
 
 /// What is imported or exported, behind a name and a colon.
-#[tactic(auto, unfolding(crate::specs::FileGrammar::extern_behind, crate::specs::Production::branch))]
+#[tactic(auto, unfolding(crate::specs::FileGrammar::extern_behind, wit_productions::specs::Production::branch))]
 fn extern_behind<'a>(
     alloc: Global,
     name: Id<'a>,
@@ -382,7 +378,7 @@ fn extern_behind<'a>(
 }
 
 /// What stands behind `import` or `export`.
-#[tactic(auto, unfolding(crate::specs::FileGrammar::extern_item, crate::specs::Production::branch))]
+#[tactic(auto, unfolding(crate::specs::FileGrammar::extern_item, wit_productions::specs::Production::branch))]
 fn extern_item<'a>(alloc: Global, tokens: &mut Cursor<'_, 'a>) -> Result<ExternKind<'a>, ReadError>
     ensures { Reads view.extern_kind result tokens.new (spec.extern_item.read tokens.old) }
 {
@@ -427,7 +423,7 @@ impl<'a> Part<'a> for WorldItem<'a> {
     fn parse(alloc: Global, tokens: &mut Cursor<'_, 'a>) -> Result<WorldItem<'a>, ReadError> {
         let left = tokens.left();
         let Some((Token::Plain(keyword), _)) = tokens.next() else {
-            return Err(fault(Rule::Unexpected, left));
+            return Err(fault_at(Rule::Unexpected, left));
         };
         world_item_behind(alloc, keyword, left, tokens)
     }

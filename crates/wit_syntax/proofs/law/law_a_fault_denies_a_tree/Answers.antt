@@ -1,6 +1,7 @@
-use Rattle.wit_syntax.specs.FileGrammar.{file, whole_use_path}
-use Rattle.wit_syntax.specs.TypeGrammar.{whole_type}
-use Rattle.wit_syntax.proofs.OneBreak.{memory_alone}
+use Rattle.wit_syntax.specs.FileGrammar.{file}
+use Rattle.wit_productions.specs.NameGrammar.{whole_use_path}
+use Rattle.wit_productions.specs.TypeGrammar.{whole_type}
+use Rattle.wit_productions.proofs.Causes.{memory_alone}
 use Rattle.wit_syntax.proofs.law.law_a_fault_denies_a_tree.Goals as goal
 
 pub returns-clause-tree : goal.returns-clause-tree

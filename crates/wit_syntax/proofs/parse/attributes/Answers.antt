@@ -3,11 +3,11 @@ use Rattle.std.proofs.lemmas.Result.{err_from_is_err_and}
 use Rattle.std.proofs.lemmas.List.{map_push}
 use Rattle.wit_syntax.specs.AstView as view
 use Rattle.wit_syntax.specs.FileGrammar.{attribute}
-use Rattle.wit_syntax.specs.Production.{sees}
-use Rattle.wit_syntax.specs.declared.token.Kind.TheVariants as kind
+use Rattle.wit_productions.specs.Production.{sees}
+use Rattle.wit_tokens.specs.declared.token.Kind.TheVariants as kind
 use Rattle.wit_syntax.proofs.FileLaws.{attribute_takes}
-use Rattle.wit_syntax.proofs.Loops.{many_ends, many_fails, many_goes_on}
-use Rattle.wit_syntax.proofs.Turns.{after_shorter}
+use Rattle.wit_productions.proofs.Loops.{many_ends, many_fails, many_goes_on}
+use Rattle.wit_productions.proofs.Turns.{after_shorter}
 use Rattle.wit_syntax.proofs.parse.attributes.Goals as goal
 
 pub returns-in_err-attribute : goal.returns-in_err-attribute

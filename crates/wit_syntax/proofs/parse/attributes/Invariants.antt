@@ -1,8 +1,8 @@
 use Rattle.std.proofs.Common.{◌≡◌, map, length}
 use Rattle.wit_syntax.specs.AstView as view
 use Rattle.wit_syntax.specs.FileGrammar.{attribute}
-use Rattle.wit_syntax.specs.Production.{many, onto}
-use Rattle.wit_syntax.specs.declared.token.Kind.TheVariants as kind
+use Rattle.wit_productions.specs.Production.{many, onto}
+use Rattle.wit_tokens.specs.declared.token.Kind.TheVariants as kind
 use Rattle.wit_syntax.proofs.parse.attributes.Given as goal
 
 abbrev pub invariant-loop-found : goal.invariant-loop-found

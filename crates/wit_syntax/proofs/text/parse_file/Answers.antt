@@ -2,12 +2,12 @@ use Rattle.std.proofs.Common.{◌+◌, length}
 use Rattle.std.proofs.lemmas.Result.{err_from_is_err_and}
 use Rattle.wit_syntax.specs.AstView as view
 use Rattle.wit_syntax.specs.FileGrammar.{file}
-use Rattle.wit_syntax.specs.Token.{toks}
-use Rattle.wit_syntax.specs.WholeText.{GivesTree}
-use Rattle.wit_syntax.proofs.TreeBreaks.{broken_tree}
+use Rattle.wit_tokens.specs.Token.{toks}
+use Rattle.wit_productions.specs.WholeText.{GivesTree}
+use Rattle.wit_productions.proofs.TreeBreaks.{broken_tree}
 use Rattle.wit_syntax.proofs.FileLaws.{file_law}
 use Rattle.wit_syntax.proofs.FileBreaks.{file_tells}
-use Rattle.wit_syntax.proofs.Texts.{lex_refuses, text_tree, text_answers, text_cause}
+use Rattle.wit_productions.proofs.Texts.{lex_refuses, text_tree, text_answers, text_cause}
 use Rattle.wit_syntax.proofs.Wholes.{file_whole}
 use Rattle.wit_syntax.proofs.text.parse_file.Goals as goal
 

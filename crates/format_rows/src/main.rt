@@ -1,0 +1,29 @@
+//! Rows of the binary formats: reads blocks of cases from standard input, and prints each line with its answer behind it.
+//!
+//! A block ends at a blank line, and has a builder of its own. What each line asks is said at the head of the input.
+#![tactic(auto)]
+
+mod block;
+mod component_text;
+mod core_text;
+mod distinct;
+mod making;
+mod row;
+mod spelling;
+
+use std::io;
+use std::io::{BufRead, BufReader};
+
+fn main(rt: HostRuntime) -> io::Result<()> {
+    let mut lines = Vec::new(rt.alloc());
+    for line in BufReader::new(rt.alloc(), rt.reader())?.lines(rt.alloc()) {
+        let line = line?;
+        if !line.is_empty() {
+            lines.push(line)?;
+            continue;
+        }
+        println!(rt; "{}", block::transcript(rt.alloc(), &lines)?)?;
+        lines.clear();
+    }
+    print!(rt; "{}", block::transcript(rt.alloc(), &lines)?)
+}

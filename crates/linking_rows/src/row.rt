@@ -1,0 +1,77 @@
+//! The lines of a block.
+
+use crate::command::{File, file_of};
+use crate::question::{Question, question_of};
+use crate::sample::{link_of, verdict_of};
+use crate::setup::{Setup, setup_of};
+use crate::spelling::{RowFault, readable};
+use component_linker::{Link, Verdict};
+use std::alloc::{AllocError, Global};
+
+/// The answer of a line that is none of the rows.
+pub const UNREADABLE: &str = "! cannot read this row\n";
+
+/// A line that was read.
+#[derive(Drop)]
+pub enum Row<'t> {
+    /// A heading or a comment.
+    Comment,
+    /// A line that is none of the others.
+    Unreadable,
+    /// What a session is handed.
+    Setup(Setup<'t>),
+    /// What a session is asked.
+    Question(Question),
+    /// A file that a run can read.
+    File(File<'t>),
+    /// The words to read as a command line.
+    Line(Vec<&'t str>),
+    /// The words to run the program on.
+    Run(Vec<&'t str>),
+    /// A link whose text is asked.
+    Link(Box<Link>),
+    /// A verdict whose text is asked.
+    Verdict(Verdict),
+}
+
+/// The words of a text.
+fn words_of<'t>(alloc: Global, text: &'t str) -> Result<Vec<&'t str>, AllocError> {
+    text.split_whitespace().collect(alloc)
+}
+
+/// The row of this first word that needs no session.
+fn other_row<'t>(alloc: Global, word: &str, rest: &'t str) -> Result<Row<'t>, RowFault> {
+    let words = words_of(alloc, rest)?;
+    match word {
+        "file" => Ok(Row::File(file_of(alloc, rest)?)),
+        "line" => Ok(Row::Line(words)),
+        "run" => Ok(Row::Run(words)),
+        "link" => Ok(Row::Link(Box::new(alloc, link_of(alloc, &words)?)?)),
+        "verdict" => Ok(Row::Verdict(readable(verdict_of(&words))?)),
+        _ => Err(RowFault::Unreadable),
+    }
+}
+
+/// The row that begins with this word, with the rest of its line.
+fn row_of<'t>(alloc: Global, word: &str, rest: &'t str) -> Result<Row<'t>, RowFault> {
+    match word {
+        "text" | "world" | "main" | "option" => Ok(Row::Setup(setup_of(alloc, word, rest)?)),
+        "packages" | "select" | "links" | "build" | "audit" => {
+            Ok(Row::Question(question_of(alloc, word, rest)?))
+        }
+        _ => other_row(alloc, word, rest),
+    }
+}
+
+/// The row that a line is.
+pub fn read_row<'t>(alloc: Global, line: &'t str) -> Result<Row<'t>, AllocError> {
+    if line.starts_with('#') {
+        return Ok(Row::Comment);
+    }
+    let (word, rest) = line.split_once(' ').unwrap_or((line, ""));
+    match row_of(alloc, word, rest) {
+        Ok(row) => Ok(row),
+        Err(RowFault::Unreadable) => Ok(Row::Unreadable),
+        Err(RowFault::OutOfMemory) => Err(AllocError),
+    }
+}

@@ -1,0 +1,132 @@
+//! Rows that hand a session its input; they are answered where they are refused.
+
+use crate::row::UNREADABLE;
+use crate::spelling::{RowFault, bytes_of, readable, unescaped};
+use component_linker::{Fault, PackageId, Session, StringEncoding, WorldId};
+use std::alloc::{AllocError, Global};
+
+/// An option that is on or off.
+#[derive(Clone, Copy)]
+pub enum Setting {
+    MergeImports,
+    CanonicalNames,
+    RejectLegacyNames,
+    ShimReturnCallRef,
+    DebugNames,
+    Validate,
+}
+
+/// What a session is handed.
+#[derive(Drop)]
+pub enum Setup<'t> {
+    /// A text.
+    Text(String),
+    /// The name of the world to choose, of all packages.
+    World(&'t str),
+    /// The main module, for the chosen world or else the first.
+    Main(Vec<u8>),
+    Option(Setting, bool),
+}
+
+/// The option of this name.
+fn setting_named(name: &str) -> Option<Setting> {
+    match name {
+        "merge_imports_based_on_semver" => Some(Setting::MergeImports),
+        "emit_canonical_names" => Some(Setting::CanonicalNames),
+        "reject_legacy_names" => Some(Setting::RejectLegacyNames),
+        "shim_return_call_ref" => Some(Setting::ShimReturnCallRef),
+        "debug_names" => Some(Setting::DebugNames),
+        "validate" => Some(Setting::Validate),
+        _ => None,
+    }
+}
+
+/// An option's name, and whether it is on.
+fn option_of<'t>(words: &str) -> Option<Setup<'t>> {
+    let (name, value) = words.split_once(' ')?;
+    let on = match value {
+        "on" => true,
+        "off" => false,
+        _ => return None,
+    };
+    Some(Setup::Option(setting_named(name)?, on))
+}
+
+/// The row of this first word, with the rest of its line.
+pub fn setup_of<'t>(alloc: Global, word: &str, rest: &'t str) -> Result<Setup<'t>, RowFault> {
+    match word {
+        "text" => Ok(Setup::Text(unescaped(alloc, rest)?)),
+        "main" => Ok(Setup::Main(bytes_of(alloc, rest)?)),
+        "option" => readable(option_of(rest)),
+        _ => Ok(Setup::World(rest)),
+    }
+}
+
+/// Chooses the world of this name among all packages.
+fn choose(alloc: Global, session: &mut Session, name: &str) -> Result<(), Fault> {
+    let mut packages = Vec::new(alloc);
+    for index in 0..session.packages().len() {
+        packages.push(PackageId::from_index(index))?;
+    }
+    session.select_world(&packages, Some(name))?;
+    Ok(())
+}
+
+fn set(session: &mut Session, setting: Setting, on: bool) {
+    match setting {
+        Setting::MergeImports => session.merge_imports_based_on_semver(on),
+        Setting::CanonicalNames => session.emit_canonical_names(on),
+        Setting::RejectLegacyNames => session.reject_legacy_names(on),
+        Setting::ShimReturnCallRef => session.shim_return_call_ref(on),
+        Setting::DebugNames => session.debug_names(on),
+        Setting::Validate => session.validate(on),
+    };
+}
+
+/// Adds the line of a refusal.
+pub fn push_fault(out: &mut String, fault: &Fault) -> Result<(), AllocError> {
+    write!(out, "  {fault}\n")
+}
+
+/// Adds the line of a refusal, if there is one.
+fn push_refusal(out: &mut String, outcome: Result<(), Fault>) -> Result<(), AllocError> {
+    match outcome {
+        Ok(()) => Ok(()),
+        Err(fault) => push_fault(out, &fault),
+    }
+}
+
+/// Hands in the main module, where there is a world for it.
+fn hand_in<'r>(
+    session: &mut Session<'r>,
+    bytes: &'r [u8],
+    out: &mut String,
+) -> Result<(), AllocError> {
+    let world = session.world().unwrap_or(WorldId::from_index(0));
+    if world.index() >= session.packages().len() {
+        return out.push_str(UNREADABLE);
+    }
+    let outcome = session.module(bytes, world, StringEncoding::UTF8);
+    push_refusal(out, outcome)
+}
+
+/// Hands a session what the row says, and adds the line of a refusal.
+pub fn hand_over<'r>(
+    alloc: Global,
+    session: &mut Session<'r>,
+    setup: &'r Setup<'_>,
+    out: &mut String,
+) -> Result<(), AllocError> {
+    match setup {
+        Setup::Text(text) => match session.push_source("a.wit", text) {
+            Ok(_) => Ok(()),
+            Err(fault) => push_fault(out, &fault),
+        },
+        Setup::World(name) => push_refusal(out, choose(alloc, session, name)),
+        Setup::Main(bytes) => hand_in(session, bytes, out),
+        Setup::Option(setting, on) => {
+            set(session, *setting, *on);
+            Ok(())
+        }
+    }
+}

@@ -1,0 +1,30 @@
+use Rattle.std.proofs.Common.{◌≡◌, ◌∷◌, ◌++◌, [], map, length, arith, false, sym, refl, ap}
+use Rattle.std.proofs.lemmas.Result.{err_from_is_err_and}
+use Rattle.std.proofs.lemmas.List.{map_push}
+use Rattle.wit_productions.specs.Production.{sees}
+use Rattle.wit_productions.proofs.Loops.{until_closes, until_fails, until_goes_on}
+use Rattle.wit_productions.proofs.list.until.Goals as goal
+
+pub returns-in_err-parse : goal.returns-in_err-parse
+returns-in_err-parse g c =
+    let p = err_from_is_err_and c.from_residual.result c.from_residual.ensures.1 in
+    let e : sees c.args.shut c.loop-alloc.tokens ≡ false = sym (c.loop-alloc-test.ensures.found) in
+    let h = (rw (c.loop-alloc-test.ensures.after) at (c.in_err-parse.ensures)) in
+    rw (p.1, p.2) (until_fails g.T.Part.production c.args.shut c.requires (map g.T.Part.tree c.loop-alloc.found.items) c.loop-alloc.tokens _ c.loop-alloc.invariant c.in_err-parse.field-0.0 e h)
+
+pub loop-alloc-smaller : goal.loop-alloc-smaller
+loop-alloc-smaller g c =
+    let a = c.requires c.eat.new.self (g.T.Part.tree c.in_ok-parse.field-0) c.parse.new.tokens c.in_ok-parse.ensures in
+    let e = ap length (c.loop-alloc-test.ensures.kept refl) in
+    omega (arith, a, e)
+
+pub loop-alloc-preserved : goal.loop-alloc-preserved
+loop-alloc-preserved g c =
+    let e : sees c.args.shut c.loop-alloc.tokens ≡ false = sym (c.loop-alloc-test.ensures.found) in
+    let h = (rw (c.loop-alloc-test.ensures.after) at (c.in_ok-parse.ensures)) in
+    let more : map g.T.Part.tree c.push.new.self.items ≡ map g.T.Part.tree c.loop-alloc.found.items ++ g.T.Part.tree c.in_ok-parse.field-0 ∷ [] = rw c.in_ok-push.ensures.items (map_push _ c.loop-alloc.found.items c.in_ok-parse.field-0) in
+    rw more (until_goes_on g.T.Part.production c.args.shut c.requires (map g.T.Part.tree c.loop-alloc.found.items) c.loop-alloc.tokens _ c.loop-alloc.invariant e (g.T.Part.tree c.in_ok-parse.field-0) c.parse.new.tokens h)
+
+pub returns : goal.returns
+returns g c =
+    rw (c.loop-alloc-test.ensures.after) (until_closes g.T.Part.production c.args.shut c.requires (map g.T.Part.tree c.loop-alloc.found.items) c.loop-alloc.tokens _ c.loop-alloc.invariant (sym (c.loop-alloc-test.ensures.found)))

@@ -1,0 +1,11 @@
+pub mod Production
+pub mod Terminal
+pub mod Place
+pub mod NameTree
+pub mod NameView
+pub mod NameGrammar
+pub mod TypeTree
+pub mod TypeGrammar
+pub mod TypeView
+pub mod WholeText
+pub mod Broken

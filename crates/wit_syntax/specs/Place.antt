@@ -1,8 +1,0 @@
--- What stands next.
-use Rattle.std.specs.Prelude.{List, [], ◌∷◌, Option, Some, None}
-use Rattle.wit_syntax.specs.Token.{What, Tok}
-
--- the next token, if any, whatever docs are in front of it, and wherever it stands
-abbrev pub ahead : List Tok → Option What
-ahead [] = None
-ahead (t ∷ ts) = Some t.what

@@ -1,0 +1,72 @@
+//! The answers to rows.
+
+use crate::asked::{Asked, asked_by};
+use crate::cuts::cuts;
+use crate::equality::Types;
+use crate::refusals::refusal_row;
+use crate::spelling::text_of;
+use crate::trees::{path_row, text_tree, type_row};
+use std::alloc::{AllocError, Global};
+
+/// What the rows are answered with.
+#[derive(Drop)]
+pub struct Rows {
+    /// What is asked of them.
+    asked: Option<Asked>,
+    /// The types that the rows so far have listed.
+    types: Types,
+}
+
+impl Rows {
+    /// Before the first row.
+    pub fn new(alloc: Global) -> Rows {
+        Rows {
+            asked: None,
+            types: Types::new(alloc),
+        }
+    }
+
+    /// Takes the words behind `= `.
+    pub fn ask(&mut self, alloc: Global, words: &str) -> Result<(), AllocError> {
+        self.asked = asked_by(alloc, words)?;
+        Ok(())
+    }
+
+    /// Whether the rows name files.
+    pub fn are_files(&self) -> bool {
+        matches!(self.asked, Some(Asked::CutsOfFiles(_) | Asked::Files))
+    }
+
+    /// The row of a file with its answer.
+    pub fn answer_of_file(
+        &self,
+        alloc: Global,
+        name: &str,
+        text: &str,
+    ) -> Result<String, AllocError> {
+        match &self.asked {
+            Some(Asked::CutsOfFiles(step)) => cuts(alloc, name, text, *step),
+            _ => text_tree(alloc, name, text),
+        }
+    }
+
+    /// A row with its answer, where it can be read.
+    pub fn answer(&mut self, alloc: Global, row: &str) -> Result<Option<String>, AllocError> {
+        let Some(asked) = &self.asked else {
+            return Ok(None);
+        };
+        let Some(text) = text_of(alloc, row)? else {
+            return Ok(None);
+        };
+        let answer = match asked {
+            Asked::Refusal(frame) => refusal_row(alloc, frame, row, &text),
+            Asked::Cuts => cuts(alloc, row, &text, 1),
+            Asked::Types => type_row(alloc, row, &text),
+            Asked::Paths => path_row(alloc, row, &text),
+            Asked::Texts => text_tree(alloc, row, &text),
+            Asked::Equality => self.types.row(alloc, row, text),
+            Asked::CutsOfFiles(_) | Asked::Files => return Ok(None),
+        };
+        Ok(Some(answer?))
+    }
+}

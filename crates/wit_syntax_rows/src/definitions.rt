@@ -1,0 +1,167 @@
+//! Functions and definitions of types.
+
+use crate::writer::Writer;
+use std::alloc::AllocError;
+use wit_syntax::{
+    Case, EnumCase, Field, Flag, Func, Gated, Id, NamedFunc, Param, ResourceFunc, Type, TypeDef,
+    TypeDefKind,
+};
+
+impl Writer {
+    /// A name and its type, at the end of a line.
+    fn typed_id(&mut self, id: &Id, ty: &Type) -> Result<(), AllocError> {
+        self.id(id)?;
+        self.words(": ")?;
+        self.ty(ty)?;
+        self.end()
+    }
+
+    /// Lines for the parameters and for the result.
+    fn signature(&mut self, params: &[Param], answer: &Option<Type>) -> Result<(), AllocError> {
+        self.go_in();
+        for param in params {
+            self.begin("parameter ")?;
+            self.typed_id(&param.name, &param.ty)?;
+        }
+        self.result_line(answer)?;
+        self.go_out();
+        Ok(())
+    }
+
+    /// A line for a result, if there is one.
+    fn result_line(&mut self, answer: &Option<Type>) -> Result<(), AllocError> {
+        match answer {
+            Some(ty) => {
+                self.begin("result ")?;
+                self.ty(ty)?;
+                self.end()
+            }
+            None => Ok(()),
+        }
+    }
+
+    /// A function, behind words that say what it is to what it stands in.
+    pub fn function(&mut self, words: &str, function: &NamedFunc) -> Result<(), AllocError> {
+        let Func {
+            async_,
+            params,
+            result,
+        } = &function.func;
+        self.begin(words)?;
+        self.words(if *async_ { "async func " } else { "func " })?;
+        self.last_id(&function.name)?;
+        self.signature(params, result)
+    }
+
+    /// A definition of a type.
+    pub fn definition(&mut self, definition: &TypeDef) -> Result<(), AllocError> {
+        let name = &definition.name;
+        match &definition.kind {
+            TypeDefKind::Alias(ty) => self.alias(name, ty),
+            TypeDefKind::Record(fields) => self.record(name, fields),
+            TypeDefKind::Flags(flags) => self.flags(name, flags),
+            TypeDefKind::Enum(cases) => self.enumeration(name, cases),
+            TypeDefKind::Variant(cases) => self.variant(name, cases),
+            TypeDefKind::Resource(members) => self.resource(name, members),
+        }
+    }
+
+    fn alias(&mut self, name: &Id, ty: &Type) -> Result<(), AllocError> {
+        self.begin("type ")?;
+        self.typed_id(name, ty)
+    }
+
+    fn record(&mut self, name: &Id, fields: &[Field]) -> Result<(), AllocError> {
+        self.begin("record ")?;
+        self.last_id(name)?;
+        self.go_in();
+        for field in fields {
+            self.field(field)?;
+        }
+        self.go_out();
+        Ok(())
+    }
+
+    fn field(&mut self, field: &Field) -> Result<(), AllocError> {
+        self.docs(&field.docs)?;
+        self.begin("field ")?;
+        self.typed_id(&field.name, &field.ty)
+    }
+
+    fn flags(&mut self, name: &Id, flags: &[Flag]) -> Result<(), AllocError> {
+        self.begin("flags ")?;
+        self.last_id(name)?;
+        self.go_in();
+        for flag in flags {
+            self.flag(flag)?;
+        }
+        self.go_out();
+        Ok(())
+    }
+
+    fn flag(&mut self, flag: &Flag) -> Result<(), AllocError> {
+        self.docs(&flag.docs)?;
+        self.begin("flag ")?;
+        self.last_id(&flag.name)
+    }
+
+    fn enumeration(&mut self, name: &Id, cases: &[EnumCase]) -> Result<(), AllocError> {
+        self.begin("enum ")?;
+        self.last_id(name)?;
+        self.go_in();
+        for case in cases {
+            self.enum_case(case)?;
+        }
+        self.go_out();
+        Ok(())
+    }
+
+    fn enum_case(&mut self, case: &EnumCase) -> Result<(), AllocError> {
+        self.docs(&case.docs)?;
+        self.begin("case ")?;
+        self.last_id(&case.name)
+    }
+
+    fn variant(&mut self, name: &Id, cases: &[Case]) -> Result<(), AllocError> {
+        self.begin("variant ")?;
+        self.last_id(name)?;
+        self.go_in();
+        for case in cases {
+            self.case(case)?;
+        }
+        self.go_out();
+        Ok(())
+    }
+
+    fn case(&mut self, case: &Case) -> Result<(), AllocError> {
+        self.docs(&case.docs)?;
+        self.begin("case ")?;
+        match &case.ty {
+            Some(ty) => self.typed_id(&case.name, ty),
+            None => self.last_id(&case.name),
+        }
+    }
+
+    fn resource(&mut self, name: &Id, members: &[Gated<ResourceFunc>]) -> Result<(), AllocError> {
+        self.begin("resource ")?;
+        self.last_id(name)?;
+        self.go_in();
+        for member in members {
+            self.gates(member)?;
+            self.member(&member.item)?;
+        }
+        self.go_out();
+        Ok(())
+    }
+
+    fn member(&mut self, member: &ResourceFunc) -> Result<(), AllocError> {
+        match member {
+            ResourceFunc::Constructor { params, result } => {
+                self.begin("constructor\n")?;
+                self.signature(params, result)
+            }
+            ResourceFunc::Method(function) => self.function("method ", function),
+            ResourceFunc::Static(function) => self.function("static ", function),
+        }
+    }
+}

@@ -1,0 +1,60 @@
+//! Rows that say whether a text is read, and where it is refused.
+
+use crate::outcome::{Call, Outcome, outcome_of};
+use crate::spelling::marked;
+use std::alloc::{AllocError, Global};
+
+/// How rows are read: by which call, where, and between which texts.
+#[derive(Drop)]
+pub struct Frame {
+    /// The call.
+    pub call: Call,
+    /// Where each text begins, if that is said.
+    pub offset: Option<u32>,
+    /// What stands in front of each row.
+    pub front: String,
+    /// What stands behind it.
+    pub back: String,
+}
+
+/// A row with how its text is read.
+pub fn refusal_row(
+    alloc: Global,
+    frame: &Frame,
+    row: &str,
+    text: &str,
+) -> Result<String, AllocError> {
+    let front = frame.front.as_str();
+    let back = frame.back.as_str();
+    let whole = format!(in alloc; "{front}{text}{back}")?;
+    let outcome = outcome_of(alloc, frame.call, &whole, frame.offset.unwrap_or(0));
+    let answer = outcome_row(alloc, outcome, front.len(), row)?;
+    if frame.call == Call::File && frame.offset.is_none() {
+        let moved = outcome_of(alloc, frame.call, &whole, 1000);
+        if moved != outcome {
+            let other = outcome_row(alloc, moved, front.len(), row)?;
+            return format!(in alloc; "{answer}! at 1000: {other}");
+        }
+    }
+    Ok(answer)
+}
+
+/// A row behind the code of an outcome, with a mark at its place; `front` bytes of the text stand in front of the row. A
+/// place that can't be marked is written as a number, which counts from the text's beginning.
+fn outcome_row(
+    alloc: Global,
+    outcome: Outcome,
+    front: usize,
+    row: &str,
+) -> Result<String, AllocError> {
+    let code = outcome.code();
+    let Some(place) = outcome.place() else {
+        return format!(in alloc; "{code} {row}\n");
+    };
+    if let Some(at) = (place as usize).checked_sub(front) {
+        if let Some(shown) = marked(alloc, row, at)? {
+            return format!(in alloc; "{code} {shown}\n");
+        }
+    }
+    format!(in alloc; "{code} at {place} {row}\n")
+}

@@ -1,0 +1,16 @@
+pub mod SameKinds
+pub mod Marks
+pub mod LexLaws
+pub mod Seams
+pub mod Comments
+pub mod Lexemes
+pub mod Breaks
+pub mod Readings
+pub mod OneBreak
+pub mod ItemLaws
+pub mod Slices
+pub mod Versions
+pub mod Identifiers
+pub mod Sources
+pub mod NameKeys
+pub mod DocTexts
