@@ -5,13 +5,14 @@ import re
 import sys
 
 SIZES = [1, 2, 4, 8]
+PACKAGES = ["clocks.wit", "http_types.wit", "streams.wit"]
 HEADER = re.compile(r"^package [^{;]*;\n", re.MULTILINE)
 NAMED = re.compile(r"^(interface|world|package) ([a-z:-]+)", re.MULTILINE)
 
 
 def bodies(packages):
     """The packages without their headers."""
-    for name in sorted(os.listdir(packages)):
+    for name in PACKAGES:
         with open(os.path.join(packages, name), encoding="utf-8") as file:
             yield HEADER.sub("", file.read(), count=1)
 

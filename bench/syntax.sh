@@ -3,9 +3,10 @@
 #
 # Times the proved reading of texts, `wit_syntax::parse_file`, on texts of so many MiB, 1, 2, 4 and 8 where no numbers
 # are given, and prints a table of seconds and MB/s, with the ratio of each row to the one before it. The texts are the
-# packages of examples/packages, over and over. The program, bench/syntax/main.rt.txt, is no crate of this repository:
-# it is proved and built in a folder of its own, with a copy of wit_syntax and of what its checks have kept in out/ (1
-# to 2 GB; without them the crate is proved from nothing first). It needs python3 and the kit's command `rt`.
+# packages of crates/wit_syntax_rows/data, over and over. The program, bench/syntax/main.rt.txt, is no crate of this
+# repository: it is proved and built in a folder of its own, with copies of wit_syntax and the crates below it and of what
+# their checks have kept in out/ (1 to 2 GB; without them they are proved from nothing first). It needs python3 and the
+# kit's command `rt`.
 set -eu
 
 top=$(CDPATH='' cd -- "$(dirname -- "$0")/.." && pwd)
@@ -15,13 +16,15 @@ trap 'rm -rf "$folder"' EXIT
 program=$folder/crates/syntax_bench
 mkdir -p "$program/src" "$folder/texts"
 cp "$top/bench/syntax/main.rt.txt" "$program/src/main.rt"
-cp -R "$top/crates/wit_syntax" "$folder/crates/"
-grep '^wit_syntax:' "$top/crates.txt" >"$folder/crates.txt"
+for crate in wit_tokens wit_productions wit_syntax; do
+    cp -R "$top/crates/$crate" "$folder/crates/"
+    grep "^$crate:" "$top/crates.txt" >>"$folder/crates.txt"
+done
 echo 'syntax_bench: wit_syntax' >>"$folder/crates.txt"
 
 if ! log=$(cd "$program" && rt run </dev/null 2>&1); then
     printf '%s\n' "$log" >&2
     exit 1
 fi
-python3 "$top/bench/syntax.py" make "$top/examples/packages" "$folder/texts" "$@"
+python3 "$top/bench/syntax.py" make "$top/crates/wit_syntax_rows/data" "$folder/texts" "$@"
 "$program/out/syntax_bench" "$folder"/texts/*.wit | python3 "$top/bench/syntax.py" table

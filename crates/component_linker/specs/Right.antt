@@ -1,4 +1,4 @@
--- Right for the input: what has to hold of a component's bytes, one field a kind of finding.
+-- Right for the input: what has to hold of a component's bytes (Component Model Binary), one field a kind of finding.
 use Rattle.std.specs.Prelude.{ℕ, List}
 use Rattle.component_format.specs.Definition.{DefinitionValue}
 use Rattle.component_format.specs.Grammar.{IsComponent}

@@ -1,4 +1,4 @@
--- What is linked: the chosen world and the main module with its core types.
+-- What is linked: the chosen world (WIT, Worlds) and the main module with its core types (WebAssembly Core, Modules).
 use Rattle.std.specs.Prelude.{ℕ, ◌-◌, nat_lt, List, map, length, Option, option_and_then, Bool, slice_get, if◌then◌else◌}
 use Rattle.wasm_format.specs.declared.types.EntityType.{EntityType}
 use Rattle.wasm_format.specs.declared.types.EntityType.TheVariants as entities

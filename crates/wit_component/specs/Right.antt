@@ -1,4 +1,4 @@
--- What has to hold of what a component stands for, one record a kind of finding.
+-- What has to hold of what a component stands for, one record a kind of finding (Component Model, Explainer, Component Definitions).
 use Rattle.std.specs.Prelude.{◌≡◌, ℕ, ◌⊎◌, List, [], ◌∷◌, map, Option, Some, option_map}
 use Rattle.std.specs.List.{AllByRecursion as Each}
 use Rattle.wit_resolve.specs.World.{FunctionItem}

@@ -1,4 +1,4 @@
--- The link table: what each core import and each exported function ends at.
+-- The link table: what each core import and each exported function ends at (Canonical ABI, canon lift and canon lower).
 use Rattle.std.specs.Prelude.{◌≡◌, List, [], ◌∷◌, filter, Some, Bool, false}
 use Rattle.std.specs.List.{AllByRecursion as Each, list_any}
 use Rattle.wit_resolve.specs.World.{FunctionItem}

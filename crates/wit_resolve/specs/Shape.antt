@@ -1,4 +1,4 @@
--- The texts that are read: a file of the shape, with its package.
+-- The texts that are read: a file of the shape, with its package (WIT, Packages).
 use Rattle.std.specs.Prelude.{◌≡◌, ℕ, List, Some, true}
 use Rattle.wit_syntax.specs.Ast.{FileTree}
 use Rattle.wit_syntax.specs.WholeText.{IsText}
