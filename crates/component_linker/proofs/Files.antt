@@ -76,8 +76,8 @@ module _ (files : List (Bor (List ℕ) × Bor (List ℕ))) where
   faulty (i ∷ is) zero d p lt some none = let bad : Some p ≡ None = sym (rw some refl) ∙ none in cc
   faulty (i ∷ is) (suc k) d p lt some none = faulty is k d p (omega arith) some (or_none (input_fault files i) (file_fault files is) none)
 
-  pub hand_at : (Cause : Fault → Input → Type 0) (is : List Input) (k : ℕ) (x : Input) (s : Stop) → k < length is → x ≡ get_or is k x → IsInputStop files Cause x s → IsHandStop files Cause is s
-  hand_at Cause is k x (stops.Refused fault) lt at why = (k, lt, λ e. subst (Cause fault) (at ∙ get_or_default is k x e lt) why)
+  pub hand_at : (Cause : List Input → Fault → Input → Type 0) (is : List Input) (k : ℕ) (x : Input) (s : Stop) → k < length is → x ≡ get_or is k x → IsInputStop files (Cause (take k is)) x s → IsHandStop files Cause is s
+  hand_at Cause is k x (stops.Refused fault) lt at why = (k, lt, λ e. subst (Cause (take k is) fault) (at ∙ get_or_default is k x e lt) why)
   hand_at Cause is k x (stops.File path) lt at why = faulty is k x path.now lt (ap (input_fault files) (sym at) ∙ why)
   hand_at Cause is k x stops.Usage lt at why = why
 
@@ -89,7 +89,7 @@ module _ (files : List (Bor (List ℕ) × Bor (List ℕ))) where
       faulty is k x q.now lt (ap (input_fault files) (sym at ∙ this) ∙ ap (λ b. missing_path b (file_at files b)) (sym same) ∙ why)
   no_component_file is k x path p (Err stops.Usage) lt at this same why = absurd why
 
-  pub prepared : (Cause : Fault → Input → Type 0) (l : Line) (s : Stop) → file_fault files l.inputs.items ≡ None → ((fault : Fault) → HasCause Cause l.inputs.items fault → IsHandCause files l fault)
+  pub prepared : (Cause : List Input → Fault → Input → Type 0) (l : Line) (s : Stop) → file_fault files l.inputs.items ≡ None → ((fault : Fault) → HasCause Cause l.inputs.items fault → IsHandCause files l fault)
       → IsHandStop files Cause l.inputs.items s → IsPrepareStop files l s
   prepared Cause l (stops.Refused fault) none causes why = causes fault why
   prepared Cause l (stops.File path) none causes why = absurd (why none)

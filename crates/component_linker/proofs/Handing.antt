@@ -16,7 +16,8 @@ use Rattle.wit_resolve.specs.World.{WorldMeaning, PackageMeaning, if_unversioned
 use Rattle.component_linker.specs.Input.{Input, SourceText, ModuleInput, first_options}
 use Rattle.component_linker.specs.Choice.{main_world, if_named, package_named, world_of_path, NamesWorld, is_package}
 use Rattle.component_linker.specs.Program.{IsFile, text_path, text_paths, AreSources, ArePackages, AddsSource, IsPackage, places, text_or, IsNamed, IsMain, MainWords, last_main, Handed}
-use Rattle.component_linker.specs.Stops.{IsUnnamed, IsMainCause, IsHandCause, IsInputStop}
+use Rattle.component_linker.specs.Pushed.{CanPush}
+use Rattle.component_linker.specs.Stops.{IsUnnamed, IsPushCause, IsTextCause, IsMainCause, IsHandCause, IsInputStop}
 
 -- ---- sources
 
@@ -146,3 +147,34 @@ main_cause_moved files a b chosen (inputs.Main world path) (stops.Refused fault)
 main_cause_moved files a b chosen (inputs.Component path) (stops.Refused fault) same why = why
 main_cause_moved files a b chosen x (stops.File path) same why = why
 main_cause_moved files a b chosen x stops.Usage same why = why
+
+-- ---- texts that aren't taken
+
+-- where no text is named no package is there
+no_packages : (files : List (Bor (List ℕ) × Bor (List ℕ))) (is : List LineInput) (ss : List SourceText) (ps : List PackageMeaning) → AreSources files is ss → ArePackages ss ps → text_paths is ≡ [] → ps ≡ []
+no_packages files is [] [] sources packages none = refl
+no_packages files is [] (p ∷ ps) sources packages none = absurd packages
+no_packages files is (s ∷ ss) ps sources packages none = absurd (let bad = sources.0 ∙ none in cc)
+
+one_file : (a b : List ℕ) → Some a ≡ Some b → a ≡ b
+one_file a b e = cc
+
+-- of the text that was pushed
+pub push_cause : (files : List (Bor (List ℕ) × Bor (List ℕ))) (given : Input) (path : String Global) (text : List ℕ) (fault : Fault) → IsFile files (string_bytes path) text
+    → ((p : PackageMeaning) → CanPush given text p → fault ≡ causes.OutOfMemory) → (fault ≡ causes.OutOfMemory) ⊎ (fault ≡ causes.NotYet) → IsPushCause files given fault (inputs.Text path)
+push_cause files given path text fault file only (inl memory) = inl memory
+push_cause files given path text fault file only (inr later) =
+    inr (later, λ other p there can.
+        let same : other ≡ text = one_file other text (sym there ∙ file) in
+        let bad : causes.NotYet ≡ causes.OutOfMemory = sym later ∙ only p (subst (λ t. CanPush given t p) same can) in cc)
+
+-- with what was taken before, no more is known of a session than the inputs say
+pub text_stop : (files : List (Bor (List ℕ) × Bor (List ℕ))) (before : List LineInput) (given : Input) (x : LineInput) (s : Stop) → AreSources files before given.sources → ArePackages given.sources given.packages
+    → IsInputStop files (IsPushCause files given) x s → IsInputStop files (IsTextCause files before) x s
+text_stop files before given (inputs.Text path) (stops.Refused fault) sources packages (inl memory) = inl memory
+text_stop files before given (inputs.Text path) (stops.Refused fault) sources packages (inr none) =
+    inr (none.0, λ can. none.1 can.0 can.1 can.2 (record { shape = can.3; first = no_packages files before given.sources given.packages sources packages can.4 }))
+text_stop files before given (inputs.Main world path) (stops.Refused fault) sources packages why = why
+text_stop files before given (inputs.Component path) (stops.Refused fault) sources packages why = why
+text_stop files before given x (stops.File path) sources packages why = why
+text_stop files before given x stops.Usage sources packages why = why

@@ -21,7 +21,10 @@ use Rattle.component_linker.specs.Cause.{IsCause, IsBuildCause}
 use Rattle.component_linker.specs.Judged.{IsAuditCause}
 use Rattle.component_linker.specs.ModuleCause.{IsModuleCause}
 use Rattle.component_linker.specs.Line.{is_component}
-use Rattle.component_linker.specs.Program.{IsFile, input_fault, file_fault, AreSources, ArePackages, IsNamed, text_or, HasComponent, Handed, IsAnswer, IsLineAnswer}
+use Rattle.component_linker.specs.Pushed.{CanPush}
+use Rattle.wit_resolve.specs.Shape.{IsInShape}
+use Rattle.wit_resolve.specs.World.{PackageMeaning}
+use Rattle.component_linker.specs.Program.{IsFile, input_fault, file_fault, text_paths, AreSources, ArePackages, IsNamed, text_or, HasComponent, Handed, IsAnswer, IsLineAnswer}
 
 -- ---- lines
 
@@ -83,11 +86,22 @@ IsFileStop IsWanted stops.Usage = ⊥
 abbrev pub IsUnnamed : Input → List ℕ → Fault → Type 0
 IsUnnamed given text fault = (fault ≡ causes.WorldNotFound) × ((k : ℕ) → IsNamed given text k → ⊥)
 
--- why a text isn't taken
-abbrev pub IsTextCause : Fault → LineInput → Type 0
-IsTextCause fault (inputs.Text path) = (fault ≡ causes.OutOfMemory) ⊎ (fault ≡ causes.NotYet)
-IsTextCause fault (inputs.Main world path) = ⊥
-IsTextCause fault (inputs.Component path) = ⊥
+-- why a session doesn't take a text: want of memory, or no package can be pushed
+abbrev pub IsPushCause : List (Bor (List ℕ) × Bor (List ℕ)) → Input → Fault → LineInput → Type 0
+IsPushCause files given fault (inputs.Text path) =
+    (fault ≡ causes.OutOfMemory) ⊎ ((fault ≡ causes.NotYet) × ((text : List ℕ) (p : PackageMeaning) → IsFile files (string_bytes path) text → CanPush given text p → ⊥))
+IsPushCause files given fault (inputs.Main world path) = ⊥
+IsPushCause files given fault (inputs.Component path) = ⊥
+
+-- the text at a path is of the shape, and none stands among the inputs before it
+abbrev pub CanTake : List (Bor (List ℕ) × Bor (List ℕ)) → List LineInput → List ℕ → Type 0
+CanTake files before path = (text : List ℕ) × (p : PackageMeaning) × IsFile files path text × IsInShape text p × (text_paths before ≡ [])
+
+-- why a text behind these inputs isn't taken
+abbrev pub IsTextCause : List (Bor (List ℕ) × Bor (List ℕ)) → List LineInput → Fault → LineInput → Type 0
+IsTextCause files before fault (inputs.Text path) = (fault ≡ causes.OutOfMemory) ⊎ ((fault ≡ causes.NotYet) × (CanTake files before (string_bytes path) → ⊥))
+IsTextCause files before fault (inputs.Main world path) = ⊥
+IsTextCause files before fault (inputs.Component path) = ⊥
 
 -- why a module isn't taken: want of memory, its world, or what is said of its bytes
 abbrev pub IsMainCause : List (Bor (List ℕ) × Bor (List ℕ)) → Input → List ℕ → Fault → LineInput → Type 0
@@ -102,25 +116,25 @@ IsInputStop files Cause i (stops.Refused fault) = Cause fault i
 IsInputStop files Cause i (stops.File path) = input_fault files i ≡ Some path.now
 IsInputStop files Cause i stops.Usage = ⊥
 
--- one of the inputs isn't taken
-abbrev pub HasCause : (Fault → LineInput → Type 0) → List LineInput → Fault → Type 0
-HasCause Cause is fault = (k : ℕ) × (k < length is) × HoldsAt (Cause fault) is k
+-- one of the inputs isn't taken behind those before it
+abbrev pub HasCause : (List LineInput → Fault → LineInput → Type 0) → List LineInput → Fault → Type 0
+HasCause Cause is fault = (k : ℕ) × (k < length is) × HoldsAt (Cause (take k is) fault) is k
 
 -- the inputs aren't taken, or a file isn't there
-abbrev pub IsHandStop : List (Bor (List ℕ) × Bor (List ℕ)) → (Fault → LineInput → Type 0) → List LineInput → Stop → Type 0
+abbrev pub IsHandStop : List (Bor (List ℕ) × Bor (List ℕ)) → (List LineInput → Fault → LineInput → Type 0) → List LineInput → Stop → Type 0
 IsHandStop files Cause is (stops.Refused fault) = HasCause Cause is fault
 IsHandStop files Cause is (stops.File path) = file_fault files is ≢ None
 IsHandStop files Cause is stops.Usage = ⊥
 
 -- why the texts are taken and the rest isn't: the line's world isn't found, or a module isn't taken
 abbrev pub IsRestCause : List (Bor (List ℕ) × Bor (List ℕ)) → Line → Input → Fault → Type 0
-IsRestCause files l given fault = IsUnnamed given (string_bytes l.world) fault ⊎ HasCause (IsMainCause files given (string_bytes l.world)) l.inputs.items fault
+IsRestCause files l given fault = IsUnnamed given (string_bytes l.world) fault ⊎ HasCause (λ before. IsMainCause files given (string_bytes l.world)) l.inputs.items fault
 
 -- why the inputs aren't taken: want of memory, a text, or, with the texts and their packages, what is left
 abbrev pub IsHandCause : List (Bor (List ℕ) × Bor (List ℕ)) → Line → Fault → Type 0
 IsHandCause files l fault =
     (fault ≡ causes.OutOfMemory)
-    ⊎ (HasCause IsTextCause l.inputs.items fault
+    ⊎ (HasCause (IsTextCause files) l.inputs.items fault
     ⊎ ((given : Input) × AreSources files l.inputs.items given.sources × ArePackages given.sources given.packages × IsRestCause files l given fault))
 
 -- the inputs aren't taken, or a file isn't there, the first at fault

@@ -4,7 +4,7 @@ ghost use Rattle.std.specs.Prelude.{◌≡◌, ◌<◌, ◌⊎◌, [], None, Som
 ghost use Rattle.std.specs.List.{flat_map};
 ghost use Rattle.std.specs.Io.KnownBytes.{Appends};
 ghost use Rattle.component_linker.specs.Program.{line_status, verdict_status, IsFile, file_at, missing_path, textless_path, input_fault, file_fault, AreSources, ArePackages, AddsSource, places, text_or, ReplacesMain, last_main, IsMain, HasComponent, Handed, IsComponentAnswer, IsLinksAnswer, IsVerdictAnswer, IsAnswer, Writes, IsOutcome};
-ghost use Rattle.component_linker.specs.Stops.{AppendsFront, AppendsPart, WritesPart, refusal_text, fault_text, stop_text, stop_status, line_fault_text, out_path, IsFileStop, IsTextCause, IsMainCause, IsInputStop, IsHandStop, IsPrepareStop, IsComponentStop, IsWriteStop, IsAnswerStop, IsStop, IsStopped};
+ghost use Rattle.component_linker.specs.Stops.{AppendsFront, AppendsPart, WritesPart, refusal_text, fault_text, stop_text, stop_status, line_fault_text, out_path, IsFileStop, IsPushCause, IsTextCause, IsMainCause, IsInputStop, IsHandStop, IsPrepareStop, IsComponentStop, IsWriteStop, IsAnswerStop, IsStop, IsStopped};
 ghost use Rattle.component_linker.specs.Cause.{IsCause, IsBuildCause};
 ghost use Rattle.component_linker.specs.Judged.{IsAuditCause};
 
@@ -124,7 +124,7 @@ fn push_text<'a>(
     requires { packages.old.items ≡ places session.old.packages }
     ensures source { OnOk result (AddsSource files.entry.now input.entry.now session.old session.new) }
     ensures places { OnOk result (packages.new.items ≡ places session.new.packages) }
-    ensures err { IfErr result (IsInputStop files.entry.now IsTextCause input.entry.now) }
+    ensures err { IfErr result (IsInputStop files.entry.now (IsPushCause files.entry.now session.old) input.entry.now) }
 {
     if let Input::Text(path) = input {
         let contents = text_at(files, path.as_str())?;
@@ -145,7 +145,7 @@ fn push_texts<'a>(
     ensures packages { OnOk result (ArePackages session.new.sources session.new.packages) }
     ensures places { IfOk result (λ v. v.items ≡ places session.new.packages) }
     ensures rest { OnOk result ((session.new.main ≡ session.old.main) × (session.new.options ≡ session.old.options)) }
-    ensures err { IfErr result (IsHandStop files.entry.now IsTextCause inputs.entry.now) }
+    ensures err { IfErr result (IsHandStop files.entry.now (IsTextCause files.entry.now) inputs.entry.now) }
 {
     let mut packages = Vec::new(alloc);
     for input in inputs {
@@ -195,7 +195,7 @@ fn hand_in<'a>(
     requires places { packages.now ≡ places session.old.packages }
     ensures main { OnOk result (IsMain files.entry.now session.old chosen.now (last_main inputs.entry.now) session.new.main) }
     ensures rest { OnOk result (session.new ≡ record session.old { main = session.new.main }) }
-    ensures err { IfErr result (IsHandStop files.entry.now (IsMainCause files.entry.now session.old chosen.now) inputs.entry.now) }
+    ensures err { IfErr result (IsHandStop files.entry.now (λ before. IsMainCause files.entry.now session.old chosen.now) inputs.entry.now) }
 {
     for input in inputs {
         hand_in_one(session, packages, chosen, input, files)?;

@@ -5,17 +5,18 @@ use Rattle.std.proofs.lemmas.List.{length-map}
 use Rattle.std.specs.Prelude.{IfOk, IfErr}
 use Rattle.std.specs.declared.alloc.Global.{Global}
 use Rattle.wit_productions.specs.declared.fault.Fault.{Fault}
-use Rattle.wit_tokens.specs.declared.fault.Rule.{Rule}
-use Rattle.wit_tokens.specs.declared.fault.SyntaxFault.{SyntaxFault}
-use Rattle.wit_tokens.specs.declared.fault.SyntaxFault.TheVariants as faults
-use Rattle.wit_tokens.specs.declared.token.DocumentedToken.{DocumentedToken}
-use Rattle.wit_productions.specs.Broken.{start_of, IsBrokenTree, IsSyntaxFault}
+use Rattle.wit_words.specs.declared.fault.Rule.{Rule}
+use Rattle.wit_words.specs.declared.fault.SyntaxFault.{SyntaxFault}
+use Rattle.wit_words.specs.declared.fault.SyntaxFault.TheVariants as faults
+use Rattle.wit_words.specs.declared.source_map.Span.{Span}
+use Rattle.wit_words.specs.declared.token.DocumentedToken.{DocumentedToken}
+use Rattle.wit_productions.specs.Broken.{place_of, IsBrokenTree, IsSyntaxFault}
 use Rattle.wit_tokens.specs.Lex.{Text}
 use Rattle.wit_tokens.specs.Lexical.{LexesText}
-use Rattle.wit_tokens.specs.Outcome.{AnswersText}
+use Rattle.wit_words.specs.Outcome.{AnswersText}
 use Rattle.wit_productions.specs.Production.{Production, Outcome, ◌>>=◌, at_end, all, all_step, turns, finish, yield}
-use Rattle.wit_tokens.specs.Token.{Tok, tok, toks}
-use Rattle.wit_productions.specs.WholeText.{IsTextOf, start_at, AgreesWith, GivesTree}
+use Rattle.wit_words.specs.Token.{Tok, tok, toks}
+use Rattle.wit_productions.specs.WholeText.{IsTextOf, place_at, AgreesWith, GivesTree}
 use Rattle.wit_productions.proofs.Laws.{Law, ok_parts}
 use Rattle.wit_tokens.proofs.Lexemes.{one_lexing}
 
@@ -45,16 +46,16 @@ whole_all {A = A} item = record { ends = λ ts xs rest h. (in_turns h.0).ends ts
 
 -- ---- where a token stands
 
-there_at : (end i : ℕ) (ts : List DocumentedToken) (t d : DocumentedToken) → i < length ts → t ≡ slice_index_or ts i d → start_of end (drop i (toks ts)) ≡ t.span.start
+there_at : (end i : ℕ) (ts : List DocumentedToken) (t d : DocumentedToken) → i < length ts → t ≡ slice_index_or ts i d → place_of end (drop i (toks ts)) ≡ t.span
 there_at end i [] t d l e = absurd (omega arith)
-there_at end zero (u ∷ ts) t d l e = ap (λ (v : DocumentedToken). v.span.start) (sym e)
+there_at end zero (u ∷ ts) t d l e = ap (λ (v : DocumentedToken). v.span) (sym e)
 there_at end (suc i) (u ∷ ts) t d l e = there_at end i ts t d (omega arith) e
 
-pub start_there : (end left i : ℕ) (ts : List DocumentedToken) (t d : DocumentedToken) → i ≡ length ts - left → true ≡ nat_lt i (length ts) → t ≡ slice_index_or ts i d → t.span.start ≡ start_at end left (toks ts)
-start_there end left i ts t d same lt e =
+pub stands_there : (end left i : ℕ) (ts : List DocumentedToken) (t d : DocumentedToken) → i ≡ length ts - left → true ≡ nat_lt i (length ts) → t ≡ slice_index_or ts i d → t.span ≡ place_at end left (toks ts)
+stands_there end left i ts t d same lt e =
     let few : i < length ts = ltb-true i (length ts) (sym lt) in
     let there : length (toks ts) - left ≡ i = ap (λ (n : ℕ). n - left) (length-map ts tok) ∙ sym same in
-    sym (ap (λ (n : ℕ). start_of end (drop n (toks ts))) there ∙ there_at end i ts t d few e)
+    sym (ap (λ (n : ℕ). place_of end (drop n (toks ts))) there ∙ there_at end i ts t d few e)
 
 -- ---- answers
 
@@ -96,7 +97,7 @@ module _ {Y : Type 0} (p : Production Y) (l : Law [] p) (offset : ℕ) (text : T
     text_answers (Err faults.TooLarge) d g t = rw (read_tree ts d lexes t) at g
     text_answers (Err (faults.Broken rule at)) d g t = rw (read_tree ts d lexes t) at g
 
-    pub text_cause : ((e : Fault) → p.read ts ≡ Err e → IsBrokenTree p offset text e.rule (start_at (offset + length text) e.left ts)) → (r : Result X SyntaxFault) → GivesTree view p (offset + length text) ts r → IfErr r (IsSyntaxFault p offset text)
+    pub text_cause : ((e : Fault) → p.read ts ≡ Err e → IsBrokenTree p offset text e.rule (place_at (offset + length text) e.left ts)) → (r : Result X SyntaxFault) → GivesTree view p (offset + length text) ts r → IfErr r (IsSyntaxFault p offset text)
     text_cause broken (Ok x) g = tt
     text_cause broken (Err faults.OutOfMemory) g = tt
     text_cause broken (Err faults.TooLarge) g = too_large (p.read ts) g
@@ -110,5 +111,5 @@ module _ {Y : Type 0} (p : Production Y) (l : Law [] p) (offset : ℕ) (text : T
         broken_at (Ok y) is e = absurd e
         broken_at (Err f) is e =
             let same_rule : f.rule ≡ rule = cc in
-            let same_place : start_at (offset + length text) f.left ts ≡ at = cc in
-            inr (subst (λ (a : ℕ). IsBrokenTree p offset text rule a) same_place (subst (λ (r : Rule). IsBrokenTree p offset text r (start_at (offset + length text) f.left ts)) same_rule (broken f is)))
+            let same_place : place_at (offset + length text) f.left ts ≡ at = cc in
+            inr (subst (λ (a : Span). IsBrokenTree p offset text rule a) same_place (subst (λ (r : Rule). IsBrokenTree p offset text r (place_at (offset + length text) f.left ts)) same_rule (broken f is)))

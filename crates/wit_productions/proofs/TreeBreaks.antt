@@ -2,14 +2,14 @@
 use Rattle.std.proofs.Common.{◌≡◌, ℕ, ◌+◌, ◌-◌, List, [], ◌∷◌, ◌++◌, length, drop, Err, refl, sym, ap, subst, ◌∙◌, arith, append_assoc, length-append}
 use Rattle.std.proofs.lemmas.List.{drop_at}
 use Rattle.wit_productions.specs.declared.fault.Fault.{Fault}
-use Rattle.wit_tokens.specs.declared.fault.Rule.{Rule}
-use Rattle.wit_tokens.specs.declared.fault.Rule.TheVariants as rules
-use Rattle.wit_tokens.specs.declared.token.Kind.TheVariants as kind
-use Rattle.wit_productions.specs.Broken.{Breaks, IsBrokenTree, start_of}
+use Rattle.wit_words.specs.declared.fault.Rule.{Rule}
+use Rattle.wit_words.specs.declared.fault.Rule.TheVariants as rules
+use Rattle.wit_words.specs.declared.token.Kind.TheVariants as kind
+use Rattle.wit_productions.specs.Broken.{Breaks, IsBrokenTree, place_of}
 use Rattle.wit_tokens.specs.Lex.{Text}
 use Rattle.wit_tokens.specs.Lexical.{LexesText}
 use Rattle.wit_productions.specs.Production.{Production}
-use Rattle.wit_tokens.specs.Token.{Tok}
+use Rattle.wit_words.specs.Token.{Tok}
 use Rattle.wit_productions.proofs.BracketLaws.{Said, Tells, count_append, opens, closes}
 use Rattle.wit_productions.proofs.Laws.{Law}
 use Rattle.wit_productions.proofs.Turns.{same_cut}
@@ -35,7 +35,7 @@ left_over ts before place left parts lies =
     ap (drop (length ts - left)) parts ∙ drop_at before place (length ts - left) cut
 
 pub broken_tree : {X : Type 0} (p : Production X) → Law [] p → Tells 0 0 p → (offset : ℕ) (text : Text) (ts : List Tok) (e : Fault) → LexesText offset text ts → p.read ts ≡ Err e
-    → IsBrokenTree p offset text e.rule (start_of (offset + length text) (drop (length ts - e.left) ts))
+    → IsBrokenTree p offset text e.rule (place_of (offset + length text) (drop (length ts - e.left) ts))
 broken_tree p l t offset text ts e lexes h =
     let s = l.stuck ts e h in
     let b = t.breaks ts e h in
@@ -46,7 +46,7 @@ broken_tree p l t offset text ts e lexes h =
       before = s.moves.taken;
       place = s.place;
       parts = s.moves.parts;
-      lies = ap (start_of (offset + length text)) (left_over ts s.moves.taken s.place e.left s.moves.parts s.left);
+      lies = ap (place_of (offset + length text)) (left_over ts s.moves.taken s.place e.left s.moves.parts s.left);
       none_goes_on = λ next x rest same f.
           let good = l.again (s.moves.taken ++ next) x rest f tt in
           let bad = s.moves.ever next same in

@@ -2,15 +2,16 @@
 use Rattle.std.specs.Prelude.{◌≡◌, ℕ, ◌+◌, ◌-◌, ◌^◌, ◌<◌, List, [], length, drop, Result, Ok, Err}
 use Rattle.wit_productions.specs.declared.fault.ReadError.{ReadError}
 use Rattle.wit_productions.specs.declared.fault.ReadError.TheVariants as errors
-use Rattle.wit_tokens.specs.declared.fault.SyntaxFault.{SyntaxFault}
-use Rattle.wit_tokens.specs.declared.fault.SyntaxFault.TheVariants as faults
+use Rattle.wit_words.specs.declared.fault.SyntaxFault.{SyntaxFault}
+use Rattle.wit_words.specs.declared.fault.SyntaxFault.TheVariants as faults
+use Rattle.wit_words.specs.declared.source_map.Span.{Span}
 use Rattle.wit_productions.specs.NameTree.{UsePathTree}
-use Rattle.wit_productions.specs.Broken.{start_of}
+use Rattle.wit_productions.specs.Broken.{place_of}
 use Rattle.wit_productions.specs.NameGrammar.{whole_use_path}
 use Rattle.wit_tokens.specs.Lex.{Text}
 use Rattle.wit_tokens.specs.Lexical.{LexesText}
 use Rattle.wit_productions.specs.Production.{Production, Outcome}
-use Rattle.wit_tokens.specs.Token.{Tok}
+use Rattle.wit_words.specs.Token.{Tok}
 use Rattle.wit_productions.specs.TypeGrammar.{whole_type}
 use Rattle.wit_productions.specs.TypeTree.{TypeTree}
 
@@ -32,12 +33,12 @@ IsType = IsTextOf whole_type 0
 -- ---- what reading the tokens of a text gives
 
 -- where so many tokens are left
-abbrev pub start_at : ℕ → ℕ → List Tok → ℕ
-start_at end left ts = start_of end (drop (length ts - left) ts)
+abbrev pub place_at : ℕ → ℕ → List Tok → Span
+place_at end left ts = place_of end (drop (length ts - left) ts)
 
 abbrev pub placed : ℕ → List Tok → ReadError → SyntaxFault
 placed end ts errors.Memory = faults.OutOfMemory
-placed end ts (errors.Malformed f) = faults.Broken f.rule (start_at end f.left ts)
+placed end ts (errors.Malformed f) = faults.Broken f.rule (place_at end f.left ts)
 
 -- what is answered is what the production reads, unless memory runs out
 abbrev pub AgreesWith : {X Y : Type 0} → (X → Y) → ℕ → List Tok → Result X SyntaxFault → Outcome Y → Type 0

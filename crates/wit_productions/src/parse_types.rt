@@ -2,12 +2,12 @@
 
 ghost use Rattle.std.specs.Prelude.{◌≡◌, List, length, map, option_map};
 ghost use Rattle.wit_productions.specs.Production.{Reads, commas, next_at, one};
-ghost use Rattle.wit_tokens.specs.Token.{Tok, plain, what};
+ghost use Rattle.wit_words.specs.Token.{Tok, plain, what};
 ghost use Rattle.wit_productions.specs.TypeGrammar as spec;
 ghost use Rattle.wit_productions.specs.TypeGrammar.{too_deep, type_in, type_after};
 ghost use Rattle.wit_productions.specs.TypeView.{type_shape, type_tree};
 ghost use Rattle.wit_productions.specs.NameView.{id};
-ghost use Rattle.wit_tokens.specs.declared.token.Kind.TheVariants as kind;
+ghost use Rattle.wit_words.specs.declared.token.Kind.TheVariants as kind;
 
 use crate::cursor::{Cursor, fault_at};
 use crate::fault::ReadError;

@@ -6,8 +6,8 @@ ghost use Rattle.wit_productions.specs.NameTree.{UsePathTree};
 ghost use Rattle.wit_productions.specs.Broken.{IsSyntaxFault};
 ghost use Rattle.wit_productions.specs.NameGrammar.{whole_use_path};
 ghost use Rattle.wit_tokens.specs.Lexical.{LexesText};
-ghost use Rattle.wit_tokens.specs.Outcome.{AnswersText};
-ghost use Rattle.wit_tokens.specs.Token.{toks};
+ghost use Rattle.wit_words.specs.Outcome.{AnswersText};
+ghost use Rattle.wit_words.specs.Token.{toks};
 ghost use Rattle.wit_productions.specs.TypeGrammar.{whole_type};
 ghost use Rattle.wit_productions.specs.TypeTree.{TypeTree};
 ghost use Rattle.wit_productions.specs.TypeView.{type_tree};
@@ -21,15 +21,15 @@ use crate::parse_names::whole_use_path;
 use crate::parse_types::whole_type;
 use crate::types::Type;
 use std::alloc::Global;
-use wit_tokens::{DocumentedToken, SyntaxFault, read_tokens};
+use wit_tokens::{DocumentedToken, Span, SyntaxFault, read_tokens};
 
-/// Where the token stands behind which `left - 1` more are left, or else where the text ends.
-fn start_of(tokens: &[DocumentedToken<'_>], left: usize, end: u32) -> u32
-    ensures { result ≡ spec.start_at end left (toks tokens.now) }
+/// Where the token stands behind which `left - 1` more are left, or else the text's end.
+fn place_of(tokens: &[DocumentedToken<'_>], left: usize, end: u32) -> Span
+    ensures { result ≡ spec.place_at end left (toks tokens.now) }
 {
     match tokens.get(tokens.len().saturating_sub(left)) {
-        Some(token) => token.span.start,
-        None => end,
+        Some(token) => token.span,
+        None => Span { start: end, end },
     }
 }
 
@@ -41,7 +41,7 @@ pub fn placed(error: ReadError, tokens: &[DocumentedToken<'_>], end: u32) -> Syn
         ReadError::Memory => SyntaxFault::OutOfMemory,
         ReadError::Malformed(fault) => SyntaxFault::Broken {
             rule: fault.rule,
-            at: start_of(tokens, fault.left, end),
+            span: place_of(tokens, fault.left, end),
         },
     }
 }

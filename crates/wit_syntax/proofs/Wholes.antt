@@ -1,6 +1,7 @@
 -- Nothing is left behind a file.
 use Rattle.wit_productions.specs.Production.{documented, all}
-use Rattle.wit_syntax.specs.FileGrammar.{gated, file_item, first, some_file, file}
+use Rattle.wit_items.specs.ItemGrammar.{gated}
+use Rattle.wit_syntax.specs.FileGrammar.{file_item, first, some_file, file}
 use Rattle.wit_productions.proofs.Texts.{Whole, whole_bind, whole_map, whole_at_end, whole_all}
 
 some_file_whole : Whole some_file

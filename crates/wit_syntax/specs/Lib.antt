@@ -2,5 +2,6 @@ pub mod Ast
 pub mod AstView
 pub mod FileGrammar
 pub mod WholeText
+pub mod Paths
 pub use Rattle.wit_productions.specs.TypeTree
 pub use Rattle.wit_productions.specs.TypeView

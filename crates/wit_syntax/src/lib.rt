@@ -1,20 +1,25 @@
-//! WIT texts and their trees. Tokens are read in `wit_tokens`, types and names of packages in `wit_productions`.
+//! WIT texts and their trees. Tokens are read in `wit_tokens`, types and names of packages in `wit_productions`, items in
+//! `wit_items`.
 #![tactic(auto)]
 
 mod ast;
 mod law;
-mod parse;
 mod parse_files;
-mod parse_items;
+mod parse_worlds;
+mod paths;
 mod text;
 
 pub use ast::{
-    AstItem, Attribute, Case, EnumCase, ExternKind, Field, File, FileItem, Flag, Func, Gate, Gated,
-    Include, IncludeName, Interface, InterfaceItem, NamedFunc, Package, PackageHeader, Param,
-    ResourceFunc, ToplevelUse, TypeDef, TypeDefKind, Use, UseName, World, WorldItem,
+    AstItem, ExternKind, File, FileItem, Include, IncludeName, Package, PackageHeader, World,
+    WorldItem,
 };
 pub use law::{law_a_fault_denies_a_tree, law_one_reading};
+pub use paths::{FilePath, PathRole};
 pub use text::parse_file;
+pub use wit_items::{
+    Attribute, Case, EnumCase, Field, Flag, Func, Gate, Gated, Interface, InterfaceItem, NamedFunc,
+    Param, ResourceFunc, ToplevelUse, TypeDef, TypeDefKind, Use, UseName,
+};
 pub use wit_productions::{
     Id, PackageName, Type, TypeKind, UsePath, Version, parse_type, parse_use_path,
 };

@@ -4,12 +4,14 @@ ghost use Rattle.std.specs.Prelude.{◌≡◌, List, length, map, IfOk};
 ghost use Rattle.wit_syntax.specs.AstView as view;
 ghost use Rattle.wit_syntax.specs.FileGrammar as spec;
 ghost use Rattle.wit_productions.specs.Production.{Reads, next_at};
-ghost use Rattle.wit_tokens.specs.Token.{Tok, plain};
+ghost use Rattle.wit_words.specs.Token.{Tok, plain};
 
-use crate::ast::{AstItem, Attribute, File, FileItem, Gated, Package, PackageHeader};
-use crate::parse::{attribute, attributes, toplevel_use_behind};
-use crate::parse_items::{interface_behind, world_behind};
+use crate::ast::{AstItem, File, FileItem, Package, PackageHeader};
+use crate::parse_worlds::world_behind;
 use std::alloc::{AllocError, Global};
+use wit_items::{
+    Attribute, Gated, attribute, attributes, interface_behind, toplevel_use_behind,
+};
 use wit_productions::{Cursor, PackageName, Part, ReadError, all, fault_at, package_name, until};
 use wit_tokens::{Docs, Kind, Rule, Span, Token};
 

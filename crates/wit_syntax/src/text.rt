@@ -1,8 +1,8 @@
 //! Whole texts.
 
 ghost use Rattle.std.specs.Prelude.{◌≡◌, ◌+◌, ◌^◌, ◌<◌, ◌≤◌, length, Err, IfOk, IfErr};
-ghost use Rattle.wit_tokens.specs.Outcome.{AnswersText};
-ghost use Rattle.wit_tokens.specs.Token.{toks};
+ghost use Rattle.wit_words.specs.Outcome.{AnswersText};
+ghost use Rattle.wit_words.specs.Token.{toks};
 ghost use Rattle.wit_productions.specs.Broken.{IsSyntaxFault};
 ghost use Rattle.wit_productions.specs.WholeText as spec;
 ghost use Rattle.wit_syntax.specs.Ast.{FileTree};

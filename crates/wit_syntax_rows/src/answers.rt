@@ -3,10 +3,12 @@
 use crate::asked::{Asked, asked_by};
 use crate::cuts::cuts;
 use crate::equality::Types;
+use crate::files::source_row;
 use crate::refusals::refusal_row;
 use crate::spelling::text_of;
 use crate::trees::{path_row, text_tree, type_row};
 use std::alloc::{AllocError, Global};
+use wit_syntax::SourceMap;
 
 /// What the rows are answered with.
 #[derive(Drop)]
@@ -15,6 +17,8 @@ pub struct Rows {
     asked: Option<Asked>,
     /// The types that the rows so far have listed.
     types: Types,
+    /// The texts that they have put one behind the other.
+    sources: SourceMap,
 }
 
 impl Rows {
@@ -23,6 +27,7 @@ impl Rows {
         Rows {
             asked: None,
             types: Types::new(alloc),
+            sources: SourceMap::new(alloc),
         }
     }
 
@@ -55,10 +60,15 @@ impl Rows {
         let Some(asked) = &self.asked else {
             return Ok(None);
         };
-        let Some(text) = text_of(alloc, row)? else {
+        let (path, spelled) = match asked {
+            Asked::Sources => row.split_once(' ').unwrap_or((row, "")),
+            _ => ("", row),
+        };
+        let Some(text) = text_of(alloc, spelled)? else {
             return Ok(None);
         };
         let answer = match asked {
+            Asked::Sources => source_row(alloc, &mut self.sources, row, path, &text),
             Asked::Refusal(frame) => refusal_row(alloc, frame, row, &text),
             Asked::Cuts => cuts(alloc, row, &text, 1),
             Asked::Types => type_row(alloc, row, &text),

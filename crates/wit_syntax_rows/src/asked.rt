@@ -26,6 +26,9 @@ pub enum Asked {
     Texts,
     /// `= trees of files`: the tree of a file, which a row names.
     Files,
+    /// `= texts one behind the other`: a row `PATH TEXT` is a text behind those of the rows before it; it is answered by
+    /// `ok`, or by the line that says where it breaks which rule.
+    Sources,
     /// `= equal types`: to which types of the rows before it each row's type is equal.
     Equality,
 }
@@ -38,6 +41,7 @@ pub fn asked_by(alloc: Global, words: &str) -> Result<Option<Asked>, AllocError>
         "trees of paths" => Asked::Paths,
         "trees of texts" => Asked::Texts,
         "trees of files" => Asked::Files,
+        "texts one behind the other" => Asked::Sources,
         "equal types" => Asked::Equality,
         _ => return asked_with_words(alloc, words),
     };

@@ -10,6 +10,8 @@ use wit_syntax::Rule;
 enum Cut {
     /// It breaks a rule where it is cut.
     AtItsEnd(Rule),
+    /// It breaks a rule from there on.
+    Before(Rule, u32),
     /// It comes out otherwise.
     Otherwise(Outcome),
 }
@@ -18,7 +20,8 @@ impl Cut {
     /// What an outcome says of a text of so many bytes.
     fn of(outcome: Outcome, length: usize) -> Cut {
         match outcome {
-            Outcome::Broken(rule, at) if at as usize == length => Cut::AtItsEnd(rule),
+            Outcome::Broken(rule, span) if span.start as usize == length => Cut::AtItsEnd(rule),
+            Outcome::Broken(rule, span) => Cut::Before(rule, span.start),
             other => Cut::Otherwise(other),
         }
     }
@@ -30,12 +33,13 @@ impl Cut {
                 let code = code_of(rule);
                 writeln!(out, "{code} at its end")
             }
+            Cut::Before(rule, start) => {
+                let code = code_of(rule);
+                writeln!(out, "{code} at {start}")
+            }
             Cut::Otherwise(outcome) => {
                 let code = outcome.code();
-                match outcome.place() {
-                    Some(place) => writeln!(out, "{code} at {place}"),
-                    None => writeln!(out, "{code}"),
-                }
+                writeln!(out, "{code}")
             }
         }
     }

@@ -10,6 +10,7 @@ mod asked;
 mod cuts;
 mod definitions;
 mod equality;
+mod files;
 mod items;
 mod outcome;
 mod refusals;

@@ -1,7 +1,7 @@
 //! How the reading of a text ends.
 
 use std::alloc::Global;
-use wit_syntax::{Rule, SyntaxFault, parse_file, parse_type, parse_use_path};
+use wit_syntax::{Rule, Span, SyntaxFault, parse_file, parse_type, parse_use_path};
 
 /// The call that reads a text.
 #[derive(Clone, Copy, PartialEq, Eq)]
@@ -23,8 +23,8 @@ pub enum Outcome {
     OutOfMemory,
     /// The text ends too far behind where places count from.
     TooLarge,
-    /// The text breaks a rule, so many bytes behind its beginning.
-    Broken(Rule, u32),
+    /// The text breaks a rule there, counted from its beginning.
+    Broken(Rule, Span),
 }
 
 impl Outcome {
@@ -33,7 +33,13 @@ impl Outcome {
         match fault {
             SyntaxFault::OutOfMemory => Outcome::OutOfMemory,
             SyntaxFault::TooLarge => Outcome::TooLarge,
-            SyntaxFault::Broken { rule, at } => Outcome::Broken(rule, at.wrapping_sub(offset)),
+            SyntaxFault::Broken { rule, span } => Outcome::Broken(
+                rule,
+                Span {
+                    start: span.start.wrapping_sub(offset),
+                    end: span.end.wrapping_sub(offset),
+                },
+            ),
         }
     }
 
@@ -48,9 +54,9 @@ impl Outcome {
     }
 
     /// Where a rule is broken, if one is.
-    pub fn place(self) -> Option<u32> {
+    pub fn place(self) -> Option<Span> {
         match self {
-            Outcome::Broken(_, at) => Some(at),
+            Outcome::Broken(_, span) => Some(span),
             _ => None,
         }
     }

@@ -3,6 +3,7 @@
 use crate::outcome::{Call, Outcome, outcome_of};
 use crate::spelling::marked;
 use std::alloc::{AllocError, Global};
+use wit_syntax::Span;
 
 /// How rows are read: by which call, where, and between which texts.
 #[derive(Drop)]
@@ -39,8 +40,9 @@ pub fn refusal_row(
     Ok(answer)
 }
 
-/// A row behind the code of an outcome, with a mark at its place; `front` bytes of the text stand in front of the row. A
-/// place that can't be marked is written as a number, which counts from the text's beginning.
+/// A row behind the code of an outcome, with a mark at each end of its place, or one where that is empty; `front` bytes of
+/// the text stand in front of the row. An end that can't be marked is written as a number, which counts from the text's
+/// beginning.
 fn outcome_row(
     alloc: Global,
     outcome: Outcome,
@@ -48,13 +50,31 @@ fn outcome_row(
     row: &str,
 ) -> Result<String, AllocError> {
     let code = outcome.code();
-    let Some(place) = outcome.place() else {
+    let Some(Span { start, end }) = outcome.place() else {
         return format!(in alloc; "{code} {row}\n");
     };
-    if let Some(at) = (place as usize).checked_sub(front) {
-        if let Some(shown) = marked(alloc, row, at)? {
+    if let Some(first) = (start as usize).checked_sub(front) {
+        let last = (end as usize).saturating_sub(front);
+        if let Some(shown) = marked_between(alloc, row, first, last)? {
             return format!(in alloc; "{code} {shown}\n");
         }
+        if let Some(shown) = marked(alloc, row, &[first])? {
+            return format!(in alloc; "{code} up to {end} {shown}\n");
+        }
     }
-    format!(in alloc; "{code} at {place} {row}\n")
+    format!(in alloc; "{code} at {start}..{end} {row}\n")
+}
+
+/// A row with marks at both places of its text, or one where they are the same, if it has them.
+fn marked_between(
+    alloc: Global,
+    row: &str,
+    first: usize,
+    last: usize,
+) -> Result<Option<String>, AllocError> {
+    if first == last {
+        marked(alloc, row, &[first])
+    } else {
+        marked(alloc, row, &[first, last])
+    }
 }

@@ -122,24 +122,49 @@ pub fn text_of(alloc: Global, row: &str) -> Result<Option<String>, AllocError> {
     Ok(Some(text))
 }
 
-/// A row with a `^` where so many bytes of its text are in front, if it has such a place.
-pub fn marked(alloc: Global, row: &str, place: usize) -> Result<Option<String>, AllocError> {
-    let mut text = String::new(alloc);
-    let mut shown = String::new(alloc);
-    let mut rest = if row == "\"\"" { "" } else { row };
-    for _ in 0..row.len() {
-        if text.len() == place {
-            break;
+/// A row of which the text of a front has been gone through.
+#[derive(Drop)]
+struct Walk<'a> {
+    /// The front's text.
+    text: String,
+    /// How it is spelled.
+    shown: String,
+    /// What is spelled behind it.
+    rest: &'a str,
+}
+
+impl Walk<'_> {
+    /// Goes on until the front has so many bytes, and answers whether it ends there.
+    fn go_to(&mut self, place: usize) -> Result<bool, AllocError> {
+        for _ in 0..self.rest.len() {
+            if self.text.len() >= place {
+                break;
+            }
+            let Some((step, behind)) = first_step(self.rest) else {
+                return Ok(false);
+            };
+            step.write_text(&mut self.text)?;
+            step.write_spelling(&mut self.shown)?;
+            self.rest = behind;
         }
-        let Some((step, behind)) = first_step(rest) else {
+        Ok(self.text.len() == place)
+    }
+}
+
+/// A row with a `^` at each of these places of its text, which rise, if it has them.
+pub fn marked(alloc: Global, row: &str, places: &[usize]) -> Result<Option<String>, AllocError> {
+    let mut walk = Walk {
+        text: String::new(alloc),
+        shown: String::new(alloc),
+        rest: if row == "\"\"" { "" } else { row },
+    };
+    for place in places {
+        if !walk.go_to(*place)? {
             return Ok(None);
-        };
-        step.write_text(&mut text)?;
-        step.write_spelling(&mut shown)?;
-        rest = behind;
+        }
+        walk.shown.push('^')?;
     }
-    if text.len() != place {
-        return Ok(None);
-    }
-    Ok(Some(format!(in alloc; "{shown}^{rest}")?))
+    let shown = walk.shown.as_str();
+    let rest = walk.rest;
+    Ok(Some(format!(in alloc; "{shown}{rest}")?))
 }

@@ -3,7 +3,7 @@
 use crate::outcome::Outcome;
 use crate::writer::Writer;
 use std::alloc::{AllocError, Global};
-use wit_syntax::{SyntaxFault, parse_file, parse_type, parse_use_path};
+use wit_syntax::{Span, SyntaxFault, parse_file, parse_type, parse_use_path};
 
 /// Where texts begin, besides at 0: their trees are to be the same there, but for where places count from.
 const FAR: u32 = 4_294_900_000;
@@ -13,7 +13,7 @@ fn refused(alloc: Global, fault: SyntaxFault, offset: u32) -> Result<String, All
     let outcome = Outcome::of_fault(fault, offset);
     let code = outcome.code();
     match outcome.place() {
-        Some(place) => format!(in alloc; "{code} at {place}\n"),
+        Some(Span { start, end }) => format!(in alloc; "{code} at {start}..{end}\n"),
         None => format!(in alloc; "{code}\n"),
     }
 }

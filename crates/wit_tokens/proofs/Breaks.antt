@@ -2,20 +2,20 @@
 use Rattle.std.proofs.Common.{◌≡◌, ℕ, ◌≤◌, ◌⊎◌, true, false, eqb, [], ◌∷◌, ◌++◌, length, Option, Some, None, Result, Err, refl, ap, ◌∙◌, arith, inl, inr}
 use Rattle.std.proofs.lemmas.Bool.{cases_Bool, eqb-true}
 use Rattle.std.proofs.lemmas.Bool.Decides.{nat_tests}
-use Rattle.wit_tokens.specs.declared.fault.Rule.{Rule}
-use Rattle.wit_tokens.specs.declared.fault.Rule.TheVariants as rules
+use Rattle.wit_words.specs.declared.fault.Rule.{Rule}
+use Rattle.wit_words.specs.declared.fault.Rule.TheVariants as rules
 use Rattle.wit_tokens.specs.declared.lex.Class.TheVariants as class
 use Rattle.wit_tokens.specs.declared.lex.Lexeme.{Lexeme}
 use Rattle.wit_tokens.specs.declared.lex.Lexeme.TheVariants as lexeme
-use Rattle.wit_tokens.specs.declared.token.Kind.{Kind}
+use Rattle.wit_words.specs.declared.token.Kind.{Kind}
 use Rattle.wit_tokens.specs.Cause.{BreaksText}
-use Rattle.wit_tokens.specs.Identifier.{IsIdentifier, is_identifier}
-use Rattle.wit_tokens.specs.Keyword.{keyword}
+use Rattle.wit_words.specs.Identifier.{IsIdentifier, is_identifier}
+use Rattle.wit_words.specs.Keyword.{keyword}
 use Rattle.wit_tokens.specs.Lex.{Text, Cut, is_in, comment_from, closed, slash, minus, percent, sign, version_or_number, lexeme_at, piece_of, word_token, name_token, Piece}
 use Rattle.wit_tokens.specs.Lexical.{begins, IsLexeme}
-use Rattle.wit_tokens.specs.Token.{What, ident, explicit}
-use Rattle.wit_tokens.specs.Version.{version_len}
-use Rattle.wit_tokens.proofs.Identifiers.{decides}
+use Rattle.wit_words.specs.Token.{What, ident, explicit}
+use Rattle.wit_words.specs.Version.{version_len}
+use Rattle.wit_words.proofs.Identifiers.{decides}
 use Rattle.wit_tokens.proofs.Lexemes.{lexeme_only}
 
 abbrev refused : Rule → Cut

@@ -1,15 +1,15 @@
 -- Going over a text token by token.
 use Rattle.std.proofs.Common.{◌≡◌, ℕ, zero, suc, ◌+◌, ◌<◌, ◌≤◌, ◌⊎◌, List, [], ◌∷◌, ◌++◌, length, map, Option, Some, None, Ok, Err, refl, sym, ap, subst, ◌∙◌, arith, inl, inr, append-nil, length-append}
 use denote.Ref.{Bor}
-use Rattle.wit_tokens.specs.declared.fault.SyntaxFault.{SyntaxFault}
-use Rattle.wit_tokens.specs.declared.source_map.Span.{Span}
-use Rattle.wit_tokens.specs.declared.token.Token.{Token}
+use Rattle.wit_words.specs.declared.fault.SyntaxFault.{SyntaxFault}
+use Rattle.wit_words.specs.declared.source_map.Span.{Span}
+use Rattle.wit_words.specs.declared.token.Token.{Token}
 use Rattle.wit_tokens.specs.declared.tokens.Found.{Found}
 use Rattle.wit_tokens.specs.declared.tokens.Found.TheVariants as found
 use Rattle.wit_tokens.specs.Items.{Item, item, given, last, items_of, AreItems}
 use Rattle.wit_tokens.specs.Lex.{Text, Piece, nothing, doc, token, piece, span_of, placed, prepend, found_piece, Break, Reading, without_mark, read_bare, read}
 use Rattle.wit_tokens.specs.Lexical.{LexesText}
-use Rattle.wit_tokens.specs.Token.{Tok}
+use Rattle.wit_words.specs.Token.{Tok}
 use Rattle.wit_tokens.proofs.Lexemes.{text_only}
 use Rattle.wit_tokens.proofs.LexLaws.{reads_piece, reads_break, reads_end}
 use Rattle.wit_tokens.proofs.Readings.{first, lexes, breaks, reads_behind, text_found, text_broken}
@@ -26,7 +26,7 @@ onto_prepend span (doc x) [] b = refl
 onto_prepend span (doc x) (t ∷ ts) b = refl
 onto_prepend span (token w) ts b = refl
 
-items_go : (at : ℕ) (z : Text) (p : Piece) (span : Span) (after : Text) (total : List Item) → length after < length z → placed at (piece at z) ≡ Ok (p, span, after)
+items_go : (at : ℕ) (z : Text) (p : Piece) (span : Span) (after : Text) (total : List Item) → length after < length z → placed at z (piece at z) ≡ Ok (p, span, after)
     → items_of (read_bare at z) ≡ total → total ≡ onto span p (items_of (read_bare span.end after))
 items_go at z p span after total moves e so_far =
     let rest = read_bare span.end after in
@@ -35,20 +35,20 @@ items_go at z p span after total moves e so_far =
 abbrev ending : List Item → SyntaxFault → List Item
 ending items e = Err e ∷ items
 
-pub items_break : (at : ℕ) (z : Text) (e : SyntaxFault) (total : List Item) → 0 < length z → placed at (piece at z) ≡ Err e → items_of (read_bare at z) ≡ total → total ≡ Err e ∷ items_of (read_bare at [])
+pub items_break : (at : ℕ) (z : Text) (e : SyntaxFault) (total : List Item) → 0 < length z → placed at z (piece at z) ≡ Err e → items_of (read_bare at z) ≡ total → total ≡ Err e ∷ items_of (read_bare at [])
 items_break at z e total some h so_far =
     let (rule, is, stopped) = reads_break at z e some h in
     sym so_far ∙ ap items_of stopped ∙ ap (ending []) (sym is) ∙ ap (λ (r : Reading). ending (items_of r) e) (sym (reads_end at [] refl))
 
 -- what is no token is passed over
-pub items_pass : (at : ℕ) (z : Text) (f : Found) (span : Span) (after : Text) (total : List Item) → length after < length z → placed at (piece at z) ≡ Ok (found_piece f, span, after)
+pub items_pass : (at : ℕ) (z : Text) (f : Found) (span : Span) (after : Text) (total : List Item) → length after < length z → placed at z (piece at z) ≡ Ok (found_piece f, span, after)
     → (f ≡ found.Nothing) ⊎ ((x : Bor Text) × (f ≡ found.Docs x)) → items_of (read_bare at z) ≡ total → items_of (read_bare span.end after) ≡ total
 items_pass at z f span after total moves e (inl none) so_far =
     sym (items_go at z (found_piece f) span after total moves e so_far ∙ ap (λ (g : Found). onto span (found_piece g) (items_of (read_bare span.end after))) none)
 items_pass at z f span after total moves e (inr (x, docs)) so_far =
     sym (items_go at z (found_piece f) span after total moves e so_far ∙ ap (λ (g : Found). onto span (found_piece g) (items_of (read_bare span.end after))) docs)
 
-pub items_token : (at : ℕ) (z : Text) (f : Found) (t : Token) (span : Span) (after : Text) (total : List Item) → length after < length z → placed at (piece at z) ≡ Ok (found_piece f, span, after)
+pub items_token : (at : ℕ) (z : Text) (f : Found) (t : Token) (span : Span) (after : Text) (total : List Item) → length after < length z → placed at z (piece at z) ≡ Ok (found_piece f, span, after)
     → f ≡ found.Token t → items_of (read_bare at z) ≡ total → total ≡ item (Ok (record { token = t; span = span })) ∷ items_of (read_bare span.end after)
 items_token at z f t span after total moves e is so_far =
     items_go at z (found_piece f) span after total moves e so_far ∙ ap (λ (g : Found). onto span (found_piece g) (items_of (read_bare span.end after))) is
@@ -66,7 +66,7 @@ items_found at text = known (read at text) refl
         ending None e = inl (r.tokens, text_found at text r is e, append-nil (map given r.tokens))
         ending (Some b) e =
             let s = text_broken at text r b is e in
-            inr (record { rule = b.rule; place = b.at; broken = s.broken; tokens = r.tokens; front = s.front; parts = refl })
+            inr (record { rule = b.rule; place = b.span; broken = s.broken; tokens = r.tokens; front = s.front; parts = refl })
 
 onto_few : (span : Span) (p : Piece) (items : List Item) → length (onto span p items) ≤ 1 + length items
 onto_few span nothing items = omega arith

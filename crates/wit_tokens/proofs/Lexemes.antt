@@ -4,22 +4,22 @@ use Rattle.std.specs.List.{prefix_len}
 use Rattle.std.proofs.lemmas.Bool.{cases_Bool, eqb-true}
 use Rattle.std.proofs.lemmas.Bool.Decides.{nat_tests}
 use Rattle.std.proofs.lemmas.List.{take_at, drop_at}
-use Rattle.wit_tokens.specs.declared.fault.Rule.{Rule}
+use Rattle.wit_words.specs.declared.fault.Rule.{Rule}
 use Rattle.wit_tokens.specs.declared.lex.Class.{Class}
 use Rattle.wit_tokens.specs.declared.lex.Class.TheVariants as class
 use Rattle.wit_tokens.specs.declared.lex.Lexeme.{Lexeme}
 use Rattle.wit_tokens.specs.declared.lex.Lexeme.TheVariants as lexeme
-use Rattle.wit_tokens.specs.declared.token.Kind.{Kind}
-use Rattle.wit_tokens.specs.declared.token.Kind.TheVariants as kind
-use Rattle.wit_tokens.specs.declared.fault.Rule.TheVariants.{BadCharacter}
-use Rattle.wit_tokens.specs.declared.fault.SyntaxFault.{SyntaxFault}
-use Rattle.wit_tokens.specs.declared.fault.SyntaxFault.TheVariants as faults
-use Rattle.wit_tokens.specs.declared.source_map.Span.{Span}
-use Rattle.wit_tokens.specs.Outcome.{AnswersText}
-use Rattle.wit_tokens.specs.Token.{Tok}
-use Rattle.wit_tokens.specs.Lex.{Text, Cut, is_in, comment_from, closed, slash, minus, percent, sign, digits, version_or_number, lexeme_at, Piece, piece_of, span_of, Reading, stops, read_piece, read_bare, read, GivesReading}
-use Rattle.wit_tokens.specs.Version.{IsVersion, IsVersionFront, HasNoVersion, version_len}
-use Rattle.wit_tokens.proofs.Versions.{version_found, version_only, no_version_found, no_version_only, version_digit}
+use Rattle.wit_words.specs.declared.token.Kind.{Kind}
+use Rattle.wit_words.specs.declared.token.Kind.TheVariants as kind
+use Rattle.wit_words.specs.declared.fault.Rule.TheVariants.{BadCharacter}
+use Rattle.wit_words.specs.declared.fault.SyntaxFault.{SyntaxFault}
+use Rattle.wit_words.specs.declared.fault.SyntaxFault.TheVariants as faults
+use Rattle.wit_words.specs.declared.source_map.Span.{Span}
+use Rattle.wit_words.specs.Outcome.{AnswersText}
+use Rattle.wit_words.specs.Token.{Tok}
+use Rattle.wit_tokens.specs.Lex.{Text, Cut, is_in, comment_from, closed, slash, minus, percent, sign, digits, version_or_number, lexeme_at, Piece, piece_of, span_of, Reading, broken_span, stops, read_piece, read_bare, read, GivesReading}
+use Rattle.wit_words.specs.Version.{IsVersion, IsVersionFront, HasNoVersion, version_len}
+use Rattle.wit_words.proofs.Versions.{version_found, version_only, no_version_found, no_version_only, version_digit}
 use Rattle.wit_tokens.proofs.Comments.{comment_scanned, comment_inside}
 use Rattle.wit_tokens.proofs.LexLaws.{read_from-drop, drop-cons}
 use Rattle.wit_tokens.specs.Lexical.{IsRun, IsSign, IsLexeme, Adds, Lexes, LexesText, ends, goes}
@@ -149,7 +149,7 @@ lexeme_some lexeme.Word (b ∷ x) rest h = omega arith
 lexeme_some lexeme.Marked x rest (y, is, h) = rw is (omega arith)
 
 pub reads_lexeme : (at : ℕ) (z : Text) (l : Lexeme) (n : ℕ) → 1 ≤ length z → lexeme_at z ≡ Ok (l, n) → 1 ≤ n
-    → read_bare at z ≡ read_piece at (span_of l at (take n z)) (read_bare (at + length (take n z)) (drop n z)) (piece_of l (take n z))
+    → read_bare at z ≡ read_piece at z (span_of l at (take n z)) (read_bare (at + length (take n z)) (drop n z)) (piece_of l (take n z))
 unfolding read_bare
 reads_lexeme at [] l n long e some = absurd (omega arith)
 reads_lexeme at (b ∷ z) l n long e some = rw (e, read_from-drop (n - 1) (at + length (take n (b ∷ z))) z, drop-cons n b z some) refl
@@ -157,26 +157,26 @@ reads_lexeme at (b ∷ z) l n long e some = rw (e, read_from-drop (n - 1) (at + 
 abbrev pub whole : List Tok → Reading
 whole ts = record { tokens = ts; broken = None }
 
-piece_adds : (at : ℕ) (span : Span) (o : Result Piece Rule) (ts us : List Tok) → Adds span o ts us → read_piece at span (whole ts) o ≡ whole us
-piece_adds at span (Ok p) ts us h = ap whole (sym h)
-piece_adds at span (Err rule) ts us h = absurd h
+piece_adds : (at : ℕ) (z : Text) (span : Span) (o : Result Piece Rule) (ts us : List Tok) → Adds span o ts us → read_piece at z span (whole ts) o ≡ whole us
+piece_adds at z span (Ok p) ts us h = ap whole (sym h)
+piece_adds at z span (Err rule) ts us h = absurd h
 
 pub lexes_only : {at : ℕ} {text : Text} {us : List Tok} → Lexes at text us → read_bare at text ≡ whole us
 unfolding read_bare
 lexes_only (ends at) = refl
 lexes_only (goes at l x rest text ts us is h more adds) =
     let some = lexeme_some l x rest h in
-    let one : read_bare at text ≡ read_piece at (span_of l at x) (read_bare (at + length x) rest) (piece_of l x) =
+    let one : read_bare at text ≡ read_piece at (x ++ rest) (span_of l at x) (read_bare (at + length x) rest) (piece_of l x) =
     rw is (reads_lexeme at (x ++ rest) l (length x) (omega (arith, length-append x rest)) (lexeme_only l x rest h) some ∙ rw (take_at x rest (length x) refl, drop_at x rest (length x) refl) refl) in
-    one ∙ rw (lexes_only more) (piece_adds at (span_of l at x) (piece_of l x) ts us adds)
+    one ∙ rw (lexes_only more) (piece_adds at (x ++ rest) (span_of l at x) (piece_of l x) ts us adds)
 
-unbroken : (rule : Rule) (at : ℕ) (us : List Tok) → stops rule at ≡ whole us → ⊥
+unbroken : (rule : Rule) (at : Span) (us : List Tok) → stops rule at ≡ whole us → ⊥
 unbroken rule at us e = let none = ap (λ (r : Reading). r.broken) e in absurd cc
 
 -- a byte order mark begins no lexeme
 no_mark : (at : ℕ) (z : Text) (us : List Tok) → Lexes at (239 ∷ z) us → ⊥
 unfolding read_bare lexeme_at
-no_mark at z us h = unbroken BadCharacter at us (lexes_only h)
+no_mark at z us h = unbroken BadCharacter (broken_span BadCharacter at (239 ∷ z)) us (lexes_only h)
 
 pub text_only : (at : ℕ) (text : Text) (ts : List Tok) → LexesText at text ts → read at text ≡ whole ts
 unfolding read

@@ -1,4 +1,3 @@
-pub mod SameKinds
 pub mod Marks
 pub mod LexLaws
 pub mod Seams
@@ -9,8 +8,3 @@ pub mod Readings
 pub mod OneBreak
 pub mod ItemLaws
 pub mod Slices
-pub mod Versions
-pub mod Identifiers
-pub mod Sources
-pub mod NameKeys
-pub mod DocTexts

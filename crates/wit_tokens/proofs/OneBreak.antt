@@ -2,24 +2,25 @@
 use Rattle.std.proofs.Common.{◌≡◌, ℕ, ◌+◌, ◌-◌, ◌≤◌, true, eqb, List, [], ◌∷◌, ◌++◌, length, take, drop, Option, Some, None, Ok, Err, refl, sym, ap, subst, ◌∙◌, arith, inl, inr, length-append}
 use Rattle.std.proofs.lemmas.Bool.{cases_Bool, eqb-true, and_parts}
 use Rattle.std.proofs.lemmas.List.{take-append-drop, take_at, drop_at}
-use Rattle.wit_tokens.specs.declared.fault.Rule.{Rule}
-use Rattle.wit_tokens.specs.declared.fault.Rule.TheVariants as rules
+use Rattle.wit_words.specs.declared.fault.Rule.{Rule}
+use Rattle.wit_words.specs.declared.fault.Rule.TheVariants as rules
 use Rattle.wit_tokens.specs.declared.lex.Lexeme.{Lexeme}
 use Rattle.wit_tokens.specs.declared.lex.Lexeme.TheVariants as lexeme
+use Rattle.wit_words.specs.declared.source_map.Span.{Span}
 use Rattle.wit_tokens.specs.Cause.{BreaksText, Passes, here, goes, IsBrokenText}
-use Rattle.wit_tokens.specs.Identifier.{IsIdentifier, is_identifier}
-use Rattle.wit_tokens.specs.Lex.{Text, Cut, Piece, Break, Reading, comment_from, lexeme_at, piece_of, name_token, span_of, prepend, stops, mark, without_mark, read_bare, read}
+use Rattle.wit_words.specs.Identifier.{IsIdentifier, is_identifier}
+use Rattle.wit_tokens.specs.Lex.{Text, Cut, Piece, Break, Reading, broken_span, comment_from, lexeme_at, piece_of, name_token, span_of, prepend, stops, mark, without_mark, read_bare, read}
 use Rattle.wit_tokens.specs.Lexical.{begins, IsLexeme, IsComment, LexesText}
-use Rattle.wit_tokens.specs.Token.{What, Tok, ident, explicit}
+use Rattle.wit_words.specs.Token.{What, Tok, ident, explicit}
 use Rattle.wit_tokens.proofs.Breaks.{lexeme_refuses}
-use Rattle.wit_tokens.proofs.Identifiers.{decides}
+use Rattle.wit_words.proofs.Identifiers.{decides}
 use Rattle.wit_tokens.proofs.Lexemes.{lexeme_only, lexeme_found, lexeme_some, reads_lexeme, text_only}
 use Rattle.wit_tokens.proofs.Readings.{some_break, some_same, marking, reads_behind}
 
 -- ---- where a rule is broken, nothing is read
 
 abbrev StopsAt : ℕ → Text → Rule → Type 0
-StopsAt at z rule = read_bare at z ≡ stops rule at
+StopsAt at z rule = read_bare at z ≡ stops rule (broken_span rule at z)
 
 uncut : (at : ℕ) (z : Text) (rule : Rule) → 1 ≤ length z → lexeme_at z ≡ Err rule → StopsAt at z rule
 unfolding read_bare
@@ -94,19 +95,23 @@ passes_on at l x rest p h made =
     let passed : read_bare at (x ++ rest) ≡ prepend (span_of l at x) p (read_bare (at + length x) rest) = one ∙ rw (take_at x rest (length x) refl, drop_at x rest (length x) refl, made) refl in
     ap (λ (r : Reading). r.broken) passed
 
-breaks_there : (at n : ℕ) (text place : Text) (rule : Rule) → Passes text place → BreaksText rule place → length text ≡ n + length place → (read_bare at text).broken ≡ Some (record { rule = rule; at = at + n })
+-- the break of a rule at the front of a text that begins at a place
+abbrev moved : Rule → Text → ℕ → Option Break
+moved rule place at = Some (record { rule = rule; span = broken_span rule at place })
+
+breaks_there : (at n : ℕ) (text place : Text) (rule : Rule) → Passes text place → BreaksText rule place → length text ≡ n + length place → (read_bare at text).broken ≡ moved rule place (at + n)
 breaks_there at n text place rule (here _) h long =
     let same : at ≡ at + n = omega (arith, long) in
-    ap (λ (r : Reading). r.broken) (break_stops at text rule h) ∙ ap (λ k. Some (record { rule = rule; at = k })) same
+    ap (λ (r : Reading). r.broken) (break_stops at text rule h) ∙ ap (moved rule text) same
 breaks_there at n text place rule (goes l x rest _ _ p parts is made more) h long =
     let below = shorter rest place more in
     let whole_length : length text ≡ length x + length rest = ap length parts ∙ length-append x rest in
     let left : length rest ≡ (n - length x) + length place = omega (arith, below, whole_length) in
     let there = breaks_there (at + length x) (n - length x) rest place rule more h left in
     let same : (at + length x) + (n - length x) ≡ at + n = omega (arith, below, whole_length) in
-    rw parts (passes_on at l x rest p is made ∙ there ∙ ap (λ k. Some (record { rule = rule; at = k })) same)
+    rw parts (passes_on at l x rest p is made ∙ there ∙ ap (moved rule place) same)
 
-pub text_breaks : (at : ℕ) (text : Text) (rule : Rule) (place : ℕ) → IsBrokenText at text rule place → (read at text).broken ≡ Some (record { rule = rule; at = place })
+pub text_breaks : (at : ℕ) (text : Text) (rule : Rule) (place : Span) → IsBrokenText at text rule place → (read at text).broken ≡ Some (record { rule = rule; span = place })
 text_breaks at text rule place h =
     let long : length text ≡ length h.before + length h.place = ap length h.parts ∙ length-append h.before h.place in
     elim h.reached [
@@ -115,25 +120,25 @@ text_breaks at text rule place h =
           let marked : length text ≡ 3 + length rest = omega (arith, ap length is, length-append mark rest) in
           let left : length rest ≡ (length h.before - 3) + length h.place = omega (arith, below, marked, long) in
           let there = breaks_there (at + 3) (length h.before - 3) rest h.place rule passed h.breaks left in
-          let same : (at + 3) + (length h.before - 3) ≡ place = omega (arith, below, marked, long, h.lies) in
+          let same : (at + 3) + (length h.before - 3) ≡ at + length h.before = omega (arith, below, marked, long) in
           let behind : without_mark at text ≡ (at + 3, rest) = rw is refl in
-          ap (λ (r : Reading). r.broken) (reads_behind at text (at + 3) rest behind) ∙ there ∙ ap (λ k. Some (record { rule = rule; at = k })) same
+          ap (λ (r : Reading). r.broken) (reads_behind at text (at + 3) rest behind) ∙ there ∙ ap (moved rule h.place) same ∙ ap (λ (s : Span). Some (record { rule = rule; span = s })) (sym h.lies)
       | inr (none, passed) ↦ elim (marking at text) [
         | inl (rest, parts, behind) ↦ absurd (none rest parts)
         | inr (also, behind) ↦
             ap (λ (r : Reading). r.broken) (reads_behind at text at text behind) ∙ breaks_there at (length h.before) text h.place rule passed h.breaks long
-            ∙ ap (λ k. Some (record { rule = rule; at = k })) (sym h.lies)
+            ∙ ap (λ (s : Span). Some (record { rule = rule; span = s })) (sym h.lies)
       ]
     ]
 
 -- ---- laws
 
 -- a text breaks one rule of lexemes, and that at one place
-pub one_break : (at : ℕ) (text : Text) (rule other : Rule) (place elsewhere : ℕ) → IsBrokenText at text rule place → IsBrokenText at text other elsewhere → (rule ≡ other) × (place ≡ elsewhere)
+pub one_break : (at : ℕ) (text : Text) (rule other : Rule) (place elsewhere : Span) → IsBrokenText at text rule place → IsBrokenText at text other elsewhere → (rule ≡ other) × (place ≡ elsewhere)
 one_break at text rule other place elsewhere h k =
-    let same = some_same (record { rule = rule; at = place }) (record { rule = other; at = elsewhere }) (sym (text_breaks at text rule place h) ∙ text_breaks at text other elsewhere k) in
-    (ap (λ (b : Break). b.rule) same, ap (λ (b : Break). b.at) same)
+    let same = some_same (record { rule = rule; span = place }) (record { rule = other; span = elsewhere }) (sym (text_breaks at text rule place h) ∙ text_breaks at text other elsewhere k) in
+    (ap (λ (b : Break). b.rule) same, ap (λ (b : Break). b.span) same)
 
 -- and is no tokens
-pub no_tokens : (at : ℕ) (text : Text) (rule : Rule) (place : ℕ) (ts : List Tok) → IsBrokenText at text rule place → LexesText at text ts → ⊥
-no_tokens at text rule place ts h lexes = some_break (record { rule = rule; at = place }) (sym (text_breaks at text rule place h) ∙ ap (λ (r : Reading). r.broken) (text_only at text ts lexes))
+pub no_tokens : (at : ℕ) (text : Text) (rule : Rule) (place : Span) (ts : List Tok) → IsBrokenText at text rule place → LexesText at text ts → ⊥
+no_tokens at text rule place ts h lexes = some_break (record { rule = rule; span = place }) (sym (text_breaks at text rule place h) ∙ ap (λ (r : Reading). r.broken) (text_only at text ts lexes))

@@ -2,20 +2,20 @@
 use Rattle.std.proofs.Common.{◌≡◌, ℕ, zero, suc, ◌+◌, ◌≤◌, ◌⊎◌, eqb, List, [], ◌∷◌, ◌++◌, length, take, drop, Some, None, Result, Ok, Err, refl, sym, ap, subst, ◌∙◌, arith, inl, inr, append_assoc, length-append, length-take, take-append-drop}
 use Rattle.std.specs.Prelude.{IfOk, IfErr}
 use Rattle.std.proofs.lemmas.Bool.{cases_Bool, eqb-true}
-use Rattle.wit_tokens.specs.declared.fault.Rule.{Rule}
-use Rattle.wit_tokens.specs.declared.fault.SyntaxFault.{SyntaxFault}
-use Rattle.wit_tokens.specs.declared.fault.SyntaxFault.TheVariants as faults
+use Rattle.wit_words.specs.declared.fault.Rule.{Rule}
+use Rattle.wit_words.specs.declared.fault.SyntaxFault.{SyntaxFault}
+use Rattle.wit_words.specs.declared.fault.SyntaxFault.TheVariants as faults
 use Rattle.wit_tokens.specs.declared.lex.Class.{Class}
 use Rattle.wit_tokens.specs.declared.lex.Class.TheVariants as class
 use Rattle.wit_tokens.specs.declared.lex.Lexeme.{Lexeme}
 use Rattle.wit_tokens.specs.declared.lex.Lexeme.TheVariants as lexeme
-use Rattle.wit_tokens.specs.declared.source_map.Span.{Span}
-use Rattle.wit_tokens.specs.declared.token.Kind.{Kind}
-use Rattle.wit_tokens.specs.declared.token.Kind.TheVariants as kind
+use Rattle.wit_words.specs.declared.source_map.Span.{Span}
+use Rattle.wit_words.specs.declared.token.Kind.{Kind}
+use Rattle.wit_words.specs.declared.token.Kind.TheVariants as kind
 use Rattle.wit_tokens.specs.Cause.{BreaksText, Passes, here, goes as passes, IsBrokenText, IsLexFault}
-use Rattle.wit_tokens.specs.Lex.{Text, Cut, Piece, Break, Reading, lexeme_at, piece_of, span_of, put, stops, prepend, mark, without_mark, read_bare, read, GivesReading}
+use Rattle.wit_tokens.specs.Lex.{Text, Cut, Piece, Break, Reading, broken_span, lexeme_at, piece_of, span_of, put, stops, prepend, mark, without_mark, read_bare, read, GivesReading}
 use Rattle.wit_tokens.specs.Lexical.{IsRun, Starts, IsSign, IsLexeme, Adds, Lexes, LexesText, ends, goes}
-use Rattle.wit_tokens.specs.Token.{Tok}
+use Rattle.wit_words.specs.Token.{Tok}
 use Rattle.wit_tokens.proofs.Breaks.{no_lexeme_breaks, no_token_breaks}
 use Rattle.wit_tokens.proofs.LexLaws.{reads_end}
 use Rattle.wit_tokens.proofs.Lexemes.{reads_lexeme, lexeme_found, lexeme_some, whole}
@@ -24,7 +24,7 @@ use Rattle.wit_tokens.proofs.Lexemes.{reads_lexeme, lexeme_found, lexeme_some, w
 pub data First : ℕ → Text → Type 0 where
   lexes : (at : ℕ) (z : Text) (l : Lexeme) (x rest : Text) (p : Piece) → z ≡ x ++ rest → 1 ≤ length x → IsLexeme l x rest → piece_of l x ≡ Ok p
       → read_bare at z ≡ prepend (span_of l at x) p (read_bare (at + length x) rest) → First at z
-  breaks : (at : ℕ) (z : Text) (rule : Rule) → BreaksText rule z → read_bare at z ≡ stops rule at → First at z
+  breaks : (at : ℕ) (z : Text) (rule : Rule) → BreaksText rule z → read_bare at z ≡ stops rule (broken_span rule at z) → First at z
 
 pub first : (at : ℕ) (z : Text) → 1 ≤ length z → First at z
 unfolding read_bare
@@ -66,7 +66,7 @@ lexes_found (suc n) at (b ∷ z) r fits is e = elim (first at (b ∷ z) (omega a
       let more = lexes_found n (place + length x) rest next shorter refl (ap (λ (q : Reading). q.broken) same ∙ e) in
       subst (λ (q : Reading). Lexes place y q.tokens) same
       (goes place l x rest y next.tokens (put (span_of l place x) p next.tokens) parts h more (adds (span_of l place x) p (piece_of l x) next.tokens made))
-  | breaks place y rule h reads ↦ absurd (some_break (record { rule = rule; at = place }) (ap (λ (q : Reading). q.broken) (sym reads ∙ is) ∙ e))
+  | breaks place y rule h reads ↦ absurd (some_break (record { rule = rule; span = broken_span rule place y }) (ap (λ (q : Reading). q.broken) (sym reads ∙ is) ∙ e))
 ]
 
 -- ---- where a rule is broken
@@ -111,6 +111,13 @@ cut_lexeme lexeme.Version x rest more h =
 cut_lexeme lexeme.Word x rest more h = cut_starts class.Letter class.Word x rest more h
 cut_lexeme lexeme.Marked x rest more ((y, is, h)) = (y, is, cut_starts class.Letter class.Word y rest more h)
 
+-- the same place, counted in two ways
+further : (at : ℕ) (x y : Text) → (at + length x) + length y ≡ at + length (x ++ y)
+further at x y = omega (arith, length-append x y)
+
+here_already : (at : ℕ) → at ≡ at + 0
+here_already at = omega arith
+
 -- the text is these tokens up to where a rule is broken
 record StopsThere (at : ℕ) (z : Text) (ts : List Tok) (b : Break) : Type 0 where
   before : Text
@@ -118,7 +125,7 @@ record StopsThere (at : ℕ) (z : Text) (ts : List Tok) (b : Break) : Type 0 whe
   parts : z ≡ before ++ place
   passed : Passes z place
   front : Lexes at before ts
-  lies : b.at ≡ at + length before
+  lies : b.span ≡ broken_span b.rule (at + length before) place
   broken : BreaksText b.rule place
 
 pub some_same : (b c : Break) → Some b ≡ Some c → b ≡ c
@@ -141,19 +148,20 @@ break_found (suc n) at (c ∷ z) r b fits is e = elim (first at (c ∷ z) (omega
         passed = passes l x rest y s.place p parts h made s.passed;
         front = goes start l x s.before (x ++ s.before) next.tokens us refl (cut_lexeme l x s.before s.place (subst (λ (t : Text). IsLexeme l x t) s.parts h)) s.front
             (adds (span_of l start x) p (piece_of l x) next.tokens made);
-        lies = s.lies ∙ omega (arith, length-append x s.before);
+        lies = s.lies ∙ ap (λ k. broken_span b.rule k s.place) (further start x s.before);
         broken = s.broken;
       })
   | breaks start y rule h reads ↦
-      let same : stops rule start ≡ r = sym reads ∙ is in
-      let there : record { rule = rule; at = start } ≡ b = some_same (record { rule = rule; at = start }) b (ap (λ (q : Reading). q.broken) same ∙ e) in
+      let moved : Break = record { rule = rule; span = broken_span rule start y } in
+      let same : stops rule (broken_span rule start y) ≡ r = sym reads ∙ is in
+      let there : moved ≡ b = some_same moved b (ap (λ (q : Reading). q.broken) same ∙ e) in
       subst (λ (q : Reading). StopsThere start y q.tokens b) same (subst (λ (d : Break). StopsThere start y [] d) there (record {
         before = [];
         place = y;
         parts = refl;
         passed = here y;
         front = ends start;
-        lies = omega arith;
+        lies = ap (λ k. broken_span rule k y) (here_already start);
         broken = h;
       }))
 ]
@@ -191,7 +199,7 @@ text_found at text r is e = elim (marking at text) [
 
 -- the text breaks a rule behind these tokens
 pub record BreaksBehind (at : ℕ) (text : Text) (ts : List Tok) (b : Break) : Type 0 where
-  pub broken : IsBrokenText at text b.rule b.at
+  pub broken : IsBrokenText at text b.rule b.span
   pub front : LexesText at broken.before ts
 
 pub text_broken : (at : ℕ) (text : Text) (r : Reading) (b : Break) → read at text ≡ r → r.broken ≡ Some b → BreaksBehind at text r.tokens b
@@ -204,7 +212,7 @@ text_broken at text r b is e = elim (marking at text) [
           place = s.place;
           parts = parts ∙ ap (λ (t : Text). mark ++ t) s.parts;
           reached = inl (rest, parts, s.passed);
-          lies = s.lies ∙ omega (arith, length-append mark s.before);
+          lies = s.lies ∙ ap (λ k. broken_span b.rule k s.place) (further at mark s.before);
           breaks = s.broken;
         };
         front = inl (s.before, refl, s.front);
@@ -225,4 +233,4 @@ pub answers_cause : {X : Type 0} (view : X → List Tok) (r : Result X SyntaxFau
 answers_cause view (Ok x) at text e = tt
 answers_cause view (Err faults.OutOfMemory) at text e = tt
 answers_cause view (Err faults.TooLarge) at text e = absurd e
-answers_cause view (Err (faults.Broken rule place)) at text e = (text_broken at text (read at text) (record { rule = rule; at = place }) refl e).broken
+answers_cause view (Err (faults.Broken rule place)) at text e = (text_broken at text (read at text) (record { rule = rule; span = place }) refl e).broken

@@ -11,10 +11,10 @@ use Rattle.wit_tokens.specs.declared.lex.Class.{Class}
 use Rattle.wit_tokens.specs.declared.lex.Class.TheVariants as class
 use Rattle.wit_tokens.specs.declared.lex.Lexeme.{Lexeme}
 use Rattle.wit_tokens.specs.declared.lex.Lexeme.TheVariants as lexeme
-use Rattle.wit_tokens.specs.declared.token.Kind.TheVariants as kind
+use Rattle.wit_words.specs.declared.token.Kind.TheVariants as kind
 use Rattle.wit_tokens.specs.Lex.{Text, Cut, is_in, comment_from, closed, slash, minus, percent, sign, version_or_number, lexeme_at}
-use Rattle.wit_tokens.specs.Version.{version_len}
-use Rattle.wit_tokens.proofs.Versions.{version_found, version_within, version_ascii}
+use Rattle.wit_words.specs.Version.{version_len}
+use Rattle.wit_words.proofs.Versions.{version_found, version_within, version_ascii}
 
 -- the byte before a place, and prev at the front
 abbrev before : ℕ → ℕ → Text → ℕ
@@ -61,7 +61,7 @@ blank_ascii b e = grind (arith, nat_tests)
 line_end : (b : ℕ) → is_in class.Line b ≡ false → b < 128
 line_end b e = grind (arith, nat_tests)
 
-sign_ascii : (b : ℕ) → 128 ≤ b → sign b ≡ Err Rattle.wit_tokens.specs.declared.fault.Rule.TheVariants.BadCharacter
+sign_ascii : (b : ℕ) → 128 ≤ b → sign b ≡ Err Rattle.wit_words.specs.declared.fault.Rule.TheVariants.BadCharacter
 sign_ascii b h = grind (arith, nat_tests)
 
 abbrev Ends : ℕ → ℕ → Text → ℕ → Type 0

@@ -2,18 +2,18 @@
 use Rattle.std.proofs.Common.{◌≡◌, ℕ, ◌+◌, List, [], ◌∷◌, ◌++◌, length, Option, Some, None, Result, Ok, Err, refl, sym, ap, subst, ◌∙◌, arith, inl, inr, append_assoc, length-append}
 use Rattle.std.specs.List.{AllByRecursion as Each}
 use Rattle.std.proofs.lemmas.Bool.{cases_Bool}
-use Rattle.wit_tokens.specs.declared.fault.Rule.{Rule}
+use Rattle.wit_words.specs.declared.fault.Rule.{Rule}
 use Rattle.wit_tokens.specs.declared.lex.Lexeme.{Lexeme}
 use Rattle.wit_tokens.specs.declared.lex.Lexeme.TheVariants as lexeme
-use Rattle.wit_tokens.specs.declared.source_map.Span.{Span}
-use Rattle.wit_tokens.specs.declared.token.Kind.{Kind}
-use Rattle.wit_tokens.specs.Identifier.{is_identifier}
-use Rattle.wit_tokens.specs.Keyword.{keyword}
+use Rattle.wit_words.specs.declared.source_map.Span.{Span}
+use Rattle.wit_words.specs.declared.token.Kind.{Kind}
+use Rattle.wit_words.specs.Identifier.{is_identifier}
+use Rattle.wit_words.specs.Keyword.{keyword}
 use Rattle.wit_tokens.specs.Lex.{Text, Piece, nothing, doc, token, is_doc, word_token, piece_of, span_of, put, mark}
 use Rattle.wit_tokens.specs.Lexical.{IsLexeme, Adds, Lexes, LexesText, ends, goes}
-use Rattle.wit_tokens.specs.Slice.{Slice, StandsIn}
+use Rattle.wit_words.specs.Slice.{Slice, StandsIn}
 use Rattle.wit_tokens.specs.Stands.{Says, IsInPlace}
-use Rattle.wit_tokens.specs.Token.{Tok}
+use Rattle.wit_words.specs.Token.{Tok}
 use Rattle.wit_tokens.proofs.Readings.{cut_sign}
 
 abbrev slice : Text → ℕ → ℕ → Slice

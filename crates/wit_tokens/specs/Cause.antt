@@ -1,14 +1,15 @@
 -- Why a text isn't taken, of its characters.
 use Rattle.std.specs.Prelude.{◌≡◌, ℕ, ◌+◌, ◌^◌, ◌≤◌, ◌⊎◌, true, false, None, ◌∷◌, ◌++◌, length, Ok}
-use Rattle.wit_tokens.specs.declared.fault.Rule.{Rule}
-use Rattle.wit_tokens.specs.declared.fault.Rule.TheVariants as rules
-use Rattle.wit_tokens.specs.declared.fault.SyntaxFault.{SyntaxFault}
-use Rattle.wit_tokens.specs.declared.fault.SyntaxFault.TheVariants as faults
+use Rattle.wit_words.specs.declared.fault.Rule.{Rule}
+use Rattle.wit_words.specs.declared.fault.Rule.TheVariants as rules
+use Rattle.wit_words.specs.declared.fault.SyntaxFault.{SyntaxFault}
+use Rattle.wit_words.specs.declared.fault.SyntaxFault.TheVariants as faults
 use Rattle.wit_tokens.specs.declared.lex.Class.TheVariants as class
 use Rattle.wit_tokens.specs.declared.lex.Lexeme.{Lexeme}
-use Rattle.wit_tokens.specs.Identifier.{IsIdentifier}
-use Rattle.wit_tokens.specs.Keyword.{keyword}
-use Rattle.wit_tokens.specs.Lex.{Text, Piece, piece_of, mark}
+use Rattle.wit_words.specs.declared.source_map.Span.{Span}
+use Rattle.wit_words.specs.Identifier.{IsIdentifier}
+use Rattle.wit_words.specs.Keyword.{keyword}
+use Rattle.wit_tokens.specs.Lex.{Text, Piece, piece_of, mark, broken_span}
 use Rattle.wit_tokens.specs.Lexical.{Starts, begins, IsComment, IsLexeme}
 
 -- the text is lexemes that break no rule up to a place
@@ -46,16 +47,16 @@ BreaksText rules.BadIdentifier place = IsBadWord place
 BreaksText _ place = ⊥
 
 -- a rule is broken where the text, which begins at a place, is lexemes up to there
-pub record IsBrokenText (offset : ℕ) (text : Text) (rule : Rule) (at : ℕ) : Type 0 where
+pub record IsBrokenText (offset : ℕ) (text : Text) (rule : Rule) (span : Span) : Type 0 where
   pub before : Text
   pub place : Text
   pub parts : text ≡ before ++ place
   pub reached : Reaches text place
-  pub lies : at ≡ offset + length before
+  pub lies : span ≡ broken_span rule (offset + length before) place
   pub breaks : BreaksText rule place
 
 -- why the text, which begins at a place, isn't read as tokens
 abbrev pub IsLexFault : ℕ → Text → SyntaxFault → Type 0
 IsLexFault offset text faults.OutOfMemory = Unit {0}
 IsLexFault offset text faults.TooLarge = 2 ^ 32 ≤ offset + length text
-IsLexFault offset text (faults.Broken rule at) = IsBrokenText offset text rule at
+IsLexFault offset text (faults.Broken rule span) = IsBrokenText offset text rule span

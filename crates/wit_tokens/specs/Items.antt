@@ -1,14 +1,14 @@
 -- The tokens of a text one by one, and the fault that ends them.
 use Rattle.std.specs.Prelude.{◌≡◌, ℕ, ◌⊎◌, List, [], ◌∷◌, ◌++◌, map, Option, Some, None, Result, Ok, Err}
-use Rattle.wit_tokens.specs.declared.fault.Rule.{Rule}
-use Rattle.wit_tokens.specs.declared.fault.SyntaxFault.{SyntaxFault}
-use Rattle.wit_tokens.specs.declared.fault.SyntaxFault.TheVariants as faults
-use Rattle.wit_tokens.specs.declared.source_map.Span.{Span}
+use Rattle.wit_words.specs.declared.fault.Rule.{Rule}
+use Rattle.wit_words.specs.declared.fault.SyntaxFault.{SyntaxFault}
+use Rattle.wit_words.specs.declared.fault.SyntaxFault.TheVariants as faults
+use Rattle.wit_words.specs.declared.source_map.Span.{Span}
 use Rattle.wit_tokens.specs.declared.token_iterator.SpannedToken.{SpannedToken}
 use Rattle.wit_tokens.specs.Cause.{IsBrokenText}
 use Rattle.wit_tokens.specs.Lex.{Text, Break, Reading}
 use Rattle.wit_tokens.specs.Lexical.{LexesText}
-use Rattle.wit_tokens.specs.Token.{What, Tok, what}
+use Rattle.wit_words.specs.Token.{What, Tok, what}
 
 -- a token, and where it stands
 pub record Spanned : Type 0 where
@@ -30,7 +30,7 @@ given t = Ok (record { what = t.what; span = t.span })
 -- the text, which begins at a place, breaks a rule behind tokens, and these are the items
 pub record AreStopped (at : ℕ) (text : Text) (items : List Item) : Type 0 where
   pub rule : Rule
-  pub place : ℕ
+  pub place : Span
   pub broken : IsBrokenText at text rule place
   pub tokens : List Tok
   pub front : LexesText at broken.before tokens
@@ -44,7 +44,7 @@ AreItems at text items = ((ts : List Tok) × LexesText at text ts × (items ≡ 
 
 abbrev pub last : Option Break → List Item
 last None = []
-last (Some b) = Err (faults.Broken b.rule b.at) ∷ []
+last (Some b) = Err (faults.Broken b.rule b.span) ∷ []
 
 abbrev pub items_of : Reading → List Item
 items_of r = map given r.tokens ++ last r.broken

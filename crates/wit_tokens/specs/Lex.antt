@@ -2,26 +2,27 @@
 use Rattle.std.specs.Prelude.{◌≡◌, ℕ, zero, suc, take, drop, length, ◌+◌, ◌-◌, Bool, false, not, ◌&&◌, ◌||◌, if◌then◌else◌, ◌==◌, List, [], ◌∷◌, ◌++◌, Option, Some, None, Result, Ok, Err, bytes_eq, map}
 use Rattle.std.specs.Char.{is_ascii_digit, is_ascii_alphabetic, is_ascii_alphanumeric}
 use Rattle.std.specs.List.{prefix_len}
-use Rattle.wit_tokens.specs.declared.fault.Rule.{Rule}
-use Rattle.wit_tokens.specs.declared.fault.Rule.TheVariants.{BadCharacter, OpenComment, BadIdentifier}
-use Rattle.wit_tokens.specs.declared.fault.SyntaxFault.{SyntaxFault}
-use Rattle.wit_tokens.specs.declared.fault.SyntaxFault.TheVariants as faults
+use Rattle.wit_words.specs.declared.fault.Rule.{Rule}
+use Rattle.wit_words.specs.declared.fault.Rule.TheVariants.{BadCharacter, OpenComment, BadIdentifier}
+use Rattle.wit_words.specs.declared.fault.SyntaxFault.{SyntaxFault}
+use Rattle.wit_words.specs.declared.fault.SyntaxFault.TheVariants as faults
 use Rattle.wit_tokens.specs.declared.lex.Class.{Class}
 use Rattle.wit_tokens.specs.declared.lex.Class.TheVariants as class
 use Rattle.wit_tokens.specs.declared.lex.Lexeme.{Lexeme}
 use Rattle.wit_tokens.specs.declared.lex.Lexeme.TheVariants as lexeme
-use Rattle.wit_tokens.specs.declared.source_map.Span.{Span}
-use Rattle.wit_tokens.specs.declared.token.Kind.{Kind}
-use Rattle.wit_tokens.specs.declared.token.Kind.TheVariants as kind
+use Rattle.wit_words.specs.declared.source_map.Span.{Span}
+use Rattle.wit_words.specs.declared.token.Kind.{Kind}
+use Rattle.wit_words.specs.declared.token.Kind.TheVariants as kind
 use Rattle.wit_tokens.specs.declared.tokens.Found.{Found}
 use Rattle.wit_tokens.specs.declared.tokens.Kept.{Kept as KeptTokens}
 use Rattle.wit_tokens.specs.declared.tokens.Found.TheVariants as found
-use Rattle.wit_tokens.specs.Slice.{Slice}
-use Rattle.wit_tokens.specs.Token.{What, Tok, plain, number, version, ident, explicit, what, comment, toks}
-use Rattle.wit_tokens.specs.Version.{version_len}
-use Rattle.wit_tokens.specs.Keyword.{keyword}
-pub use Rattle.wit_tokens.specs.Version.{Text}
-use Rattle.wit_tokens.specs.Identifier.{is_identifier}
+use Rattle.wit_words.specs.Slice.{Slice}
+use Rattle.wit_words.specs.Token.{What, Tok, plain, number, version, ident, explicit, what, comment, toks}
+use Rattle.wit_words.specs.Version.{version_len}
+use Rattle.wit_words.specs.Keyword.{keyword}
+pub use Rattle.wit_words.specs.Version.{Text}
+use Rattle.wit_words.specs.Identifier.{is_identifier}
+use Rattle.wit_words.specs.Sources.{goes_on}
 
 abbrev pub Cut : Type 0
 Cut = Result (Lexeme × ℕ) Rule
@@ -32,6 +33,7 @@ is_in class.Letter b = is_ascii_alphabetic b
 is_in class.Digit b = is_ascii_digit b
 is_in class.Word b = is_ascii_alphanumeric b || b == 45
 is_in class.Line b = not (b == 10)
+is_in class.Continuation b = goes_on b
 
 -- where a comment ends that is open depth times, with the byte before, unless that was taken
 abbrev pub comment_from : ℕ → ℕ → ℕ → Text → Option ℕ
@@ -167,10 +169,21 @@ put span nothing ts = ts
 put span (doc x) ts = with_doc (record { text = x; span = span }) ts
 put span (token w) ts = record { docs = []; what = w; span = span } ∷ ts
 
+-- how many bytes a break has at the front of a text: the character, the comment up to the text's end, or the word with its `%`
+abbrev pub broken_len : Rule → Text → ℕ
+broken_len BadCharacter (b ∷ z) = 1 + prefix_len (is_in class.Continuation) z
+broken_len OpenComment z = length z
+broken_len BadIdentifier (b ∷ z) = 1 + prefix_len (is_in class.Word) z
+broken_len _ z = 0
+
+-- where it lies in a text that begins at a place
+unfoldable pub broken_span : Rule → ℕ → Text → Span
+broken_span rule at z = record { start = at; end = at + broken_len rule z }
+
 -- a rule, and where it is broken
 pub record Break : Type 0 where
   pub rule : Rule
-  pub at : ℕ
+  pub span : Span
 
 -- the tokens of a text, up to where a rule is broken, if one is
 pub record Reading : Type 0 where
@@ -181,19 +194,19 @@ pub record Reading : Type 0 where
 abbrev pub at_end : Reading
 at_end = record { tokens = []; broken = None }
 
-abbrev pub stops : Rule → ℕ → Reading
-stops rule at = record { tokens = []; broken = Some (record { rule = rule; at = at }) }
+abbrev pub stops : Rule → Span → Reading
+stops rule span = record { tokens = []; broken = Some (record { rule = rule; span = span }) }
 
 abbrev pub prepend : Span → Piece → Reading → Reading
 prepend span p r = record { tokens = put span p r.tokens; broken = r.broken }
 
-abbrev pub read_piece : ℕ → Span → Reading → Result Piece Rule → Reading
-read_piece at span next (Ok p) = prepend span p next
-read_piece at span next (Err rule) = stops rule at
+abbrev pub read_piece : ℕ → Text → Span → Reading → Result Piece Rule → Reading
+read_piece at z span next (Ok p) = prepend span p next
+read_piece at z span next (Err rule) = stops rule (broken_span rule at z)
 
 abbrev pub read_lexeme : ℕ → Text → (ℕ → Reading) → Cut → Reading
-read_lexeme at z next (Ok x) = read_piece at (span_of x.0 at (take x.1 z)) (next x.1) (piece_of x.0 (take x.1 z))
-read_lexeme at z next (Err rule) = stops rule at
+read_lexeme at z next (Ok x) = read_piece at z (span_of x.0 at (take x.1 z)) (next x.1) (piece_of x.0 (take x.1 z))
+read_lexeme at z next (Err rule) = stops rule (broken_span rule at z)
 
 -- The first number counts the bytes that are left of a lexeme, the second is where the one behind it begins.
 abbrev pub read_from : ℕ → ℕ → Text → Reading
@@ -222,17 +235,17 @@ found_piece found.Nothing = nothing
 found_piece (found.Docs x) = doc x.now
 found_piece (found.Token t) = token (what t)
 
--- a rule is broken at a place
-abbrev pub placed : {A : Type 0} → ℕ → Result A Rule → Result A SyntaxFault
-placed at (Ok x) = Ok x
-placed at (Err rule) = Err (faults.Broken rule at)
+-- a rule is broken at the front of a text that begins at a place
+abbrev pub placed : {A : Type 0} → ℕ → Text → Result A Rule → Result A SyntaxFault
+placed at z (Ok x) = Ok x
+placed at z (Err rule) = Err (faults.Broken rule (broken_span rule at z))
 
 -- what a reader of tokens returned, seen by view, is what reading gives, unless memory ran out
 abbrev pub GivesReading : {X : Type 0} → (X → List Tok) → Result X SyntaxFault → Reading → Type 0
 GivesReading view (Ok x) r = r ≡ record { tokens = view x; broken = None }
 GivesReading view (Err faults.OutOfMemory) r = Unit {0}
 GivesReading view (Err faults.TooLarge) r = ⊥
-GivesReading view (Err (faults.Broken rule at)) r = r.broken ≡ Some (record { rule = rule; at = at })
+GivesReading view (Err (faults.Broken rule span)) r = r.broken ≡ Some (record { rule = rule; span = span })
 
 -- ---- what the loop keeps: the tokens found, and the docs behind them
 

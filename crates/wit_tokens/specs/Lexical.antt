@@ -1,15 +1,15 @@
 -- What stands for a lexeme, and for the tokens of a text.
 use Rattle.std.specs.Prelude.{◌≡◌, ℕ, ◌+◌, ◌≤◌, ◌⊎◌, Bool, true, false, ◌&&◌, ◌==◌, List, [], ◌∷◌, ◌++◌, length, Result, Ok, Err}
-use Rattle.wit_tokens.specs.declared.fault.Rule.{Rule}
+use Rattle.wit_words.specs.declared.fault.Rule.{Rule}
 use Rattle.wit_tokens.specs.declared.lex.Class.{Class}
 use Rattle.wit_tokens.specs.declared.lex.Class.TheVariants as class
 use Rattle.wit_tokens.specs.declared.lex.Lexeme.{Lexeme}
 use Rattle.wit_tokens.specs.declared.lex.Lexeme.TheVariants as lexeme
-use Rattle.wit_tokens.specs.declared.source_map.Span.{Span}
-use Rattle.wit_tokens.specs.declared.token.Kind.{Kind}
-use Rattle.wit_tokens.specs.declared.token.Kind.TheVariants as kind
-use Rattle.wit_tokens.specs.Token.{Tok}
-use Rattle.wit_tokens.specs.Version.{IsVersionFront, HasNoVersion}
+use Rattle.wit_words.specs.declared.source_map.Span.{Span}
+use Rattle.wit_words.specs.declared.token.Kind.{Kind}
+use Rattle.wit_words.specs.declared.token.Kind.TheVariants as kind
+use Rattle.wit_words.specs.Token.{Tok}
+use Rattle.wit_words.specs.Version.{IsVersionFront, HasNoVersion}
 use Rattle.wit_tokens.specs.Lex.{Text, is_in, Piece, piece_of, put, mark}
 pub use Rattle.wit_tokens.specs.Lex.{said_from, span_of}
 

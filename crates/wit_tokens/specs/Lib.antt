@@ -1,14 +1,5 @@
-pub mod Slice
-pub mod Token
-pub mod Outcome
-pub mod Keyword
-pub mod Identifier
-pub mod Version
 pub mod Lex
 pub mod Lexical
 pub mod Cause
 pub mod Items
 pub mod Stands
-pub mod Sources
-pub mod NameKey
-pub mod Docs

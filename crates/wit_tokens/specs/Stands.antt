@@ -1,11 +1,11 @@
 -- Tokens stand where their spans say.
 use Rattle.std.specs.Prelude.{◌≡◌, ℕ, ◌⊎◌, [], Some}
 use Rattle.std.specs.List.{AllByRecursion as Each}
-use Rattle.wit_tokens.specs.Keyword.{keyword}
+use Rattle.wit_words.specs.Keyword.{keyword}
 use Rattle.wit_tokens.specs.Lex.{Text}
 use Rattle.wit_tokens.specs.Lexical.{IsSign}
-use Rattle.wit_tokens.specs.Slice.{StandsIn}
-use Rattle.wit_tokens.specs.Token.{What, Tok, plain, number, version, ident, explicit}
+use Rattle.wit_words.specs.Slice.{StandsIn}
+use Rattle.wit_words.specs.Token.{What, Tok, plain, number, version, ident, explicit}
 
 -- what stands there says this
 abbrev pub Says : Text → What → Type 0

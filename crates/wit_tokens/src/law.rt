@@ -1,15 +1,13 @@
 //! Laws of tokens.
 
-ghost use Rattle.std.specs.Prelude.{◌≡◌, ℕ, List, IsOk};
-ghost use Rattle.semver.specs.Parse.{version_parts};
+ghost use Rattle.std.specs.Prelude.{◌≡◌, ℕ, List};
 ghost use Rattle.std.specs.List.{AllByRecursion as Each};
 ghost use Rattle.wit_tokens.specs.Cause.{IsBrokenText};
 ghost use Rattle.wit_tokens.specs.Lexical.{LexesText};
 ghost use Rattle.wit_tokens.specs.Stands.{IsInPlace};
-ghost use Rattle.wit_tokens.specs.Token.{Tok};
-ghost use Rattle.wit_tokens.specs.Version.{IsVersion};
+ghost use Rattle.wit_words.specs.Token.{Tok};
 
-use crate::fault::Rule;
+use wit_words::{Rule, Span};
 
 /// A text is one list of tokens at most.
 pub fn law_one_list_of_tokens()
@@ -23,11 +21,6 @@ pub fn law_tokens_are_slices()
 
 /// A text that breaks S1, S2 or S4 breaks one of them at one place, and is no list of tokens.
 pub fn law_a_break_is_one()
-    ensures same { (at : ℕ) (text : List ℕ) (rule other : Rule) (place elsewhere : ℕ) → IsBrokenText at text rule place → IsBrokenText at text other elsewhere → (rule ≡ other) × (place ≡ elsewhere) }
-    ensures none { (at : ℕ) (text : List ℕ) (rule : Rule) (place : ℕ) (ts : List Tok) → IsBrokenText at text rule place → LexesText at text ts → ⊥ }
-{}
-
-/// What `semver` reads is a version: of those it refuses the ones that have a number of more than 64 bits.
-pub fn law_semver_reads_versions()
-    ensures { (text : List ℕ) → IsOk (version_parts text) → IsVersion text }
+    ensures same { (at : ℕ) (text : List ℕ) (rule other : Rule) (place elsewhere : Span) → IsBrokenText at text rule place → IsBrokenText at text other elsewhere → (rule ≡ other) × (place ≡ elsewhere) }
+    ensures none { (at : ℕ) (text : List ℕ) (rule : Rule) (place : Span) (ts : List Tok) → IsBrokenText at text rule place → LexesText at text ts → ⊥ }
 {}

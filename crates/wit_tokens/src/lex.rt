@@ -1,12 +1,10 @@
 //! The lexeme at the front of a text.
 
-ghost use Rattle.std.specs.Prelude.{◌≡◌, ◌+◌, ◌≤◌, Ok, true, length, IfOk, IfSome};
+ghost use Rattle.std.specs.Prelude.{◌≡◌, ◌+◌, ◌≤◌, ◌<◌, ◌^◌, Ok, true, length, IfOk, IfSome};
 ghost use Rattle.std.specs.List.{prefix_len};
 ghost use Rattle.wit_tokens.specs.Lex as spec;
 
-use crate::fault::Rule;
-use crate::token::Kind;
-use crate::version::version_len;
+use wit_words::{Kind, Rule, Span, version_len};
 
 /// A class of bytes.
 #[derive(Clone, Copy)]
@@ -21,6 +19,8 @@ pub enum Class {
     Word,
     /// What a line goes on with.
     Line,
+    /// What a character of UTF-8 goes on with.
+    Continuation,
 }
 
 /// What stands in a text, as one.
@@ -51,6 +51,7 @@ fn is_in(class: Class, byte: u8) -> bool
         Class::Digit => byte.is_ascii_digit(),
         Class::Word => byte.is_ascii_alphanumeric() || byte == b'-',
         Class::Line => byte != b'\n',
+        Class::Continuation => (0x80..0xc0).contains(&byte),
     }
 }
 
@@ -175,5 +176,30 @@ pub fn front(text: &[u8]) -> Result<(Lexeme, usize), Rule>
         b'-' => minus(rest),
         b'%' => percent(rest),
         first => sign(first),
+    }
+}
+
+/// How many bytes a break of the rule has at the front of a text.
+fn broken_len(rule: Rule, text: &[u8]) -> usize
+    ensures value { result ≡ spec.broken_len rule text.now }
+    ensures within { result ≤ length text.now }
+{
+    match (rule, text) {
+        (Rule::BadCharacter, [_, rest @ ..]) => 1 + run(Class::Continuation, rest),
+        (Rule::OpenComment, _) => text.len(),
+        (Rule::BadIdentifier, [_, rest @ ..]) => 1 + run(Class::Word, rest),
+        _ => 0,
+    }
+}
+
+/// Where a text that begins at `at` breaks the rule at its front.
+#[tactic(auto, unfolding(crate::specs::Lex::broken_span))]
+pub fn broken_span(rule: Rule, text: &str, at: u32) -> Span
+    requires { at + length text.now < 2 ^ 32 }
+    ensures { result ≡ spec.broken_span rule at text.now }
+{
+    Span {
+        start: at,
+        end: at + broken_len(rule, text.as_bytes()) as u32,
     }
 }

@@ -1,28 +1,16 @@
-//! The tokens of WIT texts, and what stands beside them: places in texts, docs, identifiers, versions and the keys of names.
+//! The tokens of WIT texts. What they are made of, which `wit_words` has, is offered here too.
 #![tactic(auto)]
 
-mod docs;
-mod fault;
-mod identifier;
-mod keyword;
 mod law;
 mod lex;
-mod name_key;
-mod source_map;
-mod token;
 mod token_iterator;
 mod tokens;
-mod version;
 
-pub use docs::Docs;
-pub use fault::{Rule, SyntaxFault};
-pub use identifier::{is_identifier, validate_id};
-pub use law::{
-    law_a_break_is_one, law_one_list_of_tokens, law_semver_reads_versions, law_tokens_are_slices,
-};
-pub use name_key::{NameKey, law_name_keys_fold_as_names_do};
-pub use source_map::{SourceFault, SourceMap, Span};
-pub use token::{Comment, DocumentedToken, Kind, Token, same_kind};
+pub use law::{law_a_break_is_one, law_one_list_of_tokens, law_tokens_are_slices};
 pub use token_iterator::{SpannedToken, Tokens};
 pub use tokens::read_tokens;
-pub use version::is_read_by_semver;
+pub use wit_words::{
+    Comment, Docs, DocumentedToken, Kind, NameKey, Rule, SourceFault, SourceMap, Span, SyntaxFault,
+    Token, is_identifier, is_read_by_semver, law_name_keys_fold_as_names_do,
+    law_semver_reads_versions, same_kind, validate_id,
+};

@@ -4,14 +4,12 @@ ghost use Rattle.std.specs.Prelude.{◌≡◌, ◌+◌, ◌^◌, ◌<◌, ◌≤
 ghost use Rattle.wit_tokens.specs.Items.{given, item, items_of, AreItems};
 ghost use Rattle.wit_tokens.specs.Lex.{read_bare};
 ghost use Rattle.wit_tokens.specs.Lexical.{LexesText};
-ghost use Rattle.wit_tokens.specs.Token.{Tok};
+ghost use Rattle.wit_words.specs.Token.{Tok};
 
-use crate::fault::SyntaxFault;
-use crate::source_map::Span;
-use crate::token::Token;
 use crate::tokens::{Found, is_too_large, placed_piece, without_mark};
 use std::iter::FusedIterator;
 use std::marker::Model;
+use wit_words::{Span, SyntaxFault, Token};
 
 /// A token, and where it stands.
 #[derive(Clone, Copy, Debug)]

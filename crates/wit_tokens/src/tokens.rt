@@ -4,17 +4,15 @@ ghost use Rattle.std.specs.Prelude.{◌≡◌, ◌+◌, ◌^◌, ◌<◌, ◌≤
 ghost use Rattle.wit_tokens.specs.Lex as spec;
 ghost use Rattle.wit_tokens.specs.Cause.{IsLexFault};
 ghost use Rattle.wit_tokens.specs.Lexical.{LexesText};
-ghost use Rattle.wit_tokens.specs.Outcome.{Agrees, AnswersText};
-ghost use Rattle.wit_tokens.specs.Token.{Tok, toks, ident, explicit};
+ghost use Rattle.wit_words.specs.Outcome.{Agrees, AnswersText};
+ghost use Rattle.wit_words.specs.Token.{Tok, toks, ident, explicit};
 
-use crate::fault::{Rule, SyntaxFault};
-use crate::identifier::is_identifier;
-use crate::keyword::keyword;
-use crate::lex::{Lexeme, front};
-use crate::source_map::Span;
-use crate::token::{Comment, DocumentedToken, Token};
+use crate::lex::{Lexeme, broken_span, front};
 use std::alloc::{AllocError, Global};
 use std::mem;
+use wit_words::{
+    Comment, DocumentedToken, Rule, Span, SyntaxFault, Token, is_identifier, keyword,
+};
 
 /// What stands at the front of a text.
 #[derive(Clone, Copy)]
@@ -138,13 +136,16 @@ fn piece(text: &str, at: u32) -> Result<(Found<'_>, Span, &str), Rule>
 pub fn placed_piece(text: &str, at: u32) -> Result<(Found<'_>, Span, &str), SyntaxFault>
     requires some { 0 < length text.now }
     requires fits { at + length text.now < 2 ^ 32 }
-    ensures value { Agrees (λ x. (spec.found_piece x.0, x.1, x.2.now)) result (spec.placed at (spec.piece at text.now)) }
+    ensures value { Agrees (λ x. (spec.found_piece x.0, x.1, x.2.now)) result (spec.placed at text.now (spec.piece at text.now)) }
     ensures moves { IfOk result (λ x. length x.2.now < length text.now) }
     ensures within { IfOk result (λ x. x.1.end + length x.2.now ≡ at + length text.now) }
 {
     match piece(text, at) {
         Ok(found) => Ok(found),
-        Err(rule) => Err(SyntaxFault::Broken { rule, at }),
+        Err(rule) => Err(SyntaxFault::Broken {
+            rule,
+            span: broken_span(rule, text, at),
+        }),
     }
 }
 

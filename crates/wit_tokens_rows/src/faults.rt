@@ -21,9 +21,11 @@ pub fn fault_text(alloc: Global, fault: SyntaxFault) -> Result<String, AllocErro
     match fault {
         SyntaxFault::OutOfMemory => String::from_str(alloc, "out of memory"),
         SyntaxFault::TooLarge => String::from_str(alloc, "S8"),
-        SyntaxFault::Broken { rule, at } => {
+        SyntaxFault::Broken { rule, span } => {
             let code = code_of(rule);
-            format!(in alloc; "{code} at {at}")
+            let start = span.start;
+            let end = span.end;
+            format!(in alloc; "{code} [{start}..{end}]")
         }
     }
 }

@@ -16,8 +16,8 @@ returns-in_err-packages-clause-err c =
     let line = c.args.line.now in
     let stop = c.in_err-packages.field-0.0 in
     let none : file_fault files line.inputs.items ≡ None = ap (file_fault files) (sym c.deref.ensures.value) ∙ c.in_ok-look_at_files.ensures.ok in
-    let why : IsHandStop files IsTextCause line.inputs.items stop = subst (λ is. IsHandStop files IsTextCause is stop) c.deref-2.ensures.value c.in_err-packages.ensures.err in
-    moved_up c.from_residual-in_err-packages.result stop _ c.from_residual-in_err-packages.ensures.1 (prepared files IsTextCause line stop none (λ fault cause. inr (inl cause)) why)
+    let why : IsHandStop files (IsTextCause files) line.inputs.items stop = subst (λ is. IsHandStop files (IsTextCause files) is stop) c.deref-2.ensures.value c.in_err-packages.ensures.err in
+    moved_up c.from_residual-in_err-packages.result stop _ c.from_residual-in_err-packages.ensures.1 (prepared files (IsTextCause files) line stop none (λ fault cause. inr (inl cause)) why)
 
 pub returns-in_err-hand_in-clause-err : goal.returns-in_err-hand_in-clause-err
 returns-in_err-hand_in-clause-err c =
@@ -30,11 +30,11 @@ returns-in_err-hand_in-clause-err c =
     let none : file_fault files line.inputs.items ≡ None = ap (file_fault files) (sym c.deref.ensures.value) ∙ c.in_ok-look_at_files.ensures.ok in
     let sources = subst (λ is. AreSources files is texts.sources) c.deref-2.ensures.value c.in_ok-packages.ensures.sources in
     let taken : AreSources files line.inputs.items given.sources × ArePackages given.sources given.packages = rw c.in_ok-select_world.ensures.ok (sources, c.in_ok-packages.ensures.packages) in
-    let why : IsHandStop files (IsMainCause files given chosen) line.inputs.items stop =
-    subst (λ t. IsHandStop files (IsMainCause files given t) line.inputs.items stop) c.as_str-chosen.ensures.value
-    (subst (λ is. IsHandStop files (IsMainCause files given c.as_str-chosen.result.now) is stop) c.deref-5.ensures.value c.in_err-hand_in.ensures.err) in
+    let why : IsHandStop files (λ before. IsMainCause files given chosen) line.inputs.items stop =
+    subst (λ t. IsHandStop files (λ before. IsMainCause files given t) line.inputs.items stop) c.as_str-chosen.ensures.value
+    (subst (λ is. IsHandStop files (λ before. IsMainCause files given c.as_str-chosen.result.now) is stop) c.deref-5.ensures.value c.in_err-hand_in.ensures.err) in
     moved_up c.from_residual-in_err-hand_in.result stop _ c.from_residual-in_err-hand_in.ensures.1
-    (prepared files (IsMainCause files given chosen) line stop none (λ fault cause. inr (inr (given, taken.0, taken.1, inr cause))) why)
+    (prepared files (λ before. IsMainCause files given chosen) line stop none (λ fault cause. inr (inr (given, taken.0, taken.1, inr cause))) why)
 
 pub returns-in_err-select_world-clause-err : goal.returns-in_err-select_world-clause-err
 returns-in_err-select_world-clause-err c =

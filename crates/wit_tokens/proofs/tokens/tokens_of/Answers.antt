@@ -1,8 +1,8 @@
 use Rattle.std.proofs.Common.{◌≡◌, rules, arith, sym, subst, Vec, Global}
 use Rattle.std.proofs.lemmas.Result.{err_from_is_err_and}
 use Rattle.wit_tokens.specs.Lex.{Kept, kept, read_bare, with_front}
-use Rattle.wit_tokens.specs.declared.token.DocumentedToken.{DocumentedToken}
-use Rattle.wit_tokens.specs.Token.{toks}
+use Rattle.wit_words.specs.declared.token.DocumentedToken.{DocumentedToken}
+use Rattle.wit_words.specs.Token.{toks}
 use Rattle.wit_tokens.proofs.LexLaws.{lex_goes, lex_fails, lex_ends}
 use Rattle.wit_tokens.proofs.tokens.tokens_of.Goals as goal
 

@@ -1,0 +1,3 @@
+pub mod ItemTree
+pub mod ItemView
+pub mod ItemGrammar

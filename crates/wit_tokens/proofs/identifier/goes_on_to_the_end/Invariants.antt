@@ -1,6 +1,0 @@
-use Rattle.std.proofs.Common.{◌≡◌, drop}
-use Rattle.wit_tokens.specs.Identifier.{goes_on, is_identifier}
-use Rattle.wit_tokens.proofs.identifier.goes_on_to_the_end.Given as goal
-
-abbrev pub invariant-loop-byte : goal.invariant-loop-byte
-invariant-loop-byte l = goes_on l.part (drop l.byte-index l.text) ≡ is_identifier l.text

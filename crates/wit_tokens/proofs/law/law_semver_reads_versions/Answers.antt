@@ -1,5 +1,0 @@
-use Rattle.wit_tokens.proofs.Versions.{semver_reads}
-use Rattle.wit_tokens.proofs.law.law_semver_reads_versions.Goals as goal
-
-pub returns : goal.returns
-returns c = semver_reads

@@ -1,0 +1,10 @@
+pub mod Slice
+pub mod Token
+pub mod Outcome
+pub mod Keyword
+pub mod Identifier
+pub mod IdFault
+pub mod Version
+pub mod Sources
+pub mod NameKey
+pub mod Docs
