@@ -1,7 +1,7 @@
 -- What the auditor's answers say of bytes.
 use Rattle.std.specs.Prelude.{◌≡◌, ◌≢◌, ℕ, ◌≤◌, ◌⊎◌, List, [], ◌∷◌, length, map, is_some, Option, Some, None, Bool, false, Any, bytes_eq, if◌then◌else◌}
 use Rattle.std.specs.List.{AllByRecursion as Each}
-use Rattle.wasm_format.specs.declared.fault.Rule.{Rule}
+use Rattle.binary_grammar.specs.declared.fault.Rule.{Rule}
 use Rattle.component_format.specs.declared.fault.FormatFault.TheVariants as formats
 use Rattle.component_format.specs.Definition.{FunctionTypeValue, DefinitionValue}
 use Rattle.component_format.specs.Grammar.{IsComponent}

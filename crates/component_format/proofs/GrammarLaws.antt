@@ -6,8 +6,8 @@ use Rattle.component_format.specs.declared.definition.Items.{Items}
 use Rattle.component_format.specs.declared.definition.Items.TheVariants as items
 use Rattle.component_format.specs.Definition.{DefinitionValue}
 use Rattle.component_format.specs.Grammar.{primitive, parameter, parameters, result_behind, result, function_type, type_definition, argument, arguments, core_sort, inline_export, inline_exports, core_instance_behind, core_instance_definition, alias_definition, options, lift_behind, lower_behind, canon_behind, canon_definition, extern_name, description, import_definition, ascription_behind, ascription, export_definition, one_behind, definitions, counted, content, section_start, section, start}
-use Rattle.wasm_format.proofs.Laws.{Law, WholeLaw}
-use Rattle.wasm_format.proofs.GrammarLaws.{laws, name_law}
+use Rattle.binary_grammar.proofs.Laws.{Law, WholeLaw}
+use Rattle.binary_grammar.proofs.FormatLaws.{laws, name_law}
 
 pub primitive_law : Law primitive
 unfolding primitive

@@ -1,13 +1,13 @@
 -- Reading one after the other, as a loop does.
 use Rattle.std.proofs.Common.{◌≡◌, ℕ, suc, ◌-◌, ◌+◌, ◌≤◌, ◌<◌, List, [], ◌∷◌, ◌++◌, Result, Ok, Err, refl, sym, ap, ◌∙◌, arith}
 use Rattle.std.proofs.lemmas.List.{append-nil}
-use Rattle.wasm_format.specs.declared.fault.Fault.{Fault}
-use Rattle.wasm_format.specs.declared.fault.ReadError.{ReadError}
-use Rattle.wasm_format.specs.declared.fault.ReadError.TheVariants as errors
+use Rattle.binary_grammar.specs.declared.fault.Fault.{Fault}
+use Rattle.binary_grammar.specs.declared.fault.ReadError.{ReadError}
+use Rattle.binary_grammar.specs.declared.fault.ReadError.TheVariants as errors
 use Rattle.component_format.specs.declared.definition.Items.{Items}
-use Rattle.wasm_format.specs.Format.{onto}
-use Rattle.wasm_format.specs.Fault.{Fails}
-use Rattle.wasm_format.proofs.Loops.{regroup}
+use Rattle.binary_grammar.specs.Format.{onto}
+use Rattle.binary_grammar.specs.Fault.{Fails}
+use Rattle.binary_grammar.proofs.Loops.{regroup}
 use Rattle.component_format.specs.Definition.{DefinitionValue}
 use Rattle.component_format.specs.Grammar.{one_behind, definitions}
 

@@ -1,10 +1,10 @@
 -- Bytes have at most one list of definitions, or break one rule at one place.
 use Rattle.std.proofs.Common.{◌≡◌, ℕ, List, ◌++◌, sym, ◌∙◌}
-use Rattle.wasm_format.specs.declared.fault.Fault.{Fault}
-use Rattle.wasm_format.specs.declared.fault.Rule.TheVariants as rules
+use Rattle.binary_grammar.specs.declared.fault.Fault.{Fault}
+use Rattle.binary_grammar.specs.declared.fault.Rule.TheVariants as rules
 use Rattle.component_format.specs.Definition.{DefinitionValue}
 use Rattle.component_format.specs.Grammar.{IsComponent, BreaksComponent}
-use Rattle.wasm_format.proofs.Laws.{moved, ok_is}
+use Rattle.binary_grammar.proofs.Laws.{moved, ok_is}
 use Rattle.component_format.proofs.Sections.{component_again, component_broken, break_stays}
 
 pub one_list : (bytes : List ℕ) (ds es : List DefinitionValue) → IsComponent bytes ds → IsComponent bytes es → ds ≡ es

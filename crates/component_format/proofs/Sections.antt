@@ -4,20 +4,20 @@ use Rattle.std.specs.List.{flat_map}
 use Rattle.std.proofs.lemmas.Bool.{eqb-true}
 use Rattle.std.proofs.lemmas.Slice.Eq.{bytes_eq-Decides}
 use Rattle.std.proofs.lemmas.List.{append-nil, nil_from_length, length-append}
-use Rattle.wasm_format.specs.declared.fault.Fault.{Fault}
-use Rattle.wasm_format.specs.declared.fault.Rule.{Rule}
-use Rattle.wasm_format.specs.declared.fault.Rule.TheVariants as rules
-use Rattle.wasm_format.specs.declared.fault.ReadError.{ReadError}
-use Rattle.wasm_format.specs.declared.fault.ReadError.TheVariants as errors
+use Rattle.binary_grammar.specs.declared.fault.Fault.{Fault}
+use Rattle.binary_grammar.specs.declared.fault.Rule.{Rule}
+use Rattle.binary_grammar.specs.declared.fault.Rule.TheVariants as rules
+use Rattle.binary_grammar.specs.declared.fault.ReadError.{ReadError}
+use Rattle.binary_grammar.specs.declared.fault.ReadError.TheVariants as errors
 use Rattle.component_format.specs.declared.definition.SectionId.{SectionId}
-use Rattle.wasm_format.specs.Format.{and_then, wrong, CanMove, onto}
-use Rattle.wasm_format.specs.Fault.{Fails}
+use Rattle.binary_grammar.specs.Format.{and_then, wrong, CanMove, onto}
+use Rattle.binary_grammar.specs.Fault.{Fails}
 use Rattle.component_format.specs.declared.fault.FormatFault.{FormatFault}
 use Rattle.component_format.specs.declared.fault.FormatFault.TheVariants.{OutOfMemory, Malformed, NotYet}
 use Rattle.component_format.specs.Definition.{DefinitionValue}
 use Rattle.component_format.specs.Fault.{IsCalled, IsFormatFault}
 use Rattle.component_format.specs.Grammar.{content, section, section_start, AreSections, IsComponent, header, SectionsBreak, here, later, BreaksComponent, sections_at, start, component_at, onto_all}
-use Rattle.wasm_format.proofs.Laws.{moved, bind_ok, bind_err, ok_is, more_behind, refused, some_left, not_empty}
+use Rattle.binary_grammar.proofs.Laws.{moved, bind_ok, bind_err, ok_is, more_behind, refused, some_left, not_empty}
 use Rattle.component_format.proofs.GrammarLaws.{content_law, section_law, start_law}
 
 abbrev all_of : List (List DefinitionValue) → List DefinitionValue

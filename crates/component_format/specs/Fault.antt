@@ -1,7 +1,7 @@
 -- What a refusal says of the bytes.
 use Rattle.std.specs.Prelude.{◌≡◌, ◌≢◌, ◌≤◌, ◌+◌, ℕ, List, length}
-use Rattle.wasm_format.specs.declared.fault.Rule.{Rule}
-use Rattle.wasm_format.specs.declared.fault.Rule.TheVariants as rules
+use Rattle.binary_grammar.specs.declared.fault.Rule.{Rule}
+use Rattle.binary_grammar.specs.declared.fault.Rule.TheVariants as rules
 use Rattle.component_format.specs.declared.fault.FormatFault.{FormatFault}
 use Rattle.component_format.specs.declared.fault.FormatFault.TheVariants.{OutOfMemory, Malformed, NotYet}
 use Rattle.component_format.specs.Grammar.{BreaksComponent}

@@ -2,10 +2,10 @@
 use Rattle.std.specs.Prelude.{◌≡◌, ◌≤◌, ◌⊎◌, ℕ, zero, suc, List, [], ◌∷◌, ◌++◌, map, length, Option, Some, None, Result, Ok, Err, nat_lt, nat_le, ◌==◌, ◌&&◌, ◌||◌, if◌then◌else◌}
 use Rattle.std.specs.List.{flat_map}
 use Rattle.std.specs.Str.{bytes_eq}
-use Rattle.wasm_format.specs.declared.fault.Fault.{Fault}
-use Rattle.wasm_format.specs.declared.fault.Rule.{Rule}
-use Rattle.wasm_format.specs.declared.fault.Rule.TheVariants as rules
-use Rattle.wasm_format.specs.Format.{Format, Whole, ◌>>=◌, yield, refuse, judge, such, byte, tag, chunk, u32, index, name, vec, exactly, begins, everything, keeping, sized, wrong, and_then, Joins}
+use Rattle.binary_grammar.specs.declared.fault.Fault.{Fault}
+use Rattle.binary_grammar.specs.declared.fault.Rule.{Rule}
+use Rattle.binary_grammar.specs.declared.fault.Rule.TheVariants as rules
+use Rattle.binary_grammar.specs.Format.{Format, Whole, ◌>>=◌, yield, refuse, judge, such, byte, tag, chunk, u32, index, name, vec, exactly, begins, everything, keeping, sized, wrong, and_then, Joins}
 use Rattle.wasm_format.specs.declared.types.ExportKind.{ExportKind}
 use Rattle.wasm_format.specs.declared.types.ExportKind.TheVariants as kinds
 use Rattle.component_format.specs.declared.definition.PrimitiveType.{PrimitiveType}

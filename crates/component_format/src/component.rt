@@ -1,8 +1,8 @@
 //! Reading a whole component.
 
 ghost use Rattle.std.specs.Prelude.{◌≡◌, ◌≢◌, ℕ, ◌+◌, ◌^◌, ◌<◌, ◌≤◌, ◌++◌, ◌∷◌, [], length, List, Option, Some, None, Ok, Err, IfErr, IfOk, OnOk, MatchResult};
-ghost use Rattle.wasm_format.specs.Fault.{Gives};
-ghost use Rattle.wasm_format.specs.Format.{onto};
+ghost use Rattle.binary_grammar.specs.Fault.{Gives};
+ghost use Rattle.binary_grammar.specs.Format.{onto};
 ghost use Rattle.component_format.specs.Fault.{LiesWithin, IsCalled, IsFormatFault};
 ghost use Rattle.component_format.specs.Found.{CanAdd, AreWithin};
 ghost use Rattle.component_format.specs.Grammar as spec;

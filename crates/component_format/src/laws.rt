@@ -1,8 +1,8 @@
 //! Laws of the public calls.
 
 ghost use Rattle.std.specs.Prelude.{◌≡◌, ◌+◌, ◌++◌, ℕ, List, length, MatchResult};
-ghost use Rattle.wasm_format.specs.declared.fault.Fault.{Fault};
-ghost use Rattle.wasm_format.specs.declared.fault.Rule.TheVariants as rules;
+ghost use Rattle.binary_grammar.specs.declared.fault.Fault.{Fault};
+ghost use Rattle.binary_grammar.specs.declared.fault.Rule.TheVariants as rules;
 ghost use Rattle.component_format.specs.Grammar.{IsComponent, BreaksComponent};
 ghost use Rattle.component_format.specs.Definition.{DefinitionValue, definition_values};
 ghost use Rattle.component_format.specs.Distinct.{NamesAreDistinct};
@@ -23,7 +23,7 @@ pub fn law_a_break_is_one()
 {}
 
 /// A broken rule stays broken, at its place, whatever stands behind the bytes: no component begins so. The rule `Short`
-/// is left out, since more bytes may mend it; that no component ends so is `law_a_break_is_one`.
+/// is left out, since more bytes may mend it (what ends too soon inside of a size breaks `Size`); that no component ends so is `law_a_break_is_one`.
 pub fn law_a_break_stays()
     ensures { (bytes : List ℕ) (e : Fault) (more : List ℕ) → BreaksComponent bytes e → (e.rule ≡ rules.Short → ⊥) → BreaksComponent (bytes ++ more) (record e { left = e.left + length more }) × ((ds : List DefinitionValue) → IsComponent (bytes ++ more) ds → ⊥) }
 {}

@@ -1,8 +1,8 @@
 //! Readers of the parts of a definition.
 
 ghost use Rattle.std.specs.Prelude.{◌≡◌, ℕ, List, [], length, map, IfOk};
-ghost use Rattle.wasm_format.specs.Format.{Format, vec, index};
-ghost use Rattle.wasm_format.specs.Fault.{Gives};
+ghost use Rattle.binary_grammar.specs.Format.{Format, vec, index};
+ghost use Rattle.binary_grammar.specs.Fault.{Gives};
 ghost use Rattle.component_format.specs.Names.{all_new};
 ghost use Rattle.component_format.specs.Grammar as spec;
 ghost use Rattle.component_format.specs.Definition.{ParameterValue, ArgumentValue, InlineExportValue, parameter_value, argument_value, inline_export_value, function_type_value};

@@ -1,6 +1,6 @@
 -- Of bytes that are right for an input in whose way nothing stands, the auditor says yes.
 use Rattle.std.proofs.Common.{◌≡◌, ◌≢◌, List, ℕ, refl, subst, inl, inr}
-use Rattle.wasm_format.specs.declared.fault.Rule.TheVariants as rules
+use Rattle.binary_grammar.specs.declared.fault.Rule.TheVariants as rules
 use Rattle.component_format.specs.Definition.{DefinitionValue}
 use Rattle.component_format.specs.Grammar.{IsComponent}
 use Rattle.component_format.proofs.OneList.{one_list, one_break}

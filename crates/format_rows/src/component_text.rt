@@ -25,6 +25,7 @@ pub fn primitive_name(ty: PrimitiveType) -> &'static str {
 fn rule_name(rule: Rule) -> &'static str {
     match rule {
         Rule::Short => "Short",
+        Rule::Size => "Size",
         Rule::Number => "Number",
         Rule::Text => "Text",
         Rule::Trailing => "Trailing",

@@ -2,11 +2,11 @@
 use Rattle.std.proofs.Common.{ℕ}
 use Rattle.wasm_format.specs.declared.core_module.SectionId.{SectionId}
 use Rattle.wasm_format.specs.declared.core_module.SectionId.TheVariants as sections
-use Rattle.wasm_format.specs.Format.{name}
+use Rattle.binary_grammar.specs.Format.{name}
 use Rattle.wasm_format.specs.Module.{ModuleValue}
 use Rattle.wasm_format.specs.Grammar.{val_type, func_type, kind, entity_type, import_entry, export_entry, type_index, content, section_start, section, start}
-use Rattle.wasm_format.proofs.Laws.{Law, WholeLaw, bind_law, yield_law, refuse_law, judge_law, such_law, byte_law, chunk_law, exactly_law, begins_law, everything_law, keeping_law, sized_law}
-use Rattle.wasm_format.proofs.Numbers.{u32_law, vec_law}
+use Rattle.binary_grammar.proofs.Laws.{Law, WholeLaw, bind_law, yield_law, refuse_law, judge_law, such_law, byte_law, chunk_law, exactly_law, begins_law, everything_law, keeping_law, sized_law}
+use Rattle.binary_grammar.proofs.Numbers.{u32_law, vec_law}
 
 -- the laws of the combinators
 pub ruleset laws = (bind_law, yield_law, refuse_law, judge_law, such_law, byte_law, chunk_law, u32_law, vec_law, sized_law, exactly_law, begins_law, everything_law, keeping_law)

@@ -1,6 +1,2 @@
-pub mod Fields
-pub mod Loops
-pub mod Laws
-pub mod Numbers
 pub mod GrammarLaws
 pub mod Sections

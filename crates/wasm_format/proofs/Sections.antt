@@ -4,17 +4,17 @@ use Rattle.std.specs.List.{list_all}
 use Rattle.std.proofs.lemmas.Bool.{eqb-true}
 use Rattle.std.proofs.lemmas.Slice.Eq.{bytes_eq-Decides}
 use Rattle.std.proofs.lemmas.List.{nil_from_length, length-append}
-use Rattle.wasm_format.specs.declared.fault.Fault.{Fault}
-use Rattle.wasm_format.specs.declared.fault.Rule.{Rule}
-use Rattle.wasm_format.specs.declared.fault.Rule.TheVariants as rules
-use Rattle.wasm_format.specs.declared.fault.ReadError.{ReadError}
-use Rattle.wasm_format.specs.declared.fault.ReadError.TheVariants as errors
+use Rattle.binary_grammar.specs.declared.fault.Fault.{Fault}
+use Rattle.binary_grammar.specs.declared.fault.Rule.{Rule}
+use Rattle.binary_grammar.specs.declared.fault.Rule.TheVariants as rules
+use Rattle.binary_grammar.specs.declared.fault.ReadError.{ReadError}
+use Rattle.binary_grammar.specs.declared.fault.ReadError.TheVariants as errors
 use Rattle.wasm_format.specs.declared.core_module.SectionId.{SectionId}
-use Rattle.wasm_format.specs.Format.{and_then, wrong, CanMove}
-use Rattle.wasm_format.specs.Fault.{Fails}
+use Rattle.binary_grammar.specs.Format.{and_then, wrong, CanMove}
+use Rattle.binary_grammar.specs.Fault.{Fails}
 use Rattle.wasm_format.specs.Module.{ModuleValue, no_module}
 use Rattle.wasm_format.specs.Grammar.{content, section, section_start, Sections, ends, goes, IsModule, header, SectionsBreak, here, later, BreaksModule, sections_at, start, module_at, fault_of, IsModuleFault}
-use Rattle.wasm_format.proofs.Laws.{moved, bind_ok, bind_err, ok_is, more_behind, refused, some_left, not_empty}
+use Rattle.binary_grammar.proofs.Laws.{moved, bind_ok, bind_err, ok_is, more_behind, refused, some_left, not_empty}
 use Rattle.wasm_format.proofs.GrammarLaws.{content_law, section_law, start_law}
 
 ended : {A : Type 0} (b : Bool) (x y : A) (r : Result A Fault) → cond b (Ok x) r ≡ Ok y → ((b ≡ true) × (x ≡ y)) ⊎ ((b ≡ false) × (r ≡ Ok y))

@@ -2,9 +2,9 @@
 use Rattle.std.specs.Prelude.{◌≡◌, ℕ, zero, suc, ◌<◌, ◌≤◌, ◌^◌, ◌⊎◌, List, [], ◌∷◌, ◌++◌, length, Result, Ok, Err, Bool, nat_lt, nat_le, ◌==◌, ◌&&◌, ◌||◌, if◌then◌else◌}
 use Rattle.std.specs.List.{list_all}
 use Rattle.std.specs.Str.{bytes_eq}
-use Rattle.wasm_format.specs.declared.fault.Fault.{Fault}
-use Rattle.wasm_format.specs.declared.fault.Rule.{Rule}
-use Rattle.wasm_format.specs.declared.fault.Rule.TheVariants as rules
+use Rattle.binary_grammar.specs.declared.fault.Fault.{Fault}
+use Rattle.binary_grammar.specs.declared.fault.Rule.{Rule}
+use Rattle.binary_grammar.specs.declared.fault.Rule.TheVariants as rules
 use Rattle.wasm_format.specs.declared.fault.ModuleFault.{ModuleFault}
 use Rattle.wasm_format.specs.declared.fault.ModuleFault.TheVariants as faults
 use Rattle.wasm_format.specs.declared.types.ValType.{ValType}
@@ -16,7 +16,7 @@ use Rattle.wasm_format.specs.declared.types.ExportKind.{ExportKind}
 use Rattle.wasm_format.specs.declared.types.ExportKind.TheVariants as kinds
 use Rattle.wasm_format.specs.declared.core_module.SectionId.{SectionId}
 use Rattle.wasm_format.specs.declared.core_module.SectionId.TheVariants as sections
-use Rattle.wasm_format.specs.Format.{Format, Whole, ◌>>=◌, yield, judge, such, byte, chunk, u32, index, name, vec, exactly, begins, everything, keeping, sized, wrong, and_then}
+use Rattle.binary_grammar.specs.Format.{Format, Whole, ◌>>=◌, yield, judge, such, byte, chunk, u32, index, name, vec, exactly, begins, everything, keeping, sized, wrong, and_then}
 use Rattle.wasm_format.specs.Module.{FuncTypeValue, ImportValue, ExportValue, ModuleValue, no_module, with_section, functions_in}
 
 -- ---- types
@@ -192,6 +192,7 @@ module_at bytes = and_then (start.read bytes) (λ s. sections_at (length s.1) no
 -- what a broken rule is called
 abbrev pub fault_of : Rule → ModuleFault
 fault_of rules.Short = faults.Malformed
+fault_of rules.Size = faults.Malformed
 fault_of rules.Number = faults.Malformed
 fault_of rules.Text = faults.Malformed
 fault_of rules.Trailing = faults.Malformed

@@ -1,4 +1,2 @@
-pub mod Fault
-pub mod Format
 pub mod Module
 pub mod Grammar

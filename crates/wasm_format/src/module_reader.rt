@@ -3,19 +3,20 @@
 ghost use Rattle.std.specs.Prelude.{◌≡◌, ℕ, ◌+◌, ◌^◌, ◌<◌, ◌≤◌, ◌++◌, ◌∷◌, [], length, map, nat_lt, IfOk, IfErr, OnOk, OnErr, MatchResult};
 ghost use Rattle.std.specs.List.{list_all};
 ghost use Rattle.wasm_format.specs.declared.core_module.CoreModule.{CoreModule};
-ghost use Rattle.wasm_format.specs.Fault.{Gives};
-ghost use Rattle.wasm_format.specs.Format.{Format, index, vec, exactly};
+ghost use Rattle.binary_grammar.specs.Fault.{Gives};
+ghost use Rattle.binary_grammar.specs.Format.{Format, index, vec, exactly};
 ghost use Rattle.wasm_format.specs.declared.types.ValType.{ValType};
 ghost use Rattle.wasm_format.specs.Module.{FuncTypeValue, ImportValue, ExportValue, ModuleValue, func_type_value, import_value, export_value, section_value, module_value, no_module, with_section, functions_in as spec_functions_in};
 ghost use Rattle.wasm_format.specs.Grammar as spec;
 ghost use Rattle.wasm_format.specs.Grammar.{header, start, module_at, sections_at, IsModule, IsModuleFault};
 
 use crate::core_module::{CoreModule, Export, Import, Section, SectionId};
-use crate::fault::{Fault, ModuleFault, ReadError, Rule};
-use crate::reading::{
+use crate::fault::ModuleFault;
+use crate::types::{EntityType, ExportKind, FuncType, RefType, ValType};
+use binary_grammar::reading::{
     VectorItem, byte_of, chunk_of, fault, index_of, moved, name_of, u32_of, vec_of, whole_vec_of,
 };
-use crate::types::{EntityType, ExportKind, FuncType, RefType, ValType};
+use binary_grammar::{Fault, ReadError, Rule};
 use std::alloc::{AllocError, Global};
 
 const HEADER: [u8; 8] = [0, 0x61, 0x73, 0x6d, 1, 0, 0, 0];
@@ -218,26 +219,6 @@ impl<'a> VectorItem<'a> for Export<'a> {
     }
 }
 
-/// The type index of an own function.
-#[tactic(auto, unfolding(crate::specs::Grammar::type_index))]
-fn type_index_of(types: usize, bytes: &[u8]) -> Result<(u32, &[u8]), ReadError>
-    ensures { Gives (λ x. (x.0, x.1.now)) result ((spec.type_index types).read bytes.now) }
-{
-    index_of(types, bytes)
-}
-
-impl<'a> VectorItem<'a> for u32 {
-    ghost Value = { ℕ };
-
-    ghost format = { spec.type_index };
-
-    ghost value = { λ i. i };
-
-    fn read(_alloc: Global, limit: usize, bytes: &'a [u8]) -> Result<(u32, &'a [u8]), ReadError> {
-        type_index_of(limit, bytes)
-    }
-}
-
 /// Whether a section of this sort may stand behind those that are there.
 #[tactic(auto, using(crate::proofs::Sections::list_all_map))]
 fn may_follow(module_so_far: &CoreModule, id: SectionId) -> bool
@@ -283,6 +264,7 @@ fn keep<'a>(found: &mut CoreModule<'a>, id: SectionId, content: &'a [u8]) -> Res
 }
 
 /// A vector of type indices that is all of the bytes.
+#[tactic(auto, unfolding(crate::specs::Grammar::type_index))]
 fn indices_of(alloc: Global, types: usize, bytes: &[u8]) -> Result<Vec<u32>, ReadError>
     ensures { Gives (λ x. x.items) result ((exactly (vec (spec.type_index types))).read bytes.now) }
 {
@@ -419,6 +401,7 @@ fn module_fault(rule: Rule) -> ModuleFault
         Rule::Unsupported => ModuleFault::Unsupported,
         Rule::NotYet => ModuleFault::NotYet,
         Rule::Short
+        | Rule::Size
         | Rule::Number
         | Rule::Text
         | Rule::Trailing

@@ -1,6 +1,6 @@
 use Rattle.std.proofs.Common.{◌∙◌}
 use Rattle.std.proofs.lemmas.Result.{err_from_is_err_and}
-use Rattle.wasm_format.specs.Format.{onto}
+use Rattle.binary_grammar.specs.Format.{onto}
 use Rattle.component_format.specs.Definition.{kind_value, definition_values}
 use Rattle.component_format.specs.Grammar.{definitions}
 use Rattle.component_format.proofs.Loops.{definitions_go_on, definitions_stop, definitions_done}

@@ -1,5 +1,5 @@
 use Rattle.std.proofs.Common.{◌≡◌, ◌-◌}
-use Rattle.wasm_format.specs.Format.{onto}
+use Rattle.binary_grammar.specs.Format.{onto}
 use Rattle.component_format.specs.Definition.{definition_values}
 use Rattle.component_format.specs.Grammar.{definitions}
 use Rattle.component_format.proofs.component.definitions_of.Given as goal

@@ -1,5 +1,5 @@
 use Rattle.std.proofs.Common.{◌∙◌, ◌≤◌, ◌-◌, length, sym, arith}
-use Rattle.wasm_format.proofs.Laws.{ok_is}
+use Rattle.binary_grammar.proofs.Laws.{ok_is}
 use Rattle.component_format.proofs.Sections.{component_found, component_again, component_breaks, break_within, called_is_fault}
 use Rattle.component_format.proofs.component.read_component.Goals as goal
 

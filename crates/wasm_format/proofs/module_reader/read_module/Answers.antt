@@ -1,5 +1,5 @@
 use Rattle.std.proofs.Common.{arith, ◌∙◌, sym}
-use Rattle.wasm_format.proofs.Laws.{ok_is}
+use Rattle.binary_grammar.proofs.Laws.{ok_is}
 use Rattle.wasm_format.proofs.Sections.{module_found, module_again, module_breaks, module_fault_is}
 use Rattle.wasm_format.proofs.module_reader.read_module.Goals as goal
 

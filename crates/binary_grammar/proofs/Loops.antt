@@ -1,11 +1,11 @@
 -- Reading one after the other, as a loop does.
 use Rattle.std.proofs.Common.{◌≡◌, ℕ, suc, ◌-◌, ◌+◌, ◌≤◌, ◌<◌, List, [], ◌∷◌, ◌++◌, Result, Ok, Err, refl, sym, ap, ◌∙◌, append_assoc, arith}
 use Rattle.std.proofs.lemmas.List.{append-nil}
-use Rattle.wasm_format.specs.declared.fault.Fault.{Fault}
-use Rattle.wasm_format.specs.declared.fault.ReadError.{ReadError}
-use Rattle.wasm_format.specs.declared.fault.ReadError.TheVariants as errors
-use Rattle.wasm_format.specs.Format.{and_then, repeat_at, onto}
-use Rattle.wasm_format.specs.Fault.{Fails}
+use Rattle.binary_grammar.specs.declared.fault.Fault.{Fault}
+use Rattle.binary_grammar.specs.declared.fault.ReadError.{ReadError}
+use Rattle.binary_grammar.specs.declared.fault.ReadError.TheVariants as errors
+use Rattle.binary_grammar.specs.Format.{and_then, repeat_at, onto}
+use Rattle.binary_grammar.specs.Fault.{Fails}
 
 pub regroup : {X : Type 0} (front : List X) (n : X) (read : Result (List X × List ℕ) Fault) → onto front (and_then read (λ x. Ok (n ∷ x.0, x.1))) ≡ onto (front ++ n ∷ []) read
 regroup {X = X} front n (Ok x) = ap (λ (ns : List X). Ok (ns, x.1)) (simp append_assoc)

@@ -1,4 +1,4 @@
-use Rattle.wasm_format.proofs.reading.+digits_of.Given as goal
+use Rattle.binary_grammar.proofs.reading.+digits_of.Given as goal
 
 abbrev pub decreases-digits_of : goal.decreases-digits_of
 decreases-digits_of l = l.most

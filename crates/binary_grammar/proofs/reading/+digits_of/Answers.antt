@@ -1,6 +1,6 @@
 use Rattle.std.proofs.Common.{arith}
-use Rattle.wasm_format.proofs.Fields.{digit_fits, high_fits, one_digit_fits}
-use Rattle.wasm_format.proofs.reading.+digits_of.Goals as goal
+use Rattle.binary_grammar.proofs.Fields.{digit_fits, high_fits, one_digit_fits}
+use Rattle.binary_grammar.proofs.reading.+digits_of.Goals as goal
 
 pub returns-then-first-lt128-clause-small : goal.returns-then-first-lt128-clause-small
 returns-then-first-lt128-clause-small t c = omega (arith, c.from.ensures, one_digit_fits c.in_ok-first.first c.args.most (omega arith) (omega arith))

@@ -1,8 +1,8 @@
 -- What a reader says of bytes that it doesn't read.
 use Rattle.std.specs.Prelude.{◌≡◌, Result, Ok, Err}
-use Rattle.wasm_format.specs.declared.fault.Fault.{Fault}
-use Rattle.wasm_format.specs.declared.fault.ReadError.{ReadError}
-use Rattle.wasm_format.specs.declared.fault.ReadError.TheVariants as errors
+use Rattle.binary_grammar.specs.declared.fault.Fault.{Fault}
+use Rattle.binary_grammar.specs.declared.fault.ReadError.{ReadError}
+use Rattle.binary_grammar.specs.declared.fault.ReadError.TheVariants as errors
 
 -- Want of memory says nothing of the bytes; any other error is what reading gives.
 abbrev pub Fails : {Y : Type 0} → ReadError → Result Y Fault → Type 0

@@ -2,9 +2,9 @@ use Rattle.std.proofs.Common.{◌≡◌, ◌++◌, ◌∷◌, []}
 use Rattle.std.specs.Prelude.{map}
 use Rattle.std.proofs.lemmas.Result.{err_from_is_err_and}
 use Rattle.std.proofs.lemmas.List.{map_push}
-use Rattle.wasm_format.specs.Format.{repeat_at}
-use Rattle.wasm_format.proofs.Loops.{goes_on, stops, is_done}
-use Rattle.wasm_format.proofs.reading.items_of.Goals as goal
+use Rattle.binary_grammar.specs.Format.{repeat_at}
+use Rattle.binary_grammar.proofs.Loops.{goes_on, stops, is_done}
+use Rattle.binary_grammar.proofs.reading.items_of.Goals as goal
 
 pub returns-in_err-item : goal.returns-in_err-item
 returns-in_err-item g c =

@@ -2,10 +2,10 @@
 use Rattle.std.proofs.Common.{◌≡◌, ℕ, zero, suc, ◌+◌, ◌≤◌, ◌<◌, ◌⊎◌, Bool, true, false, cond, eqb, ltb, List, [], ◌∷◌, ◌++◌, length, take, drop, Result, Ok, Err, refl, sym, ap, subst, ◌∙◌, append_assoc, arith, inl, inr}
 use Rattle.std.proofs.lemmas.Bool.{ltb-true, ltb-false, lt-ltb, le-ltb, eqb-true}
 use Rattle.std.proofs.lemmas.List.{append-nil, nil_from_length, take_at, drop_at, take-append-drop, length-append, length-take}
-use Rattle.wasm_format.specs.declared.fault.Fault.{Fault}
-use Rattle.wasm_format.specs.declared.fault.Rule.{Rule}
-use Rattle.wasm_format.specs.declared.fault.Rule.TheVariants as rules
-use Rattle.wasm_format.specs.Format.{Format, Whole, Behind, Each, fault_at, wrong, and_then, ◌>>=◌, yield, refuse, judge, such, byte_at, byte, chunk, repeat_at, repeat, exactly, begins, everything, keeping, beyond, BreaksInside, sized}
+use Rattle.binary_grammar.specs.declared.fault.Fault.{Fault}
+use Rattle.binary_grammar.specs.declared.fault.Rule.{Rule}
+use Rattle.binary_grammar.specs.declared.fault.Rule.TheVariants as rules
+use Rattle.binary_grammar.specs.Format.{Format, Whole, Behind, Each, fault_at, wrong, and_then, ◌>>=◌, yield, refuse, judge, such, byte_at, byte, chunk, repeat_at, repeat, exactly, begins, everything, keeping, inner_rule, outward, beyond, BreaksInside, sized}
 
 pub record Found {X : Type 0} (f : Format X) (bytes : List ℕ) (x : X) (rest : List ℕ) : Type 0 where
   pub front : List ℕ
@@ -424,7 +424,7 @@ beyond_ok : {X : Type 0} (k : ℕ) (r : Result X Fault) (x : X) → beyond k r �
 beyond_ok k (Ok y) x e = e
 beyond_ok k (Err f) x e = absurd cc
 
-beyond_err : {X : Type 0} (k : ℕ) (r : Result X Fault) (d : Fault) → beyond k r ≡ Err d → (f : Fault) × (r ≡ Err f) × (d ≡ record f { left = f.left + k })
+beyond_err : {X : Type 0} (k : ℕ) (r : Result X Fault) (d : Fault) → beyond k r ≡ Err d → (f : Fault) × (r ≡ Err f) × (d ≡ outward k f)
 beyond_err k (Ok y) d e = absurd cc
 beyond_err k (Err f) d e = (f, refl, cc)
 

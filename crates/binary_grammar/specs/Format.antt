@@ -1,11 +1,11 @@
 -- Formats: which bytes stand for which value, where bytes break a rule, and the reading from left to right that finds both.
 use Rattle.std.specs.Prelude.{◌≡◌, ℕ, zero, suc, ◌+◌, ◌-◌, ◌*◌, ◌<◌, ◌≤◌, ◌^◌, ◌⊎◌, List, [], ◌∷◌, ◌++◌, length, take, drop, Result, Ok, Err, Bool, true, false, nat_lt, ◌==◌, if◌then◌else◌}
 use Rattle.std.specs.Str.{is_utf8}
-use Rattle.wasm_format.specs.declared.fault.Fault.{Fault}
-use Rattle.wasm_format.specs.declared.fault.Rule.{Rule}
-use Rattle.wasm_format.specs.declared.fault.Rule.TheVariants as rules
-use Rattle.wasm_format.specs.declared.fault.ReadError.{ReadError}
-use Rattle.wasm_format.specs.declared.fault.ReadError.TheVariants as errors
+use Rattle.binary_grammar.specs.declared.fault.Fault.{Fault}
+use Rattle.binary_grammar.specs.declared.fault.Rule.{Rule}
+use Rattle.binary_grammar.specs.declared.fault.Rule.TheVariants as rules
+use Rattle.binary_grammar.specs.declared.fault.ReadError.{ReadError}
+use Rattle.binary_grammar.specs.declared.fault.ReadError.TheVariants as errors
 
 -- form says which bytes stand for which value. breaks says where bytes break a rule: the parts of the form stand
 -- in them, one after the other, up to the one that breaks this rule, and so many bytes are left there. read takes
@@ -242,9 +242,18 @@ keeping w make = record {
   read = λ bytes. and_then (w.read bytes) (λ x. Ok (make x bytes));
 }
 
+-- what a rule is called that is broken inside of a size: bytes behind the size don't mend what ends too soon in it
+abbrev pub inner_rule : Rule → Rule
+inner_rule rules.Short = rules.Size
+inner_rule rule = rule
+
+-- a fault inside of a size, seen from bytes that go on for so many more behind it
+abbrev pub outward : ℕ → Fault → Fault
+outward k f = record { rule = inner_rule f.rule; left = f.left + k }
+
 abbrev pub beyond : {X : Type 0} → ℕ → Result X Fault → Result X Fault
 beyond k (Ok x) = Ok x
-beyond k (Err f) = Err (record f { left = f.left + k })
+beyond k (Err f) = Err (outward k f)
 
 -- that many bytes stand at the front and break a rule; what is left there goes on behind them
 pub record BreaksInside (B : List ℕ → Fault → Type 0) (n : ℕ) (bytes : List ℕ) (e : Fault) : Type 0 where
@@ -254,7 +263,7 @@ pub record BreaksInside (B : List ℕ → Fault → Type 0) (n : ℕ) (bytes : L
   pub size : length inside ≡ n
   pub inner : Fault
   pub broken : B inside inner
-  pub place : e ≡ record inner { left = inner.left + length after }
+  pub place : e ≡ outward (length after) inner
 
 -- that many bytes, which are this; in a break there are fewer, or they break a rule
 abbrev pub sized : {X : Type 0} → Whole X → ℕ → Format X
@@ -270,10 +279,10 @@ sized w n = record {
 abbrev pub onto : {X : Type 0} → List X → Result (List X × List ℕ) Fault → Result (List X × List ℕ) Fault
 onto front read = and_then read (λ x. Ok (front ++ x.0, x.1))
 
--- an error, seen from bytes that go on behind
+-- an error inside of a size, seen from bytes that go on behind it
 abbrev pub further : ℕ → ReadError → ReadError
 further k errors.Memory = errors.Memory
-further k (errors.Malformed f) = errors.Malformed (record f { left = f.left + k })
+further k (errors.Malformed f) = errors.Malformed (outward k f)
 
 abbrev pub CanMove : ℕ → ReadError → Type 0
 CanMove k errors.Memory = Unit {0}

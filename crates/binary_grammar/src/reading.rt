@@ -3,8 +3,8 @@
 //! Each takes its part from the front of the bytes and answers it with the bytes behind it.
 
 ghost use Rattle.std.specs.Prelude.{◌≡◌, ℕ, List, length, IfOk, Ok, ◌≤◌, ◌<◌, ◌+◌, ◌^◌, map};
-ghost use Rattle.wasm_format.specs.Format.{Format, vec, leb_at, u32_at, byte_at, chunk, tag, index, name, repeat, exactly, further, CanMove};
-ghost use Rattle.wasm_format.specs.Fault.{Gives};
+ghost use Rattle.binary_grammar.specs.Format.{Format, vec, leb_at, u32_at, byte_at, chunk, tag, index, name, repeat, exactly, inner_rule, further, CanMove};
+ghost use Rattle.binary_grammar.specs.Fault.{Gives};
 
 use crate::fault::{Fault, ReadError, Rule};
 use std::alloc::Global;
@@ -19,7 +19,17 @@ pub fn fault(rule: Rule, bytes: &[u8]) -> ReadError
     })
 }
 
-/// The same error, seen from bytes that go on for so many more.
+/// What a rule is called that is broken inside of a size.
+fn inner(rule: Rule) -> Rule
+    ensures { result ≡ inner_rule rule }
+{
+    match rule {
+        Rule::Short => Rule::Size,
+        other => other,
+    }
+}
+
+/// The same error of bytes that a size counts, seen from bytes that go on for so many more behind them.
 pub fn moved(e: ReadError, more: usize) -> ReadError
     requires { CanMove more e }
     ensures { result ≡ further more e }
@@ -27,7 +37,7 @@ pub fn moved(e: ReadError, more: usize) -> ReadError
     match e {
         ReadError::Memory => ReadError::Memory,
         ReadError::Malformed(Fault { rule, left }) => ReadError::Malformed(Fault {
-            rule,
+            rule: inner(rule),
             left: left + more,
         }),
     }
@@ -132,6 +142,18 @@ pub trait VectorItem<'a>: Sized + Drop {
     /// One item.
     fn read(alloc: Global, limit: usize, bytes: &'a [u8]) -> Result<(Self, &'a [u8]), ReadError>
         ensures { Gives (λ x. (value x.0, x.1.now)) result ((format limit).read bytes.now) };
+}
+
+impl<'a> VectorItem<'a> for u32 {
+    ghost Value = { ℕ };
+
+    ghost format = { index };
+
+    ghost value = { λ i. i };
+
+    fn read(_alloc: Global, limit: usize, bytes: &'a [u8]) -> Result<(u32, &'a [u8]), ReadError> {
+        index_of(limit, bytes)
+    }
 }
 
 /// So many items.

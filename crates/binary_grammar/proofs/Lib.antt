@@ -1,0 +1,5 @@
+pub mod Fields
+pub mod Loops
+pub mod Laws
+pub mod Numbers
+pub mod FormatLaws
