@@ -64,7 +64,7 @@ attribute_goes = goes_first [] (located gate) _ (located_goes [] gate gate_goes)
 pub attribute_takes : Takes attribute
 attribute_takes = takes [] attribute attribute_law attribute_goes
 
-abbrev open_attributes : List Kind
+abbrev pub open_attributes : List Kind
 open_attributes = kind.At ∷ []
 
 pub attributes_law : Law open_attributes (many kind.At attribute)
@@ -158,7 +158,7 @@ unfolding params same_kind
 params_law ends = bind_law ends (sign kind.LeftParenthesis) _ (sign_law [] kind.LeftParenthesis) (λ u. commas_open ends open_type param kind.RightParenthesis param_law param_goes (param_avoids (kind.RightParenthesis ∷ [])) refl refl refl)
 
 -- what may go on with a function
-abbrev open_func : List Kind
+abbrev pub open_func : List Kind
 open_func = kind.RightArrow ∷ open_type
 
 pub func_behind_law : (is_async : Bool) → Law open_func (func_behind is_async)

@@ -10,9 +10,7 @@ ghost use Rattle.wit_productions.specs.TypeGrammar.{any_type};
 ghost use Rattle.wit_productions.specs.TypeView.{type_tree};
 ghost use Rattle.wit_words.specs.declared.token.Kind.TheVariants as kind;
 
-use crate::items::{
-    Attribute, Func, Gate, Gated, NamedFunc, Param, ToplevelUse, Use, UseName,
-};
+use crate::items::{Attribute, Func, Gate, Gated, NamedFunc, Param, ToplevelUse, Use, UseName};
 use std::alloc::Global;
 use wit_productions::{
     Cursor, Id, Part, ReadError, Type, Version, any_type, commas, fault_at, use_path,

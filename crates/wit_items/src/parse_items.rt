@@ -14,9 +14,7 @@ use crate::items::{
 };
 use crate::parse::{arrow, named_func_behind, params, use_behind};
 use std::alloc::Global;
-use wit_productions::{
-    Cursor, Id, Part, ReadError, Type, any_type, commas, fault_at, until,
-};
+use wit_productions::{Cursor, Id, Part, ReadError, Type, any_type, commas, fault_at, until};
 use wit_tokens::{Kind, Rule, Token};
 
 // ---- definitions of types

@@ -17,7 +17,7 @@ use Rattle.wit_productions.proofs.Documented.{documented_law, documented_goes}
 use Rattle.wit_productions.proofs.Terminals.{id_law, id_avoids, id_goes, optional_law}
 use Rattle.wit_productions.proofs.Turns.{weaken, commas_law, until_open, all_law, at_end_law, next_then_law, takes}
 use Rattle.wit_productions.proofs.NameLaws.{open_version, open_path, package_name_law, path_behind_law, path_behind_avoids, use_path_law}
-use Rattle.wit_items.proofs.ItemLaws.{attribute_law, attributes_law, gated_law, gated_goes, gated_avoids, use_behind_law, toplevel_use_behind_law, func_behind_law, gated_items_law, defined_next, interface_items_law, interface_behind_law}
+use Rattle.wit_items.proofs.ItemLaws.{open_attributes, open_func, attribute_law, attributes_law, gated_law, gated_goes, gated_avoids, use_behind_law, toplevel_use_behind_law, func_behind_law, gated_items_law, defined_next, interface_items_law, interface_behind_law}
 
 ruleset laws = (bind_law, yield_law, sign_law, branch_law)
 

@@ -9,9 +9,7 @@ ghost use Rattle.wit_words.specs.Token.{Tok, plain};
 use crate::ast::{AstItem, File, FileItem, Package, PackageHeader};
 use crate::parse_worlds::world_behind;
 use std::alloc::{AllocError, Global};
-use wit_items::{
-    Attribute, Gated, attribute, attributes, interface_behind, toplevel_use_behind,
-};
+use wit_items::{Attribute, Gated, attribute, attributes, interface_behind, toplevel_use_behind};
 use wit_productions::{Cursor, PackageName, Part, ReadError, all, fault_at, package_name, until};
 use wit_tokens::{Docs, Kind, Rule, Span, Token};
 

@@ -10,9 +10,7 @@ ghost use Rattle.wit_words.specs.Token.{Tok, toks, ident, explicit};
 use crate::lex::{Lexeme, broken_span, front};
 use std::alloc::{AllocError, Global};
 use std::mem;
-use wit_words::{
-    Comment, DocumentedToken, Rule, Span, SyntaxFault, Token, is_identifier, keyword,
-};
+use wit_words::{Comment, DocumentedToken, Rule, Span, SyntaxFault, Token, is_identifier, keyword};
 
 /// What stands at the front of a text.
 #[derive(Clone, Copy)]
