@@ -3,3 +3,8 @@ pub mod Loops
 pub mod Laws
 pub mod Numbers
 pub mod FormatLaws
+pub mod Judged
+pub mod Steps
+pub mod Signed
+pub mod Lawful
+pub mod Spelled
