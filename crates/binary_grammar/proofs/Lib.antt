@@ -8,3 +8,7 @@ pub mod Steps
 pub mod Signed
 pub mod Lawful
 pub mod Spelled
+pub mod Shorter
+pub mod Series
+pub mod Each
+pub mod OneValue

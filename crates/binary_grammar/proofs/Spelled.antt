@@ -40,6 +40,14 @@ name_spelled : (xs : List ℕ) → is_utf8 xs ≡ true → length xs < 2 ^ 32 �
 unfolding format.name
 name_spelled xs text small = record { value = length xs; front = u32_bytes (length xs); back = xs; parts = refl; first = u32_spelled (length xs) small; second = ((refl, refl), text) }
 
+-- one digit, and those behind it
+pub leb_more : (more n : ℕ) → 128 ≤ n → 0 < more → leb_bytes more n ≡ (n % 128 + 128) ∷ leb_bytes (more - 1) (n / 128)
+unfolding leb_bytes
+leb_more zero n large some = absurd (omega arith)
+leb_more (suc k) n large some =
+    let e : suc k - 1 ≡ k = omega arith in
+    rw (le-ltb n 128 large, e) refl
+
 -- ---- several of one kind
 
 module _ {S X : Type 0} (grow : S → X → S) (P : X → Type 0) (Q : S → X → Type 0) (write : X → List ℕ) where

@@ -4,3 +4,5 @@ pub mod Judged
 pub mod Steps
 pub mod Signed
 pub mod Syntax
+pub mod Cursor
+pub mod Place

@@ -4,6 +4,7 @@ use Rattle.std.specs.Prelude.{◌≡◌, ℕ, zero, suc, ℤ, ◌<◌, ◌≤◌
 use Rattle.std.specs.Str.{is_utf8}
 use Rattle.std.specs.List.{flat_map, All}
 use Rattle.binary_grammar.specs.declared.fault.Rule.{Rule}
+use Rattle.binary_grammar.specs.declared.fault.Rule.TheVariants as rules
 use Rattle.binary_grammar.specs.Format as f
 use Rattle.binary_grammar.specs.Format.{Format, Whole}
 use Rattle.binary_grammar.specs.Judged.{passed, weigh, then_all, seen_as}
@@ -139,13 +140,17 @@ bytes (steps grow which next) xs = flat_map (λ x. which x ∷ bytes (next (whic
 
 -- ---- which values have bytes
 
+-- UTF-8, of which 32 bits can say the length
+abbrev pub IsText : List ℕ → Type 0
+IsText xs = (is_utf8 xs ≡ true) × (length xs < 2 ^ 32)
+
 -- what the types of the code say of a value: its numbers have so many bits, also its counts and lengths, and its names are text
 abbrev pub IsTyped : {e : Extent} {C X : Type 0} → Syntax e C X → X → Type 0
 IsTyped one_byte b = Unit {0}
 IsTyped number n = n < 2 ^ 32
 IsTyped (signed_number bits) z = (1 ≤ bits) × (lies_in (2 ^ (bits - 1)) z ≡ true)
 IsTyped (some_bytes n) xs = Unit {0}
-IsTyped some_name xs = (is_utf8 xs ≡ true) × (length xs < 2 ^ 32)
+IsTyped some_name xs = IsText xs
 IsTyped (gives x) y = Unit {0}
 IsTyped (refuses rule) y = Unit {0}
 IsTyped (tested rule test s) x = IsTyped s x
@@ -210,6 +215,12 @@ p >>= next = part p.syntax_of p.view next
 -- this byte
 abbrev pub byte_is : {C : Type 0} → Rule → ℕ → Syntax unbounded C ℕ
 byte_is rule n = tested rule (λ _ b. b == n) one_byte
+
+-- a section: which it is, and its content behind the size (Modules, Sections)
+abbrev pub section : {C X : Type 0} → ℕ → Syntax bounded C X → Syntax unbounded C X
+section id s = do
+  i ← (λ _. id) ◂ byte_is rules.Tag id
+  sized s
 
 -- a count, and so many (Conventions, Vectors), each where those before it are known
 abbrev pub growing : {C X : Type 0} → (C → X → C) → Syntax unbounded C X → Syntax unbounded C (List X)
