@@ -31,6 +31,7 @@ pub record WholeLaw {X : Type 0} (w : Whole X) : Type 0 where
   pub within : (bytes : List ℕ) (e : Fault) → w.read bytes ≡ Err e → e.left ≤ length bytes
   pub stops : (bytes : List ℕ) (e : Fault) → w.read bytes ≡ Err e → w.breaks bytes e
   pub broken : (bytes : List ℕ) (e : Fault) → w.breaks bytes e → w.read bytes ≡ Err e
+  pub stays : (bytes : List ℕ) (e : Fault) (more : List ℕ) → (e.rule ≡ rules.Short → ⊥) → w.breaks bytes e → w.breaks (bytes ++ more) (moved e more)
 
 -- ---- steps
 
@@ -244,7 +245,7 @@ such_law {X = X} rule test f lf = record {
       (λ x back k. (k.0, begins_still rule bytes e more k.1)) h;
 }
 
-in_three : (bytes a b c d : List ℕ) → bytes ≡ a ++ b → b ≡ c ++ d → bytes ≡ (a ++ c) ++ d
+pub in_three : (bytes a b c d : List ℕ) → bytes ≡ a ++ b → b ≡ c ++ d → bytes ≡ (a ++ c) ++ d
 in_three bytes a b c d e f = e ∙ ap (λ (t : List ℕ). a ++ t) f ∙ sym (append_assoc a c d)
 
 repeat_found : {X : Type 0} (f : Format X) → Law f → (n : ℕ) (bytes : List ℕ) (xs : List X) (rest : List ℕ) → repeat_at f.read n bytes ≡ Ok (xs, rest) → Found (repeat f n) bytes xs rest
@@ -368,6 +369,9 @@ exactly_law {X = X} f lf = record {
   broken = λ bytes e h.
       bind_broken f lf (λ x. cond (eqb (length x.1) 0) (Ok x.0) (wrong rules.Trailing x.1)) (λ x back. (1 ≤ length back) × (e ≡ fault_at rules.Trailing back)) bytes e
       (λ x back k. rw (not_empty back k.0, k.1) refl) h;
+  stays = λ bytes e more other h.
+      bind_stays f lf (λ x back. (1 ≤ length back) × (e ≡ fault_at rules.Trailing back)) (λ x back. (1 ≤ length back) × (moved e more ≡ fault_at rules.Trailing back)) bytes e more other
+      (λ x back k. (omega (arith, k.0, length-append back more), begins_still rules.Trailing back e more k.1)) h;
 }
 
 pub begins_law : {X : Type 0} (f : Format X) → Law f → WholeLaw (begins f)
@@ -390,6 +394,7 @@ begins_law {X = X} f lf = record {
         | inr p ↦ let k = p.2 in absurd cc
       ];
   broken = λ bytes d h. rw (lf.broken bytes d h) refl;
+  stays = lf.stays;
 }
 
 pub everything_law : WholeLaw everything
@@ -399,6 +404,7 @@ everything_law = record {
   within = λ bytes d e. absurd cc;
   stops = λ bytes d e. absurd cc;
   broken = λ bytes d h. absurd h;
+  stays = λ bytes d more other h. absurd h;
 }
 
 pub keeping_law : {X Y : Type 0} (w : Whole X) (make : X → List ℕ → Y) → WholeLaw w → WholeLaw (keeping w make)
@@ -418,6 +424,7 @@ keeping_law {X = X} {Y = Y} w make lw = record {
         | inr p ↦ let k = p.2 in absurd cc
       ];
   broken = λ bytes d h. rw (lw.broken bytes d h) refl;
+  stays = lw.stays;
 }
 
 beyond_ok : {X : Type 0} (k : ℕ) (r : Result X Fault) (x : X) → beyond k r ≡ Ok x → r ≡ Ok x

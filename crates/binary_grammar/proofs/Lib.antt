@@ -3,3 +3,12 @@ pub mod Loops
 pub mod Laws
 pub mod Numbers
 pub mod FormatLaws
+pub mod Judged
+pub mod Steps
+pub mod Signed
+pub mod Lawful
+pub mod Spelled
+pub mod Shorter
+pub mod Series
+pub mod Each
+pub mod OneValue

@@ -7,18 +7,18 @@ use Rattle.binary_grammar.specs.declared.fault.Rule.TheVariants as rules
 use Rattle.binary_grammar.specs.Format.{Format, fault_at, wrong, and_then, IsLeb, AllGoOn, EndsWithin, GoesOn, BreaksU32, leb_at, u32_at, u32, vec, repeat}
 use Rattle.binary_grammar.proofs.Laws.{Found, Law, moved, bind_ok, bind_err, test_ok, test_err, left_is, rule_is, begins_still, more_behind, ok_is, bind_law, repeat_law}
 
-record Digits (k : ℕ) (bytes : List ℕ) (n : ℕ) (rest : List ℕ) : Type 0 where
-  front : List ℕ
-  parts : bytes ≡ front ++ rest
-  digits : IsLeb front n
-  short : length front ≤ k
+pub record Digits (k : ℕ) (bytes : List ℕ) (n : ℕ) (rest : List ℕ) : Type 0 where
+  pub front : List ℕ
+  pub parts : bytes ≡ front ++ rest
+  pub digits : IsLeb front n
+  pub short : length front ≤ k
 
 more_digits : (k b n high : ℕ) (bytes front rest : List ℕ) → 128 ≤ b → b - 128 + 128 * high ≡ n → bytes ≡ front ++ rest → IsLeb front high → length front ≤ k → Digits (suc k) (b ∷ bytes) n rest
 more_digits k b n high bytes [] rest large n-is parts digits short = absurd digits
 more_digits k b n high bytes (c ∷ cs) rest large n-is parts digits short =
     record { front = b ∷ c ∷ cs; parts = ap (λ (s : List ℕ). b ∷ s) parts; digits = (large, high, omega arith, digits); short = omega arith }
 
-leb_found : (k : ℕ) (bytes : List ℕ) (n : ℕ) (rest : List ℕ) → leb_at k bytes ≡ Ok (n, rest) → Digits k bytes n rest
+pub leb_found : (k : ℕ) (bytes : List ℕ) (n : ℕ) (rest : List ℕ) → leb_at k bytes ≡ Ok (n, rest) → Digits k bytes n rest
 unfolding leb_at
 leb_found zero bytes n rest e = absurd cc
 leb_found (suc k) [] n rest e = absurd cc
@@ -32,7 +32,7 @@ leb_found (suc k) (b ∷ bytes) n rest e =
           (more_digits k b (b - 128 + 128 * p.0.0) p.0.0 bytes one.front p.0.1 (ltb-false _ _ t) refl one.parts one.digits one.short)
     ] refl e
 
-leb_again : (k : ℕ) (front : List ℕ) (n : ℕ) (rest : List ℕ) → IsLeb front n → length front ≤ k → leb_at k (front ++ rest) ≡ Ok (n, rest)
+pub leb_again : (k : ℕ) (front : List ℕ) (n : ℕ) (rest : List ℕ) → IsLeb front n → length front ≤ k → leb_at k (front ++ rest) ≡ Ok (n, rest)
 unfolding leb_at
 leb_again k [] n rest digits short = absurd digits
 leb_again zero (b ∷ front) n rest digits short = absurd (omega arith)
@@ -48,7 +48,7 @@ one_more : (k b : ℕ) (bytes : List ℕ) (e : Fault) → 128 ≤ b → EndsWith
 one_more k b bytes e large (inl h) = inl (record { digits = (large, h.digits); few = omega arith; place = h.place })
 one_more k b bytes e large (inr h) = inr (record { front = b ∷ h.front; back = h.back; parts = ap (λ (s : List ℕ). b ∷ s) h.parts; digits = (large, h.digits); many = ap suc h.many; place = h.place })
 
-leb_stops : (k : ℕ) (bytes : List ℕ) (e : Fault) → leb_at k bytes ≡ Err e → EndsWithin k bytes e ⊎ GoesOn k bytes e
+pub leb_stops : (k : ℕ) (bytes : List ℕ) (e : Fault) → leb_at k bytes ≡ Err e → EndsWithin k bytes e ⊎ GoesOn k bytes e
 unfolding leb_at
 leb_stops zero bytes e h = inr (record { front = []; back = bytes; parts = refl; digits = tt; many = refl; place = cc })
 leb_stops (suc k) [] e h = inl (record { digits = tt; few = omega arith; place = cc })
@@ -62,7 +62,7 @@ leb_stops (suc k) (b ∷ bytes) e h =
           ]
     ] refl h
 
-leb_ends : (k : ℕ) (bytes : List ℕ) (e : Fault) → EndsWithin k bytes e → leb_at k bytes ≡ Err e
+pub leb_ends : (k : ℕ) (bytes : List ℕ) (e : Fault) → EndsWithin k bytes e → leb_at k bytes ≡ Err e
 unfolding leb_at
 leb_ends zero bytes e h = absurd (omega arith)
 leb_ends (suc k) [] e h = rw h.place refl
@@ -70,7 +70,7 @@ leb_ends (suc k) (b ∷ bytes) e h =
     let large : ltb b 128 ≡ false = le-ltb _ _ h.digits.0 in
     rw (large, leb_ends k bytes e (record { digits = h.digits.1; few = omega arith; place = h.place })) refl
 
-leb_goes_on : (k : ℕ) (front back : List ℕ) → AllGoOn front → length front ≡ k → leb_at k (front ++ back) ≡ wrong rules.Number back
+pub leb_goes_on : (k : ℕ) (front back : List ℕ) → AllGoOn front → length front ≡ k → leb_at k (front ++ back) ≡ wrong rules.Number back
 unfolding leb_at
 leb_goes_on zero [] back digits many = refl
 leb_goes_on zero (b ∷ front) back digits many = absurd (omega arith)

@@ -1,2 +1,8 @@
 pub mod Fault
 pub mod Format
+pub mod Judged
+pub mod Steps
+pub mod Signed
+pub mod Syntax
+pub mod Cursor
+pub mod Place
