@@ -1,16 +1,14 @@
 -- Every grammar is read as it says: bytes have one value, a break is one, and stays with more bytes behind it unless it is
 -- that they end too soon.
-use Rattle.std.proofs.Common.{◌≡◌, ℕ, List, ◌∷◌, ◌++◌}
-use Rattle.binary_grammar.specs.declared.fault.Rule.{Rule}
 use Rattle.binary_grammar.specs.Format as format
 use Rattle.binary_grammar.specs.Format.{Format, Whole}
-use Rattle.binary_grammar.specs.Judged.{passed, then_all}
+use Rattle.binary_grammar.specs.Judged.{passed}
 use Rattle.binary_grammar.specs.Syntax.{Extent, unbounded, bounded, Syntax, one_byte, number, signed_number, some_bytes, some_name, gives, refuses, tested, judged, measured, part, times, up_to, sized, where_known, exactly, begins, everything, keeping, seen, steps, Faces, then_in, meaning}
 use Rattle.binary_grammar.proofs.Laws.{Law, WholeLaw, bind_law, yield_law, refuse_law, such_law, byte_law, chunk_law, exactly_law, begins_law, everything_law, keeping_law, sized_law}
 use Rattle.binary_grammar.proofs.Numbers.{u32_law}
 use Rattle.binary_grammar.proofs.FormatLaws.{name_law}
 use Rattle.binary_grammar.proofs.Judged.{weigh_law, then_all_law, seen_as_law}
-use Rattle.binary_grammar.proofs.Steps.{series_law, up_to_law, to_end_law, behind_a_byte}
+use Rattle.binary_grammar.proofs.Several.{series_law, up_to_law, to_end_law, behind_a_byte}
 use Rattle.binary_grammar.proofs.Signed.{signed_law}
 
 abbrev pub Lawful : (e : Extent) (X : Type 0) → Faces e X → Type 0

@@ -5,7 +5,7 @@ use Rattle.std.proofs.lemmas.List.{append-nil, nil_from_length, take_at, drop_at
 use Rattle.binary_grammar.specs.declared.fault.Fault.{Fault}
 use Rattle.binary_grammar.specs.declared.fault.Rule.{Rule}
 use Rattle.binary_grammar.specs.declared.fault.Rule.TheVariants as rules
-use Rattle.binary_grammar.specs.Format.{Format, Whole, Behind, Each, fault_at, wrong, and_then, ◌>>=◌, yield, refuse, judge, such, byte_at, byte, chunk, repeat_at, repeat, exactly, begins, everything, keeping, inner_rule, outward, beyond, BreaksInside, sized}
+use Rattle.binary_grammar.specs.Format.{Format, Whole, Behind, Each, fault_at, wrong, and_then, ◌>>=◌, yield, refuse, judge, such, byte_at, byte, chunk, repeat_at, repeat, exactly, begins, everything, keeping, outward, beyond, BreaksInside, sized}
 
 pub record Found {X : Type 0} (f : Format X) (bytes : List ℕ) (x : X) (rest : List ℕ) : Type 0 where
   pub front : List ℕ

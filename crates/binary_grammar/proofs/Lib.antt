@@ -4,7 +4,7 @@ pub mod Laws
 pub mod Numbers
 pub mod FormatLaws
 pub mod Judged
-pub mod Steps
+pub mod Several
 pub mod Signed
 pub mod Lawful
 pub mod Spelled
@@ -12,3 +12,5 @@ pub mod Shorter
 pub mod Series
 pub mod Each
 pub mod OneValue
+pub mod Inside
+pub mod Remaining

@@ -5,7 +5,7 @@ use Rattle.binary_grammar.specs.declared.fault.Fault.{Fault}
 use Rattle.binary_grammar.specs.declared.fault.ReadError.{ReadError}
 use Rattle.binary_grammar.specs.declared.fault.ReadError.TheVariants as errors
 use Rattle.binary_grammar.specs.Format.{Format, onto}
-use Rattle.binary_grammar.specs.Steps.{series}
+use Rattle.binary_grammar.specs.Several.{series}
 use Rattle.binary_grammar.specs.Fault.{Fails}
 use Rattle.binary_grammar.proofs.Loops.{regroup}
 

@@ -1,9 +1,8 @@
 -- What is left behind a part is no longer than what was there.
-use Rattle.std.proofs.Common.{◌≡◌, ℕ, ◌≤◌, List, ◌++◌, length, Ok, ap, arith}
+use Rattle.std.proofs.Common.{◌≡◌, ℕ, ◌+◌, ◌≤◌, List, length, Ok, ap, arith}
 use Rattle.std.proofs.lemmas.List.{length-append}
 use Rattle.binary_grammar.specs.Format.{Format, byte, byte_at, u32, u32_at, index, chunk, name}
-use Rattle.binary_grammar.specs.declared.fault.Rule.TheVariants as rules
-use Rattle.binary_grammar.proofs.Laws.{Law, byte_law, chunk_law, such_law}
+use Rattle.binary_grammar.proofs.Laws.{Law, byte_law, chunk_law}
 use Rattle.binary_grammar.proofs.Numbers.{u32_law}
 use Rattle.binary_grammar.proofs.FormatLaws.{laws, name_law}
 
@@ -26,6 +25,11 @@ index_shorter limit bytes x rest e = shorter (index limit) (index_law limit) byt
 
 pub chunk_shorter : (n : ℕ) (bytes x rest : List ℕ) → (chunk n).read bytes ≡ Ok (x, rest) → length rest ≤ length bytes
 chunk_shorter n bytes x rest e = shorter (chunk n) (chunk_law n) bytes x rest e
+
+pub chunk_parts : (n : ℕ) (bytes x rest : List ℕ) → (chunk n).read bytes ≡ Ok (x, rest) → length x + length rest ≡ length bytes
+chunk_parts n bytes x rest e =
+    let one = (chunk_law n).found bytes x rest e in
+    omega (arith, ap length one.parts, ap length one.formed.0, length-append one.front rest)
 
 pub name_shorter : (bytes x rest : List ℕ) → name.read bytes ≡ Ok (x, rest) → length rest ≤ length bytes
 name_shorter bytes x rest e = shorter name name_law bytes x rest e

@@ -1,18 +1,16 @@
 -- The signed number that is read is the one that the bytes stand for, and its shortest bytes stand for it.
-use Rattle.std.proofs.Common.{◌≡◌, ℕ, zero, suc, ◌+◌, ◌-◌, ◌*◌, ◌/◌, ◌%◌, ◌^◌, ◌≤◌, ◌<◌, Bool, true, false, cond, ltb, List, [], ◌∷◌, ◌++◌, length, Result, Ok, Err, refl, sym, ap, subst, ◌∙◌, arith, inl, inr, ◌⊎◌}
+use Rattle.std.proofs.Common.{◌≡◌, ℕ, zero, suc, ◌+◌, ◌-◌, ◌*◌, ◌/◌, ◌%◌, ◌^◌, ◌≤◌, ◌<◌, true, false, cond, ltb, List, [], ◌∷◌, ◌++◌, length, Err, refl, sym, ap, subst, ◌∙◌, arith, inl, inr, ◌⊎◌}
 use Rattle.std.specs.Prelude.{ℤ, pos, negsuc}
 use Rattle.std.proofs.Math.Nat.{pow-succ', one-le-pow}
 use Rattle.std.proofs.Math.Pow.{pow_mono}
 use Rattle.std.proofs.lemmas.Nat.{pow-add}
-use Rattle.std.proofs.lemmas.Bool.{ltb-true, ltb-false, le-ltb, lt-ltb}
+use Rattle.std.proofs.lemmas.Bool.{ltb-true, le-ltb, lt-ltb}
 use Rattle.std.proofs.lemmas.List.{length-append}
 use Rattle.binary_grammar.specs.declared.fault.Fault.{Fault}
-use Rattle.binary_grammar.specs.declared.fault.Rule.{Rule}
 use Rattle.binary_grammar.specs.declared.fault.Rule.TheVariants as rules
-use Rattle.binary_grammar.specs.Format.{Format, fault_at, wrong, IsLeb, AllGoOn, EndsWithin, GoesOn, leb_at}
-use Rattle.binary_grammar.specs.Judged.{passed, IsJudged}
+use Rattle.binary_grammar.specs.Format.{wrong, IsLeb, EndsWithin, GoesOn, leb_at}
 use Rattle.binary_grammar.specs.Signed.{digits, half, signed_of, lies_in, digits_for, signed_in, signed, all_digits, unsigned_in, signed_digits, signed_bytes}
-use Rattle.binary_grammar.proofs.Laws.{Found, Law, moved, left_is, rule_is, begins_still, more_behind}
+use Rattle.binary_grammar.proofs.Laws.{Law, moved, left_is, rule_is, begins_still, more_behind}
 use Rattle.binary_grammar.proofs.Judged.{weigh_law}
 use Rattle.binary_grammar.proofs.Numbers.{leb_found, leb_again, leb_stops, leb_ends, leb_goes_on}
 

@@ -1,7 +1,7 @@
 -- What is written of a value that is typed and meets the tests is of its grammar, and is read again.
-use Rattle.std.proofs.Common.{◌≡◌, ℕ, zero, suc, ◌+◌, ◌-◌, ◌*◌, ◌/◌, ◌%◌, ◌^◌, ◌≤◌, ◌<◌, Bool, true, false, cond, ltb, List, [], ◌∷◌, ◌++◌, length, Option, Some, None, Ok, refl, sym, ap, subst, ◌∙◌, append_assoc, arith, eq-eqb}
+use Rattle.std.proofs.Common.{◌≡◌, ℕ, zero, suc, ◌+◌, ◌-◌, ◌/◌, ◌%◌, ◌^◌, ◌≤◌, ◌<◌, Bool, true, false, cond, ltb, List, [], ◌∷◌, ◌++◌, length, Option, Some, None, Ok, refl, sym, ap, subst, ◌∙◌, append_assoc, arith, eq-eqb}
 use Rattle.std.specs.Prelude.{◌==◌}
-use Rattle.std.specs.List.{flat_map, All, AllByRecursion}
+use Rattle.std.specs.List.{flat_map, AllByRecursion}
 use Rattle.std.specs.Str.{is_utf8}
 use Rattle.std.proofs.Math.Nat.{pow-succ'}
 use Rattle.std.proofs.lemmas.Bool.{ltb-true, le-ltb}
@@ -10,9 +10,8 @@ use Rattle.std.proofs.lemmas.List.Elements.{recursion_from_All}
 use Rattle.std.proofs.lemmas.List.Concat.{flat_map-cons}
 use Rattle.binary_grammar.specs.Format as format
 use Rattle.binary_grammar.specs.Format.{Format, Whole, IsLeb, IsU32}
-use Rattle.binary_grammar.specs.Judged.{passed, then_all}
-use Rattle.binary_grammar.specs.Steps as several
-use Rattle.binary_grammar.specs.Steps.{series, Until, unless, AreSteps}
+use Rattle.binary_grammar.specs.Judged.{passed}
+use Rattle.binary_grammar.specs.Several.{series, Until, unless, AreSteps}
 use Rattle.binary_grammar.specs.Syntax.{Extent, unbounded, bounded, Syntax, one_byte, number, signed_number, some_bytes, some_name, gives, refuses, tested, judged, measured, part, times, up_to, sized, where_known, exactly, begins, everything, keeping, seen, steps, Faces, then_in, meaning, leb_bytes, u32_bytes, with_length, bytes, IsTyped, EachWhere, Meets}
 use Rattle.binary_grammar.proofs.Lawful.{lawful}
 use Rattle.binary_grammar.proofs.Signed.{longer, signed_spelled}

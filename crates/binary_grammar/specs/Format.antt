@@ -169,6 +169,10 @@ u32 = record { form = IsU32; breaks = BreaksU32; read = u32_at }
 abbrev pub index : ℕ → Format ℕ
 index limit = such rules.Index (λ i. nat_lt i limit) u32
 
+-- a size, and so many bytes
+abbrev pub counted_bytes : Format (List ℕ)
+counted_bytes = u32 >>= chunk
+
 -- ---- names (Values, Names): a length, and so many bytes of UTF-8
 
 unfoldable pub name : Format (List ℕ)

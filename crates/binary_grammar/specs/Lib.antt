@@ -1,7 +1,7 @@
 pub mod Fault
 pub mod Format
 pub mod Judged
-pub mod Steps
+pub mod Several
 pub mod Signed
 pub mod Syntax
 pub mod Cursor

@@ -1,5 +1,5 @@
 -- Signed numbers (WebAssembly Core, Binary Format, Values, Integers): digits of seven bits in two's complement.
-use Rattle.std.specs.Prelude.{◌≡◌, ℕ, zero, suc, ℤ, pos, negsuc, ◌+◌, ◌-◌, ◌*◌, ◌/◌, ◌%◌, ◌≤◌, ◌^◌, ◌⊎◌, List, [], ◌∷◌, length, Result, Ok, Err, Bool, true, false, nat_lt, if◌then◌else◌}
+use Rattle.std.specs.Prelude.{ℕ, zero, suc, ℤ, pos, negsuc, ◌+◌, ◌-◌, ◌*◌, ◌/◌, ◌%◌, ◌≤◌, ◌^◌, ◌⊎◌, List, [], ◌∷◌, length, Result, Bool, nat_lt, if◌then◌else◌}
 use Rattle.binary_grammar.specs.declared.fault.Rule.{Rule}
 use Rattle.binary_grammar.specs.declared.fault.Rule.TheVariants as rules
 use Rattle.binary_grammar.specs.Format.{Format, IsLeb, EndsWithin, GoesOn, leb_at}

@@ -1,6 +1,6 @@
 -- What a grammar is made of, and its faces: which bytes stand for which value, where they break a rule, how they are read,
 -- and how a value is written.
-use Rattle.std.specs.Prelude.{◌≡◌, ℕ, zero, suc, ℤ, ◌<◌, ◌≤◌, ◌^◌, ◌/◌, ◌%◌, ◌+◌, ◌-◌, List, [], ◌∷◌, ◌++◌, length, Result, Ok, Err, Bool, true, false, nat_lt, ◌==◌, if◌then◌else◌}
+use Rattle.std.specs.Prelude.{◌≡◌, ℕ, zero, suc, ℤ, ◌<◌, ◌≤◌, ◌^◌, ◌/◌, ◌%◌, ◌+◌, ◌-◌, List, [], ◌∷◌, ◌++◌, length, Result, Ok, Bool, true, false, nat_lt, ◌==◌, if◌then◌else◌}
 use Rattle.std.specs.Str.{is_utf8}
 use Rattle.std.specs.List.{flat_map, All}
 use Rattle.binary_grammar.specs.declared.fault.Rule.{Rule}
@@ -8,7 +8,7 @@ use Rattle.binary_grammar.specs.declared.fault.Rule.TheVariants as rules
 use Rattle.binary_grammar.specs.Format as f
 use Rattle.binary_grammar.specs.Format.{Format, Whole}
 use Rattle.binary_grammar.specs.Judged.{passed, weigh, then_all, seen_as}
-use Rattle.binary_grammar.specs.Steps as several
+use Rattle.binary_grammar.specs.Several as several
 use Rattle.binary_grammar.specs.Signed.{signed, signed_bytes, lies_in}
 
 -- what is known of the end: nothing, so that any bytes may stand behind, or that it is all of some bytes

@@ -1,9 +1,9 @@
 //! A cursor over bytes.
 
-ghost use Rattle.std.specs.Prelude.{◌≡◌, ◌+◌, ◌-◌, ◌<◌, ◌==◌, length, IfOk};
+ghost use Rattle.std.specs.Prelude.{◌≡◌, ◌+◌, ◌-◌, ◌<◌, ◌^◌, ◌==◌, true, false, length, IfOk, IfErr};
 ghost use Rattle.binary_grammar.specs.Cursor.{Cursor, offset as place};
 ghost use Rattle.binary_grammar.specs.Fault.{Gives};
-ghost use Rattle.binary_grammar.specs.Format.{byte_at, u32_at, index, chunk, name, such, byte};
+ghost use Rattle.binary_grammar.specs.Format.{byte_at, u32_at, Format, index, chunk, name, such, byte, counted_bytes, fault_at};
 
 use crate::fault::{Fault, ReadError, Rule};
 use crate::reading::{byte_of, chunk_of, index_of, name_of, u32_of};
@@ -66,6 +66,18 @@ impl<'a> Reader<'a> {
         ensures within { result + length self.now.left ≡ self.now.end }
     {
         self.end - self.rest.len()
+    }
+
+    /// Refuses bytes that are left.
+    pub fn ended(&self) -> Result<(), ReadError>
+        ensures done { IfOk result (λ _. (length self.now.left == 0) ≡ true) }
+        ensures refused { IfErr result (λ e. ((length self.now.left == 0) ≡ false) × (e ≡ ReadError.Malformed (fault_at Rule.Trailing self.now.left))) }
+    {
+        if self.is_done() {
+            Ok(())
+        } else {
+            Err(self.broken(Rule::Trailing))
+        }
     }
 
     /// The error that this rule is broken here.
@@ -131,6 +143,23 @@ impl<'a> Reader<'a> {
         let (bytes, rest) = chunk_of(size, self.rest)?;
         self.rest = rest;
         Ok(bytes)
+    }
+
+    /// A size, and a cursor over so many bytes.
+    #[tactic(auto, using(crate::proofs::Shorter::chunk_parts))]
+    pub fn inside(&mut self) -> Result<Reader<'a>, ReadError>
+        ensures gives { Gives (λ x. (x.left, self.new.left)) result (counted_bytes.read self.old.left) }
+        ensures end { self.new.end ≡ self.old.end }
+        ensures inner { IfOk result (λ x. (x.end + length self.new.left ≡ self.new.end) × (length x.left + length self.new.left < 2 ^ 64)) }
+    {
+        let size = self.number()?;
+        let start = self.offset();
+        let inside = self.bytes(size)?;
+        Ok(Reader {
+            alloc: self.alloc,
+            rest: inside,
+            end: start + inside.len(),
+        })
     }
 
     /// A length, and so many bytes of UTF-8 (Values, Names).

@@ -3,7 +3,7 @@ use Rattle.std.specs.Prelude.{map}
 use Rattle.std.proofs.lemmas.Result.{err_from_is_err_and}
 use Rattle.std.proofs.lemmas.List.{map_push}
 use Rattle.binary_grammar.specs.Syntax.{meaning}
-use Rattle.binary_grammar.specs.Steps.{series}
+use Rattle.binary_grammar.specs.Several.{series}
 use Rattle.binary_grammar.proofs.Series.{series_goes_on, series_stops, series_is_done}
 use Rattle.binary_grammar.proofs.part.items_of.Goals as goal
 

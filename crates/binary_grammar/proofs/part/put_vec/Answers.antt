@@ -1,5 +1,4 @@
-use Rattle.std.proofs.Common.{length, ℕ, ◌<◌, ◌^◌, arith, map, ◌≡◌, Err, sym, ◌∙◌, ap}
-use Rattle.std.specs.List.{All}
+use Rattle.std.proofs.Common.{arith}
 use Rattle.std.proofs.lemmas.List.Elements.{All-map}
 use Rattle.std.proofs.lemmas.List.{length-map}
 use Rattle.std.proofs.lemmas.Result.{err_from_is_err_and}

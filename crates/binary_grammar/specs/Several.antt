@@ -1,5 +1,5 @@
 -- Several of one kind: where each is known, up to a sign, and up to the end.
-use Rattle.std.specs.Prelude.{◌≡◌, ℕ, zero, suc, ◌≤◌, List, [], ◌∷◌, ◌++◌, length, Option, Some, None, Result, Ok, Err, Bool, true, false, ◌==◌, if◌then◌else◌}
+use Rattle.std.specs.Prelude.{◌≡◌, ℕ, zero, suc, ◌≤◌, List, [], ◌∷◌, ◌++◌, length, Option, Some, None, Result, Ok, Bool, true, false, ◌==◌, if◌then◌else◌}
 use Rattle.binary_grammar.specs.declared.fault.Fault.{Fault}
 use Rattle.binary_grammar.specs.declared.fault.Rule.TheVariants as rules
 use Rattle.binary_grammar.specs.Format.{Format, Whole, Joins, Behind, Each, ◌>>=◌, yield, byte, wrong, and_then}
@@ -66,6 +66,10 @@ pub data StepsBreak {S X : Type 0} (step : S → Format X) (grow : S → X → S
 unfoldable pub steps_at : {S X : Type 0} → (S → List ℕ → Result (X × List ℕ) Fault) → (S → X → S) → ℕ → S → List ℕ → Result (List X) Fault
 steps_at read grow zero s bytes = if length bytes == 0 then Ok [] else wrong rules.Short bytes
 steps_at read grow (suc fuel) s bytes = if length bytes == 0 then Ok [] else and_then (read s bytes) (λ x. and_then (steps_at read grow fuel (grow s x.0) x.1) (λ xs. Ok (x.0 ∷ xs)))
+
+-- what was read before, and what is read of all that is left
+abbrev pub onto_all : {X : Type 0} → List X → Result (List X) Fault → Result (List X) Fault
+onto_all front read = and_then read (λ xs. Ok (front ++ xs))
 
 abbrev pub to_end : {S X : Type 0} → (S → Format X) → (S → X → S) → S → Whole (List X)
 to_end step grow s = record {

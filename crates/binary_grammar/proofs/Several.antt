@@ -1,12 +1,12 @@
 -- Several of one kind are read as they say.
-use Rattle.std.proofs.Common.{◌≡◌, ℕ, zero, suc, ◌+◌, ◌≤◌, ◌<◌, ◌⊎◌, Bool, true, false, cond, eqb, List, [], ◌∷◌, ◌++◌, length, Option, Some, None, Result, Ok, Err, refl, sym, ap, subst, ◌∙◌, append_assoc, arith, inl, inr}
+use Rattle.std.proofs.Common.{◌≡◌, ℕ, zero, suc, ◌+◌, ◌≤◌, ◌<◌, ◌⊎◌, Bool, true, false, cond, eqb, List, [], ◌∷◌, ◌++◌, length, Option, Some, None, Result, Ok, Err, refl, ap, subst, ◌∙◌, append_assoc, arith, inl, inr}
 use Rattle.std.specs.Prelude.{◌==◌}
 use Rattle.std.proofs.lemmas.Bool.{eqb-true}
 use Rattle.std.proofs.lemmas.List.{nil_from_length, length-append}
 use Rattle.binary_grammar.specs.declared.fault.Fault.{Fault}
 use Rattle.binary_grammar.specs.declared.fault.Rule.TheVariants as rules
 use Rattle.binary_grammar.specs.Format.{Format, Each, ◌>>=◌, yield, byte, and_then, wrong}
-use Rattle.binary_grammar.specs.Steps.{series, onward, Until, until_at, UntilBreak, until, unless, up_to, AreSteps, StepsBreak, here, later, steps_at, to_end}
+use Rattle.binary_grammar.specs.Several.{series, onward, Until, until_at, UntilBreak, until, unless, up_to, AreSteps, StepsBreak, here, later, steps_at, to_end}
 use Rattle.binary_grammar.proofs.Laws.{Found, Law, WholeLaw, moved, bind_ok, bind_err, ok_is, refused, some_left, not_empty, more_behind, behind_stays, in_three, bind_law, yield_law, byte_law}
 
 pub series_law : {S X : Type 0} (f : S → Format X) (grow : S → X → S) → ((s : S) → Law (f s)) → (n : ℕ) (s : S) → Law (series f grow n s)
