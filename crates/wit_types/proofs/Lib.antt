@@ -1,0 +1,4 @@
+pub mod Tracks
+pub mod Dots
+pub mod Aliases
+pub mod Keys

@@ -1,0 +1,12 @@
+pub mod Stability
+pub mod Mangling
+pub mod Size
+pub mod Kind
+pub mod Function
+pub mod Lending
+pub mod CoreName
+pub mod Package
+pub mod Track
+pub mod World
+pub mod WorldKey
+pub mod Shorthand

@@ -1,0 +1,43 @@
+-- Constructors that give their own resource (WIT, Resources).
+use Rattle.std.specs.Prelude.{◌≡◌, ◌<◌, ℕ, List, Option, Some, None, slice_get}
+use Rattle.wit_types.specs.declared.interface.TypeDef.{TypeDef}
+use Rattle.wit_types.specs.declared.kind.«Type».TheVariants.{Id}
+use Rattle.wit_types.specs.declared.kind.Handle.TheVariants.{Own}
+use Rattle.wit_types.specs.declared.kind.TypeDefKind.TheVariants as kind
+use Rattle.wit_types.specs.declared.function.Function.{Function}
+use Rattle.wit_types.specs.declared.function.FunctionKind.TheVariants.{Constructor}
+
+-- type i is another name of the earlier type j
+abbrev pub IsAlias : List TypeDef → ℕ → ℕ → Type 0
+IsAlias types i j = (d : TypeDef) × (slice_get types i ≡ Some d) × (d.kind ≡ kind.Alias (Id j)) × (j < i)
+
+-- type i is the own reference of j
+abbrev pub IsOwn : List TypeDef → ℕ → ℕ → Type 0
+IsOwn types i j = (d : TypeDef) × (slice_get types i ≡ Some d) × (d.kind ≡ kind.Handle (Own j))
+
+abbrev pub IsTarget : List TypeDef → ℕ → Option ℕ → Type 0
+IsTarget types i None = (j : ℕ) → IsAlias types i j → ⊥
+IsTarget types i (Some j) = IsAlias types i j
+
+abbrev pub IsOwned : List TypeDef → ℕ → Option ℕ → Type 0
+IsOwned types i None = (j : ℕ) → IsOwn types i j → ⊥
+IsOwned types i (Some j) = IsOwn types i j
+
+-- by its aliases type i is type j
+pub data Stands (types : List TypeDef) : ℕ → ℕ → Type 0 where
+  itself : (i : ℕ) → ((j : ℕ) → IsAlias types i j → ⊥) → Stands types i i
+  alias : (i j k : ℕ) → IsAlias types i j → Stands types j k → Stands types i k
+
+-- a constructor of a resource, whose result is by its aliases the own reference of what is by its aliases that resource
+pub record IsShorthand (types : List TypeDef) (f : Function) : Type 0 where
+  pub resource : ℕ
+  pub result : ℕ
+  pub handle : ℕ
+  pub owned : ℕ
+  pub leaf : ℕ
+  pub constructor : f.kind ≡ Constructor resource
+  pub answers : f.result ≡ Some (Id result)
+  pub unfolds : Stands types result handle
+  pub is_own : IsOwn types handle owned
+  pub owned_stands : Stands types owned leaf
+  pub resource_stands : Stands types resource leaf

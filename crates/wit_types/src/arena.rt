@@ -1,0 +1,75 @@
+//! Values under ids.
+
+ghost use Rattle.std.specs.Prelude.{◌≡◌, ◌<◌, ◌++◌, [], ◌∷◌, Some, length, IfOk, OnErr, slice_get};
+ghost use Rattle.std.specs.Slice.Iter.{iter_rest};
+
+use crate::id::Id;
+use std::alloc::{AllocError, Global};
+use std::marker::Model;
+use std::slice;
+
+/// What stands under ids of its own sort.
+pub trait Stored {
+    /// Says what sort that is.
+    type Tag;
+}
+
+/// Values under ids, which are their places: what is put in stays, and is never taken back.
+#[derive(Drop)]
+pub struct Arena<T> {
+    items: Vec<T>,
+}
+
+impl<T> Model for Arena<T> {
+    ghost use Rattle.std.specs.Prelude.{List};
+
+    ghost Value = { List T };
+
+    ghost view = { λ a. a.items.items };
+}
+
+impl<T: Stored> Arena<T> {
+    /// No values.
+    pub fn new(alloc: Global) -> Arena<T>
+        ensures { result ≡ [] }
+    {
+        Arena {
+            items: Vec::new(alloc),
+        }
+    }
+
+    /// Puts a value behind the others, and answers its id. Where memory is wanting nothing changes, and the value is
+    /// dropped.
+    pub fn alloc(&mut self, value: T) -> Result<Id<T::Tag>, AllocError>
+    where
+        T: Drop,
+        ensures ok { IfOk result (λ i. (i ≡ length self.old) × (self.new ≡ self.old ++ value ∷ [])) }
+        ensures err { OnErr result (self.new ≡ self.old) }
+    {
+        let index = self.items.len();
+        self.items.push(value)?;
+        Ok(Id::from_index(index))
+    }
+
+    /// The value under an id.
+    pub fn get(&self, id: Id<T::Tag>) -> &T
+        requires { id < length self.now }
+        ensures { slice_get self.now id ≡ Some result.now }
+    {
+        &self.items[id.index()]
+    }
+
+    /// How many values there are: each id below that number has one.
+    pub fn len(&self) -> usize
+        ensures { result ≡ length self.now }
+    {
+        self.items.len()
+    }
+
+    /// The values, by rising ids.
+    pub fn iter(&self) -> slice::Iter<'_, T>
+        ensures { iter_rest result ≡ self.now }
+    {
+        self.items.iter()
+    }
+}
