@@ -1,0 +1,4 @@
+pub mod Code
+pub mod Spaces
+pub mod Types
+pub mod Entries
