@@ -14,3 +14,5 @@ pub mod Each
 pub mod OneValue
 pub mod Inside
 pub mod Remaining
+pub mod Bits
+pub mod Examples

@@ -62,7 +62,7 @@ all_digits_say (suc k) n h =
 whole_is : (k : ℕ) → half (suc k) + half (suc k) ≡ 128 ^ (suc k)
 whole_is k = let e : suc k - 1 ≡ k = omega arith in rw e (omega (arith, pow-succ' 128 k))
 
-unsigned_fits : (k : ℕ) (z : ℤ) → lies_in (half (suc k)) z ≡ true → unsigned_in (suc k) z < 128 ^ (suc k)
+pub unsigned_fits : (k : ℕ) (z : ℤ) → lies_in (half (suc k)) z ≡ true → unsigned_in (suc k) z < 128 ^ (suc k)
 unsigned_fits k (pos n) h = let below = ltb-true _ _ h in omega (arith, whole_is k, below)
 unsigned_fits k (negsuc n) h = omega (arith, one-le-pow (suc k) 128 (omega arith))
 
@@ -93,20 +93,20 @@ digits_say (suc more) size z h =
           (rest.0, omega (arith, rest.1), rest.2, rest.3)
     ] refl
 
-power_is : (k : ℕ) → 128 ^ k ≡ 2 ^ (7 * k)
+pub power_is : (k : ℕ) → 128 ^ k ≡ 2 ^ (7 * k)
 power_is zero = refl
 power_is (suc k) =
     let e : 7 * suc k ≡ 7 * k + 7 = omega arith in
     rw (e, pow-succ' 128 k, pow-add 2 (7 * k) 7, power_is k) (omega arith)
 
 -- so many bits are within the reach of so many digits
-reach : (bits k : ℕ) → bits ≤ 7 * suc k → 2 ^ (bits - 1) ≤ half (suc k)
+pub reach : (bits k : ℕ) → bits ≤ 7 * suc k → 2 ^ (bits - 1) ≤ half (suc k)
 reach bits k h =
     let e : suc k - 1 ≡ k = omega arith in
     let more : 2 ^ (bits - 1) ≤ 2 ^ (7 * k + 6) = pow_mono (omega arith) in
     rw (e, power_is k) (omega (arith, more, pow-add 2 (7 * k) 6))
 
-wider : (small large : ℕ) (z : ℤ) → small ≤ large → lies_in small z ≡ true → lies_in large z ≡ true
+pub wider : (small large : ℕ) (z : ℤ) → small ≤ large → lies_in small z ≡ true → lies_in large z ≡ true
 wider small large (pos n) le h = let below = ltb-true _ _ h in lt-ltb _ _ (omega (arith, below))
 wider small large (negsuc n) le h = let below = ltb-true _ _ h in lt-ltb _ _ (omega (arith, below))
 

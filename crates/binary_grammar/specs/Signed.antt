@@ -26,6 +26,11 @@ abbrev pub lies_in : ℕ → ℤ → Bool
 lies_in h (pos n) = nat_lt n h
 lies_in h (negsuc n) = nat_lt n h
 
+-- how far from zero a number is; below zero, how far from the one there
+abbrev pub distance : ℤ → ℕ
+distance (pos n) = n
+distance (negsuc n) = n
+
 -- how many digits so many bits take
 abbrev pub digits_for : ℕ → ℕ
 digits_for bits = (bits + 6) / 7

@@ -1,12 +1,14 @@
 //! A cursor over bytes.
 
-ghost use Rattle.std.specs.Prelude.{◌≡◌, ◌+◌, ◌-◌, ◌<◌, ◌^◌, ◌==◌, true, false, length, IfOk, IfErr};
+ghost use Rattle.std.specs.Prelude.{◌≡◌, ◌+◌, ◌-◌, ◌<◌, ◌≤◌, ◌^◌, ◌==◌, true, false, length, IfOk, IfErr};
 ghost use Rattle.binary_grammar.specs.Cursor.{Cursor, offset as place};
 ghost use Rattle.binary_grammar.specs.Fault.{Gives};
 ghost use Rattle.binary_grammar.specs.Format.{byte_at, u32_at, Format, index, chunk, name, such, byte, counted_bytes, fault_at};
+ghost use Rattle.binary_grammar.specs.Signed.{signed};
 
 use crate::fault::{Fault, ReadError, Rule};
 use crate::reading::{byte_of, chunk_of, index_of, name_of, u32_of};
+use crate::signed_number::signed_of;
 use std::alloc::Global;
 use std::marker::Model;
 
@@ -119,6 +121,18 @@ impl<'a> Reader<'a> {
         ensures end { self.new.end ≡ self.old.end }
     {
         let (number, rest) = u32_of(self.rest)?;
+        self.rest = rest;
+        Ok(number)
+    }
+
+    /// A signed number of so many bits, at most 64 (Values, Integers).
+    #[tactic(auto, using(crate::proofs::Bits::signed_shorter))]
+    pub fn signed(&mut self, bits: u32) -> Result<i64, ReadError>
+        requires { (1 ≤ bits) × (bits ≤ 64) }
+        ensures gives { Gives (λ x. (x, self.new.left)) result ((signed bits).read self.old.left) }
+        ensures end { self.new.end ≡ self.old.end }
+    {
+        let (number, rest) = signed_of(bits, self.rest)?;
         self.rest = rest;
         Ok(number)
     }

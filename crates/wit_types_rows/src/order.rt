@@ -1,0 +1,74 @@
+//! Rows of names that need one another.
+
+use indexmap::IndexMap;
+use std::alloc::{AllocError, Global};
+use wit_words::Span;
+use wit_types::{Need, OrderFault, toposort};
+
+/// A name and the names that it needs: `NAME: [NAME ..`
+fn entry_of(part: &str) -> Option<(&str, &str)> {
+    part.split_once(": [")
+}
+
+/// The needs of a name, of which the first is the how manyth of the row.
+fn needs_of(alloc: Global, words: &str, from: u32) -> Result<Vec<Need<'_>>, AllocError> {
+    let mut needs = Vec::new(alloc);
+    let mut start = from;
+    for name in words.split_whitespace() {
+        let end = start.saturating_add(1);
+        let span = Span { start, end };
+        needs.push(Need { name, span })?;
+        start = end;
+    }
+    Ok(needs)
+}
+
+/// The table of a row.
+fn table_of<'a>(
+    alloc: Global,
+    row: &'a str,
+) -> Result<Option<IndexMap<&'a str, Vec<Need<'a>>>>, AllocError> {
+    let mut table = IndexMap::new(alloc);
+    let mut from = 0u32;
+    for part in row.split("], ") {
+        let Some((name, words)) = entry_of(part.trim_end_matches(']')) else {
+            return Ok(None);
+        };
+        let needs = needs_of(alloc, words, from)?;
+        from = from.saturating_add(u32::try_from(needs.len()).unwrap_or(0));
+        table.insert(name, needs)?;
+    }
+    Ok(Some(table))
+}
+
+/// The names with commas between them.
+fn names_text(alloc: Global, names: &[&str]) -> Result<String, AllocError> {
+    let mut out = String::new(alloc);
+    for name in names {
+        out.push_str(if out.is_empty() { "" } else { ", " })?;
+        out.push_str(*name)?;
+    }
+    Ok(out)
+}
+
+/// What a fault says, and where.
+fn fault_text(alloc: Global, fault: OrderFault<'_>) -> Result<String, AllocError> {
+    match fault {
+        OrderFault::NameNotFound { span, .. } | OrderFault::Cycle { span, .. } => {
+            let start = span.start;
+            format!(in alloc; "{fault}, at {start}")
+        }
+        OrderFault::OutOfMemory => Err(AllocError),
+    }
+}
+
+/// The answer to a row.
+pub fn answer(alloc: Global, kind: &str, row: &str) -> Result<Option<String>, AllocError> {
+    let Some(table) = table_of(alloc, row)? else {
+        return Ok(None);
+    };
+    match toposort(alloc, kind, &table) {
+        Ok(names) => Ok(Some(names_text(alloc, names.as_slice())?)),
+        Err(fault) => Ok(Some(fault_text(alloc, fault)?)),
+    }
+}
