@@ -8,7 +8,10 @@ use Rattle.wasm_types.specs.declared.types.EntityType.{EntityType}
 use Rattle.wasm_types.specs.declared.types.ExportKind.{ExportKind}
 use Rattle.wasm_types.specs.Code.{coded}
 use Rattle.wasm_types.specs.Spaces.{count}
-use Rattle.wasm_types.specs.Types.{Grammar, index, entity_type, kind_of, kind_byte}
+use Rattle.wasm_types.specs.declared.entries.Global.{Global}
+use Rattle.wasm_types.specs.declared.types.GlobalType.{GlobalType}
+use Rattle.wasm_types.specs.Expression.{InstructionValue, expression_value, expression}
+use Rattle.wasm_types.specs.Types.{Grammar, index, entity_type, kind_of, kind_byte, global_type}
 
 pub record ImportValue : Type 0 where
   pub place : List ℕ
@@ -45,3 +48,16 @@ type_index_value i = i.0
 
 unfoldable pub type_index : Grammar ℕ
 type_index = index (λ there. there.types)
+
+pub record GlobalValue : Type 0 where
+  pub ty : GlobalType
+  pub init : List InstructionValue
+
+abbrev pub global_value : Global → GlobalValue
+global_value g = record { ty = g.ty; init = expression_value g.init }
+
+unfoldable pub global_entry : Grammar GlobalValue
+global_entry = do
+  t ← (λ g. g.ty) ◂ global_type
+  e ← (λ g. g.init) ◂ expression
+  gives (record { ty = t; init = e })

@@ -1,4 +1,5 @@
 pub mod Code
 pub mod Spaces
 pub mod Types
+pub mod Expression
 pub mod Entries

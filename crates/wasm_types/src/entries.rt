@@ -4,8 +4,9 @@ ghost use Rattle.std.specs.Prelude.{◌≡◌};
 ghost use Rattle.wasm_types.specs.Entries as spec;
 
 use crate::code::{Code, coded_of};
+use crate::expression::Expression;
 use crate::spaces::Spaces;
-use crate::types::{EntityType, ExportKind};
+use crate::types::{EntityType, ExportKind, GlobalType};
 use binary_grammar::{Part, ReadError, Reader, WriteFault, put_name, put_number};
 
 /// An import: two names, and what is asked for (WebAssembly Core, Binary Format, Modules, Import Section).
@@ -127,6 +128,48 @@ impl<'a> Part<'a> for TypeIndex {
     #[tactic(auto, unfolding(crate::specs::Entries::type_index))]
     fn put(&self, out: &mut Vec<u8>) -> Result<(), WriteFault> {
         put_number(out, self.0)?;
+        Ok(())
+    }
+}
+
+/// A global of the module's own: its type, and the expression of its value (WebAssembly Core, Binary Format, Modules, Global
+/// Section).
+#[derive(Debug, Drop)]
+pub struct Global<'a> {
+    /// The type.
+    pub ty: GlobalType,
+    /// The expression.
+    pub init: Expression<'a>,
+}
+
+impl<'a> Part<'a> for Global<'a> {
+    type Context = Spaces;
+
+    ghost use Rattle.wasm_types.specs.declared.spaces.Spaces.{Spaces};
+    ghost use Rattle.wasm_types.specs.Entries as spec;
+    ghost use Rattle.wasm_types.specs.Entries.{GlobalValue};
+
+    ghost Value = { GlobalValue };
+
+    ghost Known = { Spaces };
+
+    ghost syntax = { spec.global_entry };
+
+    ghost known = { λ s. s };
+
+    ghost value = { spec.global_value };
+
+    #[tactic(auto, unfolding(crate::specs::Entries::global_entry))]
+    fn read(there: Spaces, from: &mut Reader<'a>) -> Result<Global<'a>, ReadError> {
+        let ty = GlobalType::read(there, from)?;
+        let init = Expression::read(there, from)?;
+        Ok(Global { ty, init })
+    }
+
+    #[tactic(auto, unfolding(crate::specs::Entries::global_entry))]
+    fn put(&self, out: &mut Vec<u8>) -> Result<(), WriteFault> {
+        self.ty.put(out)?;
+        self.init.put(out)?;
         Ok(())
     }
 }

@@ -3,11 +3,13 @@
 
 mod code;
 mod entries;
+mod expression;
 mod spaces;
 mod types;
 
 pub use code::{Code, coded_of};
-pub use entries::{Export, Import, TypeIndex};
+pub use entries::{Export, Global, Import, TypeIndex};
+pub use expression::{ConstantInstruction, Expression, HeapType};
 pub use spaces::Spaces;
 pub use types::{
     EntityType, ExportKind, FuncType, GlobalType, Limits, Mutability, RefType, TableType, ValType,
