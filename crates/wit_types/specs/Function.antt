@@ -1,4 +1,4 @@
--- What functions are called and whose they are (WIT, Functions and Resources).
+-- What functions are called and whose they are (WIT, Items: `func` and `resource`).
 use Rattle.std.specs.List.{All}
 use Rattle.std.specs.Prelude.{◌≡◌, ◌≢◌, ◌⊎◌, ℕ, List, ◌∷◌, ◌++◌, Option, Some, None, map, codes, option_to_list}
 use Rattle.wit_types.specs.declared.kind.«Type».{«Type» as WitType}

@@ -1,4 +1,4 @@
--- The texts of package names and of the keys of interfaces (WIT, Package Names; Component Model, Import and Export Names).
+-- The texts of package names and of the keys of interfaces (WIT, Package Names; Component Model, Import and Export Definitions).
 use Rattle.std.specs.Prelude.{ℕ, List, ◌++◌, Option, Some, None, codes, string_bytes}
 use Rattle.semver.specs.Identifiers.{version_text}
 use Rattle.semver.specs.declared.Version.{Version}

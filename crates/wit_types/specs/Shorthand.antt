@@ -1,4 +1,4 @@
--- Constructors that give their own resource (WIT, Resources).
+-- Constructors that give their own resource (WIT, Item: `resource`).
 use Rattle.std.specs.Prelude.{◌≡◌, ◌<◌, ℕ, List, Option, Some, None, slice_get}
 use Rattle.wit_types.specs.declared.interface.TypeDef.{TypeDef}
 use Rattle.wit_types.specs.declared.kind.«Type».TheVariants.{Id}

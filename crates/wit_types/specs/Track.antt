@@ -1,4 +1,4 @@
--- The tracks of versions (Component Model, Import and Export Names).
+-- The tracks of versions (Component Model, Import and Export Definitions).
 use Rattle.std.specs.Prelude.{◌≡◌, ◌≢◌, ℕ, zero, suc, List, [], ◌∷◌, ◌++◌, Option, Some, None, String, codes, string_bytes}
 use Rattle.std.specs.Fmt.{decimal}
 use Rattle.std.specs.declared.alloc.Global.{Global}

@@ -1,4 +1,4 @@
--- What the items of a world are (WIT, Worlds and Feature Gates).
+-- What the items of a world are (WIT, Item: `world` and Feature Gates).
 use Rattle.std.specs.Prelude.{◌≡◌, ◌<◌, List, Some, length, slice_get}
 use Rattle.wit_words.specs.declared.source_map.Span.{Span}
 use Rattle.wit_types.specs.declared.interface.TypeDef.{TypeDef}

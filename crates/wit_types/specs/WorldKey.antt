@@ -1,4 +1,4 @@
--- What the items of a world are known by (WIT, Worlds).
+-- What the items of a world are known by (WIT, Item: `world`).
 use Rattle.std.specs.Prelude.{◌≡◌, ◌↔◌, ℕ, Bool, false, List, ◌++◌, nat_eq, bytes_eq, string_bytes, codes, IsTrue}
 use Rattle.std.specs.Bool.{Decides}
 use Rattle.std.specs.Cmp.{IsEquivalence, IsPartialEquivalence, decided, on_equiv, partial_equiv_from_equiv, unsigned_Decides}

@@ -11,7 +11,7 @@ use crate::id::TypeId;
 use crate::kind::Type;
 use crate::stability::Stability;
 
-/// A function (WIT, Functions).
+/// A function (WIT, Item: `func`).
 #[derive(Drop)]
 pub struct Function {
     /// Its name; that of a method `[method]resource.name`, of a static function `[static]resource.name`, of a constructor
@@ -42,7 +42,7 @@ pub struct Param {
     pub span: Span,
 }
 
-/// Whose a function is, and whether it is asynchronous (WIT, Functions and Resources).
+/// Whose a function is, and whether it is asynchronous (WIT, Items: `func` and `resource`).
 #[derive(Clone, Copy, PartialEq, Eq)]
 pub enum FunctionKind {
     /// Of no resource.

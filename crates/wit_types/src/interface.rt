@@ -9,7 +9,7 @@ use crate::kind::TypeDefKind;
 use crate::stability::Stability;
 use indexmap::IndexMap;
 
-/// An interface (WIT, Interfaces).
+/// An interface (WIT, Item: `interface`).
 #[derive(Drop)]
 pub struct Interface {
     /// Its name; one that stands in a world has none.

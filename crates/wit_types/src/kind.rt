@@ -77,7 +77,7 @@ pub enum TypeDefKind {
     Unknown,
 }
 
-/// A reference to a resource (WIT, Handles).
+/// A reference to a resource (WIT, Types).
 #[derive(Clone, Copy, PartialEq, Eq)]
 pub enum Handle {
     /// `own<resource>`
@@ -86,7 +86,7 @@ pub enum Handle {
     Borrow(TypeId),
 }
 
-/// A record (WIT, Records).
+/// A record (WIT, Item: `record`).
 #[derive(Drop)]
 pub struct Record {
     /// Its fields, in order.
@@ -106,7 +106,7 @@ pub struct Field {
     pub span: Span,
 }
 
-/// Flags (WIT, Flags).
+/// Flags (WIT, Item: `flags`).
 #[derive(Drop)]
 pub struct Flags {
     /// The flags, in order.
@@ -131,7 +131,7 @@ pub struct Tuple {
     pub types: Vec<Type>,
 }
 
-/// A variant (WIT, Variants).
+/// A variant (WIT, Item: `variant`).
 #[derive(Drop)]
 pub struct Variant {
     /// Its cases, in order.
@@ -151,7 +151,7 @@ pub struct Case {
     pub span: Span,
 }
 
-/// An enum (WIT, Enums).
+/// An enum (WIT, Item: `enum`).
 #[derive(Drop)]
 pub struct Enum {
     /// Its cases, in order.

@@ -61,7 +61,7 @@ impl PackageName {
     }
 }
 
-/// A package (WIT, Packages).
+/// A package (WIT, Package Names).
 #[derive(Drop)]
 pub struct Package {
     /// Its name.

@@ -11,7 +11,7 @@ use crate::kind::{Handle, Type, TypeDefKind};
 
 impl Function {
     /// Whether it is a constructor whose result, by its aliases, is the own reference of its resource, as it is where the
-    /// text says nothing of the result (WIT, Resources). Types are looked up among these, and an alias stands for an
+    /// text says nothing of the result (WIT, Item: `resource`). Types are looked up among these, and an alias stands for an
     /// earlier type alone.
     pub fn is_constructor_shorthand(&self, types: &Arena<TypeDef>) -> bool
         ensures { IsTrue result ↔ IsShorthand types.now self.now }

@@ -12,7 +12,7 @@ impl PackageName {
     /// The track of a version, as a version, and what stands behind the track's text in the version's, if something does.
     /// Versions of one track may stand for one another: of x.y.z with x above 0 it is x, of 0.y.z with y above 0 it is
     /// 0.y, of 0.0.z it is 0.0.z; a version with a pre-release is its own, without its build text (Component Model, Import
-    /// and Export Names). What a track leaves out is 0 in the answer.
+    /// and Export Definitions). What a track leaves out is 0 in the answer.
     pub fn version_compat_track(
         alloc: Global,
         version: &Version,

@@ -13,7 +13,7 @@ use crate::stability::Stability;
 use crate::world_key::WorldKey;
 use indexmap::IndexMap;
 
-/// A world (WIT, Worlds).
+/// A world (WIT, Item: `world`).
 #[derive(Drop)]
 pub struct World {
     /// Its name.
@@ -38,7 +38,7 @@ impl Stored for World {
     type Tag = WorldTag;
 }
 
-/// A world that another includes (WIT, Include).
+/// A world that another includes (WIT, Item: `include`).
 #[derive(Drop)]
 pub struct WorldInclude {
     /// How stable that is.
@@ -60,7 +60,7 @@ pub struct IncludeName {
     pub as_: String,
 }
 
-/// What a world imports or exports (WIT, Worlds).
+/// What a world imports or exports (WIT, Item: `world`).
 #[derive(Drop)]
 pub enum WorldItem {
     /// An interface.

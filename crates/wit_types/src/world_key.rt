@@ -7,7 +7,7 @@ use crate::id::InterfaceId;
 use std::alloc::{AllocError, Global};
 use std::hash::{Hash, Hasher};
 
-/// What an item of a world is known by (WIT, Worlds): a plain name, by its spelling, or an interface.
+/// What an item of a world is known by (WIT, Item: `world`): a plain name, by its spelling, or an interface.
 #[derive(Clone, Drop)]
 pub enum WorldKey {
     /// A plain name.
