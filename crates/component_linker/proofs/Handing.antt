@@ -164,9 +164,12 @@ pub push_cause : (files : List (Bor (List ℕ) × Bor (List ℕ))) (given : Inpu
     → ((p : PackageMeaning) → CanPush given text p → fault ≡ causes.OutOfMemory) → (fault ≡ causes.OutOfMemory) ⊎ (fault ≡ causes.NotYet) → IsPushCause files given fault (inputs.Text path)
 push_cause files given path text fault file only (inl memory) = inl memory
 push_cause files given path text fault file only (inr later) =
-    inr (later, λ other p there can.
-        let same : other ≡ text = one_file other text (sym there ∙ file) in
-        let bad : causes.NotYet ≡ causes.OutOfMemory = sym later ∙ only p (subst (λ t. CanPush given t p) same can) in cc)
+    inr (
+      later,
+      λ other p there can.
+          let same : other ≡ text = one_file other text (sym there ∙ file) in
+          let bad : causes.NotYet ≡ causes.OutOfMemory = sym later ∙ only p (subst (λ t. CanPush given t p) same can) in cc,
+    )
 
 -- with what was taken before, no more is known of a session than the inputs say
 pub text_stop : (files : List (Bor (List ℕ) × Bor (List ℕ))) (before : List LineInput) (given : Input) (x : LineInput) (s : Stop) → AreSources files before given.sources → ArePackages given.sources given.packages

@@ -3,8 +3,8 @@
 use crate::samples::{function_of, type_of};
 use semver::Version;
 use std::alloc::{AllocError, Global};
-use wit_words::Span;
 use wit_types::{Arena, Docs, FunctionKind, Id, Stability, TypeDef, TypeDefKind, WorldItem};
+use wit_words::Span;
 
 /// The stability that a word names: `unknown`, `unstable`, `stable` or `default`.
 fn stability_by(alloc: Global, word: &str) -> Option<Stability> {

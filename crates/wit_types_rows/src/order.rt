@@ -2,8 +2,8 @@
 
 use indexmap::IndexMap;
 use std::alloc::{AllocError, Global};
-use wit_words::Span;
 use wit_types::{Need, OrderFault, toposort};
+use wit_words::Span;
 
 /// A name and the names that it needs: `NAME: [NAME ..`
 fn entry_of(part: &str) -> Option<(&str, &str)> {

@@ -1,8 +1,8 @@
 //! Parts that no answer speaks of.
 
 use std::alloc::{AllocError, Global};
-use wit_words::Span;
 use wit_types::{Docs, Function, FunctionKind, Stability, TypeDef, TypeDefKind, TypeOwner};
+use wit_words::Span;
 
 /// Some place.
 pub fn somewhere() -> Span {
