@@ -48,6 +48,13 @@ impl<'a> Reader<'a> {
         self.alloc
     }
 
+    /// The bytes that are left.
+    pub fn rest(&self) -> &'a [u8]
+        ensures { result.now ≡ self.now.left }
+    {
+        self.rest
+    }
+
     /// How many bytes are left.
     pub fn left(&self) -> usize
         ensures { result ≡ length self.now.left }

@@ -1,0 +1,176 @@
+//! The sections of a module.
+
+ghost use Rattle.std.specs.Prelude.{◌≡◌, List, map, IfSome, IfOk, IfErr, MatchResult};
+ghost use Rattle.binary_grammar.specs.Fault.{Gives};
+ghost use Rattle.binary_grammar.specs.Syntax.{meaning};
+ghost use Rattle.wasm_types.specs.Entries.{import_value};
+ghost use Rattle.wasm_types.specs.Types.{kind_of_entity};
+ghost use Rattle.wasm_sections.specs.Module as spec;
+ghost use Rattle.wasm_sections.specs.Module.{AreSections, IsSectionsFault};
+
+use crate::section::{Holding, Section, SectionId, rank_of, section_behind, section_id_of};
+use binary_grammar::{ReadError, Reader, Rule, Steps, broken_at, steps_of};
+use std::alloc::Global;
+use wasm_types::{Code, EntityType, ExportKind, Import, Spaces};
+
+/// The sort of what an import asks for.
+fn kind_of(ty: EntityType) -> ExportKind
+    ensures { result ≡ kind_of_entity ty }
+{
+    match ty {
+        EntityType::Function(_) => ExportKind::Func,
+        EntityType::Table(_) => ExportKind::Table,
+        EntityType::Memory(_) => ExportKind::Memory,
+        EntityType::Global(_) => ExportKind::Global,
+    }
+}
+
+/// How many imports are of a sort.
+fn imported(kind: ExportKind, imports: &[Import<'_>]) -> usize
+    ensures { result ≡ spec.imported kind (map import_value imports.now) }
+{
+    let mut count = 0;
+    for import in imports {
+        if kind_of(import.ty).byte() == kind.byte() {
+            count += 1;
+        }
+    }
+    count
+}
+
+/// What is there with what a section holds, unless that can't be counted.
+fn spaces_with(there: Spaces, holds: &Holding<'_>) -> Option<Spaces>
+    ensures { IfSome result (λ s. s ≡ spec.spaces_with there (spec.holding_value holds.now)) }
+{
+    let mut spaces = there;
+    match holds {
+        Holding::Types(types) => spaces.types = there.types.checked_add(types.len())?,
+        Holding::Imports(imports) => return spaces_with_imports(there, imports),
+        Holding::Functions(functions) => {
+            spaces.functions = there.functions.checked_add(functions.len())?;
+        }
+        Holding::Tables(tables) => spaces.tables = there.tables.checked_add(tables.len())?,
+        Holding::Memories(memories) => {
+            spaces.memories = there.memories.checked_add(memories.len())?;
+        }
+        Holding::Globals(globals) => spaces.globals = there.globals.checked_add(globals.len())?,
+        Holding::Exports(_) | Holding::Framed => {}
+    }
+    Some(spaces)
+}
+
+fn spaces_with_imports(there: Spaces, imports: &[Import<'_>]) -> Option<Spaces>
+    ensures { IfSome result (λ s. s ≡ spec.spaces_with there (spec.imports (map import_value imports.now))) }
+{
+    let functions = imported(ExportKind::Func, imports);
+    let tables = imported(ExportKind::Table, imports);
+    let memories = imported(ExportKind::Memory, imports);
+    let globals = imported(ExportKind::Global, imports);
+    Some(Spaces {
+        types: there.types,
+        functions: there.functions.checked_add(functions)?,
+        tables: there.tables.checked_add(tables)?,
+        memories: there.memories.checked_add(memories)?,
+        globals: there.globals.checked_add(globals)?,
+    })
+}
+
+/// The sections that were read.
+#[derive(Drop)]
+pub struct SectionsReader<'a> {
+    spaces: Spaces,
+    rank: u8,
+    sections: Vec<Section<'a>>,
+}
+
+impl<'a> SectionsReader<'a> {
+    /// Whether a section of this sort may stand next.
+    fn is_in_order(&self, id: SectionId) -> bool
+        ensures { result ≡ spec.is_in_order id (spec.progress_of self.now) }
+    {
+        rank_of(id) == 0 || self.rank < rank_of(id)
+    }
+}
+
+impl<'a> Steps<'a> for SectionsReader<'a> {
+    type Item = Section<'a>;
+
+    ghost use Rattle.std.specs.Prelude.{map};
+    ghost use Rattle.wasm_sections.specs.Module as spec;
+
+    ghost Value = { spec.SectionValue };
+
+    ghost Known = { spec.Progress };
+
+    ghost grow = { spec.progress_with };
+
+    ghost which = { spec.byte_of };
+
+    ghost next = { spec.next };
+
+    ghost value = { spec.section_value };
+
+    ghost known = { spec.progress_of };
+
+    ghost values = { λ r. map spec.section_value r.sections.items };
+
+    #[tactic(auto, unfolding(crate::specs::Module::next))]
+    fn read(&self, kind: u8, from: &mut Reader<'a>) -> Result<Section<'a>, ReadError> {
+        match section_id_of(kind) {
+            Ok(id) if self.is_in_order(id) => section_behind(id, self.spaces, from),
+            Ok(_) => Err(from.broken(Rule::Order)),
+            Err(rule) => Err(from.broken(rule)),
+        }
+    }
+
+    fn add(&mut self, item: Section<'a>) -> Result<(), ReadError> {
+        let Some(spaces) = spaces_with(self.spaces, &item.holds) else {
+            return Err(ReadError::Memory);
+        };
+        let rank = self.rank.max(rank_of(item.id));
+        self.sections.push(item)?;
+        self.spaces = spaces;
+        self.rank = rank;
+        Ok(())
+    }
+}
+
+const HEADER: [u8; 8] = [0, 0x61, 0x73, 0x6d, 1, 0, 0, 0];
+
+const NO_SPACES: Spaces = Spaces {
+    types: 0,
+    functions: 0,
+    tables: 0,
+    memories: 0,
+    globals: 0,
+};
+
+#[tactic(auto, unfolding(crate::specs::Module::file, crate::specs::Module::sections))]
+fn sections_of(alloc: Global, bytes: &[u8]) -> Result<Vec<Section<'_>>, ReadError>
+    ensures { Gives (λ v. map spec.section_value v.items) result ((meaning spec.file spec.nothing).read bytes.now) }
+{
+    let mut from = Reader::new(alloc, bytes);
+    let at = from.left();
+    if from.bytes(8)? != HEADER.as_slice() {
+        return Err(broken_at(Rule::Header, at));
+    }
+    let mut state = SectionsReader {
+        spaces: NO_SPACES,
+        rank: 0,
+        sections: Vec::new(alloc),
+    };
+    steps_of(&mut state, &mut from)?;
+    let SectionsReader { sections, .. } = state;
+    Ok(sections)
+}
+
+/// The sections of the core module that the bytes are, in their order, each with what it holds (WebAssembly Core, Binary
+/// Format, Modules). Bytes that are no module break a rule, and are refused by the first that they break, and its place.
+#[tactic(auto, using(crate::proofs::Reading::answers_found, crate::proofs::Reading::answers_only, crate::proofs::Reading::answers_fault))]
+pub fn read_sections(alloc: Global, bytes: &[u8]) -> Result<Vec<Section<'_>>, ReadError>
+    ensures found { IfOk result (λ v. AreSections bytes.now (map spec.section_value v.items)) }
+    ensures only { (ss : List spec.SectionValue) → AreSections bytes.now ss → MatchResult result (λ v. map spec.section_value v.items ≡ ss) (λ e. e ≡ ReadError.Memory) }
+    ensures fault { IfErr result (IsSectionsFault bytes.now) }
+{
+    sections_of(alloc, bytes)
+}
