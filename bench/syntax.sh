@@ -16,7 +16,7 @@ trap 'rm -rf "$folder"' EXIT
 program=$folder/crates/syntax_bench
 mkdir -p "$program/src" "$folder/texts"
 cp "$top/bench/syntax/main.rt.txt" "$program/src/main.rt"
-for crate in wit_tokens wit_productions wit_syntax; do
+for crate in wit_words wit_tokens wit_productions wit_items wit_syntax; do
     cp -R "$top/crates/$crate" "$folder/crates/"
     grep "^$crate:" "$top/crates.txt" >>"$folder/crates.txt"
 done

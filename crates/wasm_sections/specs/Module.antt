@@ -1,5 +1,5 @@
 -- Core modules as bytes (WebAssembly Core, Binary Format, Modules).
-use Rattle.std.specs.Prelude.{ℕ, suc, ◌+◌, max, List, [], ◌∷◌, map, length, filter, Result, Ok, Err, Bool, true, false, nat_lt, ◌==◌, ◌||◌, if◌then◌else◌, bytes_eq}
+use Rattle.std.specs.Prelude.{ℕ, suc, ◌+◌, max, List, [], ◌∷◌, map, length, filter, Result, Ok, Err, Bool, true, false, nat_lt, ◌==◌, ◌||◌, if◌then◌else◌, bytes_eq, ◌<◌, ◌^◌}
 use Rattle.binary_grammar.specs.declared.fault.ReadError.{ReadError}
 use Rattle.binary_grammar.specs.declared.fault.ReadError.TheVariants as errors
 use Rattle.binary_grammar.specs.declared.fault.Rule.{Rule}
@@ -96,6 +96,10 @@ spaces_with there (memories ms) = record there { memories = there.memories + len
 spaces_with there (globals gs) = record there { globals = there.globals + length gs }
 spaces_with there (exports es) = there
 spaces_with there framed = there
+
+-- 64 bits say each count
+abbrev pub Fits : Spaces → Type 0
+Fits there = (there.types < 2 ^ 64) × (there.functions < 2 ^ 64) × (there.tables < 2 ^ 64) × (there.memories < 2 ^ 64) × (there.globals < 2 ^ 64)
 
 abbrev pub progress_with : Progress → SectionValue → Progress
 progress_with p s = record { spaces = spaces_with p.spaces s.holds; rank = max p.rank (rank_of s.id) }

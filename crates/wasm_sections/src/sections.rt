@@ -1,6 +1,6 @@
 //! The sections of a module.
 
-ghost use Rattle.std.specs.Prelude.{◌≡◌, List, map, IfSome, IfOk, IfErr, MatchResult};
+ghost use Rattle.std.specs.Prelude.{◌≡◌, List, map, IfSome, IsSome, IfOk, IfErr, MatchResult};
 ghost use Rattle.binary_grammar.specs.Fault.{Gives};
 ghost use Rattle.binary_grammar.specs.Syntax.{meaning};
 ghost use Rattle.wasm_types.specs.Entries.{import_value};
@@ -40,7 +40,8 @@ fn imported(kind: ExportKind, imports: &[Import<'_>]) -> usize
 
 /// What is there with what a section holds, unless that can't be counted.
 fn spaces_with(there: Spaces, holds: &Holding<'_>) -> Option<Spaces>
-    ensures { IfSome result (λ s. s ≡ spec.spaces_with there (spec.holding_value holds.now)) }
+    ensures value { IfSome result (λ s. s ≡ spec.spaces_with there (spec.holding_value holds.now)) }
+    ensures fits { spec.Fits (spec.spaces_with there (spec.holding_value holds.now)) → IsSome result }
 {
     let mut spaces = there;
     match holds {
@@ -60,7 +61,8 @@ fn spaces_with(there: Spaces, holds: &Holding<'_>) -> Option<Spaces>
 }
 
 fn spaces_with_imports(there: Spaces, imports: &[Import<'_>]) -> Option<Spaces>
-    ensures { IfSome result (λ s. s ≡ spec.spaces_with there (spec.imports (map import_value imports.now))) }
+    ensures value { IfSome result (λ s. s ≡ spec.spaces_with there (spec.imports (map import_value imports.now))) }
+    ensures fits { spec.Fits (spec.spaces_with there (spec.imports (map import_value imports.now))) → IsSome result }
 {
     let functions = imported(ExportKind::Func, imports);
     let tables = imported(ExportKind::Table, imports);
