@@ -7,10 +7,10 @@ use Rattle.std.proofs.lemmas.Bool.{and_parts, and_from}
 use Rattle.std.proofs.lemmas.Bool.Decides.{Decides-eqb}
 use Rattle.std.proofs.lemmas.Slice.Eq.{slice_eq-Decides, bytes_eq-Decides}
 use Rattle.std.proofs.lemmas.Option.{same_Some}
-use Rattle.wasm_format.specs.declared.types.ValType.{ValType}
-use Rattle.wasm_format.specs.declared.types.ValType.TheVariants as values
-use Rattle.wasm_format.specs.declared.types.RefType.TheVariants as references
-use Rattle.wasm_format.specs.Module.{FuncTypeValue}
+use Rattle.wasm_types.specs.declared.types.ValType.{ValType}
+use Rattle.wasm_types.specs.declared.types.ValType.TheVariants as values
+use Rattle.wasm_types.specs.declared.types.RefType.TheVariants as references
+use Rattle.wasm_types.specs.Types.{FuncTypeValue}
 use Rattle.component_format.specs.declared.definition.PrimitiveType.{PrimitiveType}
 use Rattle.component_format.specs.declared.definition.PrimitiveType.TheVariants as primitives
 use Rattle.component_format.specs.Definition.{ParameterValue, FunctionTypeValue}

@@ -4,10 +4,12 @@ use Rattle.std.specs.Prelude.{map, option_map, option_and_then, slice_get, bytes
 use Rattle.std.proofs.lemmas.Bool.{cases_Bool}
 use Rattle.component_audit.specs.FirstPlaces.{place_of}
 use Rattle.std.proofs.lemmas.List.{drop_all}
-use Rattle.wasm_format.specs.declared.core_module.Import.{Import}
-use Rattle.wasm_format.specs.declared.core_module.Export.{Export}
-use Rattle.wasm_format.specs.Module.{FuncTypeValue, ModuleValue, import_value, export_value}
-use Rattle.wit_component.specs.Linking.{core_import, core_export, function_type_at}
+use Rattle.wasm_types.specs.declared.entries.Import.{Import}
+use Rattle.wasm_types.specs.declared.entries.Export.{Export}
+use Rattle.wasm_types.specs.Types.{FuncTypeValue}
+use Rattle.wasm_types.specs.Entries.{import_value, export_value}
+use Rattle.wasm_format.specs.Module.{ModuleValue, exported_type}
+use Rattle.wit_component.specs.Linking.{core_import, core_export}
 use Rattle.component_format.specs.declared.definition.Argument.{Argument}
 use Rattle.component_format.specs.declared.definition.InlineExport.{InlineExport}
 use Rattle.component_format.specs.Definition.{argument_value, inline_export_value}
@@ -152,14 +154,14 @@ module _ (m : ModuleValue) (bytes : List ℕ) where
   export_names (x ∷ xs) = ap (λ (ns : List (List ℕ)). x.name.now ∷ ns) (export_names xs)
 
   abbrev pub export_item : Export → Option CoreFunction
-  export_item e = option_map (λ (t : FuncTypeValue). record { end = exported e.name.now; ty = t }) (function_type_at m e.index)
+  export_item e = option_map (λ (t : FuncTypeValue). record { end = exported e.name.now; ty = t }) (exported_type m e.kind e.index)
 
   export_at_place : (xs : List Export) (i : ℕ) → entry_item (export_entries xs) i ≡ option_and_then export_item (slice_get xs i)
   export_at_place [] i = refl
   export_at_place (x ∷ xs) zero = refl
   export_at_place (x ∷ xs) (suc i) = export_at_place xs i
 
-  pub export_here : (xs : List Export) (i : ℕ) (e : Export) (t : Option FuncTypeValue) → slice_get xs i ≡ Some e → t ≡ function_type_at m e.index
+  pub export_here : (xs : List Export) (i : ℕ) (e : Export) (t : Option FuncTypeValue) → slice_get xs i ≡ Some e → t ≡ exported_type m e.kind e.index
       → option_map (λ (u : FuncTypeValue). record { end = exported e.name.now; ty = u }) t ≡ entry_item (export_entries xs) i
   export_here xs i e t at is = ap (option_map (λ (u : FuncTypeValue). record { end = exported e.name.now; ty = u })) is ∙ sym (export_at_place xs i ∙ ap (option_and_then export_item) at)
 

@@ -4,7 +4,8 @@ ghost use Rattle.std.specs.Prelude.{◌≡◌, ◌≢◌, ◌⊎◌, nat_le, ℕ
 ghost use Rattle.std.specs.Bool.{Decides};
 ghost use Rattle.std.specs.Cmp.Lexicographic.{pointwise};
 ghost use Rattle.std.specs.List.{list_all, AllByRecursion as Each};
-ghost use Rattle.wasm_format.specs.Module.{module_value, import_value, export_value};
+ghost use Rattle.wasm_types.specs.Entries.{import_value, export_value};
+ghost use Rattle.wasm_format.specs.Module.{module_value};
 ghost use Rattle.component_format.specs.Definition.{function_type_value, parameter_value, definition_values};
 ghost use Rattle.component_format.specs.Found.{AreWithin as DefinitionsWithin};
 ghost use Rattle.component_format.specs.Names.{all_new};

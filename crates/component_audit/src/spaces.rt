@@ -2,7 +2,7 @@
 
 ghost use Rattle.std.specs.Prelude.{◌≡◌, ℕ, [], map, option_map};
 ghost use Rattle.std.specs.Cmp.Lexicographic.{pointwise};
-ghost use Rattle.wasm_format.specs.Module.{func_type_value};
+ghost use Rattle.wasm_types.specs.Types.{func_type_value};
 ghost use Rattle.component_format.specs.Definition.{parameter_value, function_type_value};
 ghost use Rattle.wit_component.specs.Flat.{flat, flat_value, flat_result};
 ghost use Rattle.wit_component.specs.Linking.{MainModule};

@@ -1,9 +1,10 @@
 //! From the definitions of a component to what their indices stand for.
 
 ghost use Rattle.std.specs.Prelude.{◌≡◌, ◌≤◌, [], ◌∷◌, ◌++◌, map, slice_get, option_map, option_and_then, IfOk, IfErr, OnOk};
-ghost use Rattle.wasm_format.specs.Module.{module_value, import_value};
+ghost use Rattle.wasm_types.specs.Entries.{import_value};
+ghost use Rattle.wasm_format.specs.Module.{module_value, imported_type};
 ghost use Rattle.component_format.specs.Definition.{function_type_value, argument_value, inline_export_value, definition_value, core_module_of, instantiation_of, inline_of, alias_of, type_of, lift_of, lower_of, import_of, export_of};
-ghost use Rattle.wit_component.specs.Linking.{core_import, entity_type};
+ghost use Rattle.wit_component.specs.Linking.{core_import};
 ghost use Rattle.wit_component.specs.Meaning as meant;
 ghost use Rattle.component_audit.specs.SpacesView as view;
 ghost use Rattle.component_audit.specs.SpacesView.{entry_item, argument_item};
@@ -464,7 +465,7 @@ fn imported<'c>(name: &'c str, ty: Option<&'c FunctionType<'c>>) -> Option<Compo
 
 /// Whether what an import is given is of its core type.
 pub fn is_of_type(linking: &Linking, import: &Import, function: &Option<CoreFunction>) -> bool
-    ensures { result ≡ meant.is_of_core_type (entity_type (module_value linking.now.main) import.now.ty) (option_map view.core_function function.now) }
+    ensures { result ≡ meant.is_of_core_type (imported_type (module_value linking.now.main) import.now.ty) (option_map view.core_function function.now) }
 {
     match (linking.import_type(import), function) {
         (Some(asked), Some(function)) => function.ty.is(asked),

@@ -6,7 +6,7 @@ use Rattle.std.proofs.lemmas.Bool.{lt-ltb, ltb-true, eqb-true}
 use Rattle.std.proofs.lemmas.List.{append-nil}
 use Rattle.std.proofs.lemmas.List.Elements.{recursion_from_All}
 use Rattle.std.proofs.lemmas.List.Concat.{flat_map-cons}
-use Rattle.wasm_format.specs.declared.types.ExportKind.TheVariants as sorts
+use Rattle.wasm_types.specs.declared.types.ExportKind.TheVariants as sorts
 use Rattle.binary_grammar.specs.Format.{Format, Each, IsLeb, IsU32, judge, index, name, vec}
 use Rattle.component_format.specs.declared.definition.PrimitiveType.{PrimitiveType}
 use Rattle.component_format.specs.declared.definition.PrimitiveType.TheVariants as primitives

@@ -6,8 +6,8 @@ use Rattle.binary_grammar.specs.declared.fault.Fault.{Fault}
 use Rattle.binary_grammar.specs.declared.fault.Rule.{Rule}
 use Rattle.binary_grammar.specs.declared.fault.Rule.TheVariants as rules
 use Rattle.binary_grammar.specs.Format.{Format, Whole, ◌>>=◌, yield, refuse, judge, such, byte, tag, chunk, u32, index, name, vec, exactly, begins, everything, keeping, sized, wrong, and_then, Joins}
-use Rattle.wasm_format.specs.declared.types.ExportKind.{ExportKind}
-use Rattle.wasm_format.specs.declared.types.ExportKind.TheVariants as kinds
+use Rattle.wasm_types.specs.declared.types.ExportKind.{ExportKind}
+use Rattle.wasm_types.specs.declared.types.ExportKind.TheVariants as kinds
 use Rattle.component_format.specs.declared.definition.PrimitiveType.{PrimitiveType}
 use Rattle.component_format.specs.declared.definition.PrimitiveType.TheVariants as primitives
 use Rattle.component_format.specs.declared.definition.Items.{Items}

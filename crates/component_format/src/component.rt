@@ -15,9 +15,9 @@ use crate::found::Found;
 use crate::reading::{
     arguments_of, core_sort_of, extern_name_of, function_type_of, inline_exports_of, options_of,
 };
+use binary_grammar::reading::{byte_of, chunk_of, fault, index_of, moved, name_of, tag_of, u32_of};
+use binary_grammar::{Fault, ReadError, Rule};
 use std::alloc::Global;
-use wasm_format::reading::{byte_of, chunk_of, fault, index_of, moved, name_of, tag_of, u32_of};
-use wasm_format::{Fault, ReadError, Rule};
 
 /// The first eight bytes of a component.
 pub const HEADER: [u8; 8] = [0, 0x61, 0x73, 0x6d, 0x0d, 0, 1, 0];

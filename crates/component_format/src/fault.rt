@@ -2,9 +2,9 @@
 
 ghost use Rattle.std.specs.Prelude.{◌≡◌};
 
+use binary_grammar::Rule;
 use std::alloc::{AllocError, AllocFailed};
 use thiserror::Error;
-use wasm_format::Rule;
 
 /// Why bytes are no component that can be read.
 #[derive(Clone, Copy, Debug, PartialEq, Eq, Drop, Error)]

@@ -9,9 +9,12 @@ ghost use Rattle.component_format.specs.Definition.{ParameterValue, ArgumentValu
 
 use crate::definition::{Argument, FunctionType, InlineExport, Parameter, PrimitiveType};
 use crate::names::Names;
+use binary_grammar::reading::{
+    VectorItem, byte_of, fault, index_of, name_of, tag_of, u32_of, vec_of,
+};
+use binary_grammar::{ReadError, Rule};
 use std::alloc::{AllocError, Global};
-use wasm_format::reading::{VectorItem, byte_of, fault, index_of, name_of, tag_of, u32_of, vec_of};
-use wasm_format::{ExportKind, ReadError, Rule};
+use wasm_types::ExportKind;
 
 /// What has a name.
 trait Named<'a> {

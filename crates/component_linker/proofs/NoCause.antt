@@ -5,7 +5,7 @@ use Rattle.wasm_format.specs.declared.fault.ModuleFault.{ModuleFault}
 use Rattle.wasm_format.specs.declared.fault.ModuleFault.TheVariants as modules
 use Rattle.wasm_format.specs.Module.{ModuleValue}
 use Rattle.wasm_format.specs.Grammar.{IsModule, IsModuleFault}
-use Rattle.wasm_format.proofs.Sections.{one_break, one_module}
+use Rattle.wasm_format.proofs.Modules.{one_break, one_module}
 use Rattle.component_format.specs.Spelling.{component_fits}
 use Rattle.wit_component.specs.declared.fault.Fault.{Fault}
 use Rattle.wit_component.specs.declared.fault.Fault.TheVariants as faults
@@ -38,7 +38,6 @@ no_module_cause bytes core h modules.OutOfMemory cause = refl
 no_module_cause bytes core h modules.TooLarge cause = absurd (omega (arith, h.small))
 no_module_cause bytes core h modules.Malformed (small, e, breaks, is) = absurd ((one_break bytes e breaks).0 core h)
 no_module_cause bytes core h modules.Unsupported (small, e, breaks, is) = absurd ((one_break bytes e breaks).0 core h)
-no_module_cause bytes core h modules.NotYet (small, e, breaks, is) = absurd ((one_break bytes e breaks).0 core h)
 
 no_bad_module : (input : Input) (l : Linking) → Links input l → (m : ModuleFault) → IsCause input (faults.BadModule m) → ⊥
 no_bad_module input l h m (handed, hands, (n, is, cause)) =

@@ -11,7 +11,6 @@ abbrev pub refusal_of : ModuleFault → Fault
 refusal_of modules.Malformed = faults.BadModule modules.Malformed
 refusal_of modules.Unsupported = faults.BadModule modules.Unsupported
 refusal_of modules.TooLarge = faults.BadModule modules.TooLarge
-refusal_of modules.NotYet = faults.NotYet
 refusal_of modules.OutOfMemory = faults.OutOfMemory
 
 -- the refusal is that of the module reader

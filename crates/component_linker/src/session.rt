@@ -507,7 +507,6 @@ fn module_refusal(fault: ModuleFault) -> Fault
     ensures { result ≡ refusal_of fault }
 {
     match fault {
-        ModuleFault::NotYet => Fault::NotYet,
         ModuleFault::OutOfMemory => Fault::OutOfMemory,
         other => Fault::BadModule(other),
     }

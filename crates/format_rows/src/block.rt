@@ -1,7 +1,6 @@
 //! A block: the lines between two blank ones, over one builder.
 
 use crate::component_text::push_component;
-use crate::core_text::push_core_module;
 use crate::making::Making;
 use crate::row::{Row, UNREADABLE, read_row};
 use crate::spelling::{RowFault, push_bytes};
@@ -50,7 +49,6 @@ fn answer<'r>(
     match row {
         Row::Comment => Ok(()),
         Row::Unreadable => out.push_str(UNREADABLE),
-        Row::Module(bytes) => push_core_module(alloc, out, bytes),
         Row::Component(bytes) => push_component(alloc, out, bytes),
         Row::Embed(bytes) => push_index(out, making.core_module(bytes)),
         Row::Call { name, words } => push_index(out, making.call(name, words)),

@@ -1,12 +1,12 @@
 //! What was read of a component, in lines.
 
 use crate::spelling::push_bytes;
+use binary_grammar::Rule;
 use component_format::{
     Argument, Definition, DefinitionKind, FormatFault, FunctionType, InlineExport, PrimitiveType,
     read_component,
 };
 use std::alloc::{AllocError, Global};
-use wasm_format::Rule;
 
 pub fn primitive_name(ty: PrimitiveType) -> &'static str {
     match ty {

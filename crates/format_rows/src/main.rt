@@ -1,11 +1,10 @@
-//! Rows of the binary formats: reads blocks of cases from standard input, and prints each line with its answer behind it.
+//! Rows of components: reads blocks of cases from standard input, and prints each line with its answer behind it.
 //!
 //! A block ends at a blank line, and has a builder of its own. What each line asks is said at the head of the input.
 #![tactic(auto)]
 
 mod block;
 mod component_text;
-mod core_text;
 mod distinct;
 mod making;
 mod row;

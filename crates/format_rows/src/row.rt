@@ -13,8 +13,6 @@ pub enum Row<'t> {
     Comment,
     /// A line that is none of the others.
     Unreadable,
-    /// The bytes to read as a core module.
-    Module(Vec<u8>),
     /// The bytes to read as a component.
     Component(Vec<u8>),
     /// The core module to embed.
@@ -27,7 +25,6 @@ pub enum Row<'t> {
 
 fn row_of<'t>(alloc: Global, name: &'t str, words: &'t str) -> Result<Row<'t>, RowFault> {
     match name {
-        "module" => Ok(Row::Module(bytes_of(alloc, words)?)),
         "component" => Ok(Row::Component(bytes_of(alloc, words)?)),
         "core_module" => Ok(Row::Embed(bytes_of(alloc, words)?)),
         "finish" => Ok(Row::Finish),

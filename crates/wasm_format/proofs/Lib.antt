@@ -1,2 +1,2 @@
-pub mod GrammarLaws
-pub mod Sections
+pub mod Folding
+pub mod Modules

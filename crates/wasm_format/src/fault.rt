@@ -1,5 +1,9 @@
 //! Why bytes are no core module.
 
+ghost use Rattle.std.specs.Prelude.{◌≡◌};
+ghost use Rattle.wasm_format.specs.declared.fault.ModuleFault.TheVariants as faults;
+
+use std::alloc::AllocError;
 use thiserror::Error;
 
 /// Why bytes are no core module that can be read.
@@ -14,10 +18,15 @@ pub enum ModuleFault {
     /// M3: more than 4,294,967,295 bytes.
     #[error("M3 TooLarge")]
     TooLarge,
-    /// A section or form that is still to come.
-    #[error("X1 NotYet")]
-    NotYet,
     /// A request for memory was refused.
     #[error("out of memory")]
     OutOfMemory,
+}
+
+impl From<AllocError> for ModuleFault {
+    ghost from_gives = { λ _ e. e ≡ faults.OutOfMemory };
+
+    fn from(_e: AllocError) -> ModuleFault {
+        ModuleFault::OutOfMemory
+    }
 }

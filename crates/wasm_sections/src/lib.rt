@@ -1,9 +1,17 @@
 //! Sections of core modules.
 #![tactic(auto)]
 
+mod contents;
 mod kept;
 mod section;
 mod sections;
+mod writer;
 
+pub use contents::{CustomName, Framed, Globals, Items, Start};
+pub use kept::Kept;
 pub use section::{Holding, Section, SectionId};
 pub use sections::read_sections;
+pub use writer::{
+    ExportSection, FunctionSection, GlobalSection, ImportSection, MemorySection, SectionItem,
+    SectionWriter, StartSection, TableSection, TypeSection, put_section,
+};

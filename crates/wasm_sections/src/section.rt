@@ -6,7 +6,8 @@ ghost use Rattle.binary_grammar.specs.Syntax.{meaning};
 ghost use Rattle.wasm_sections.specs.Module as spec;
 ghost use Rattle.wasm_sections.specs.declared.section.SectionId.TheVariants as id;
 
-use crate::kept::{Custom, Framed, Kept, KeptGlobals};
+use crate::contents::{CustomName, Framed, Globals, Items};
+use crate::kept::Kept;
 use binary_grammar::{ReadError, Reader, Rule, bounded_of};
 use wasm_types::{Export, FuncType, Global, Import, Limits, Spaces, TableType, TypeIndex};
 
@@ -122,7 +123,7 @@ fn custom<'a>(there: Spaces, from: &mut Reader<'a>) -> Result<Section<'a>, ReadE
     ensures gives { Gives (λ x. (spec.section_value x, from.new.left)) result ((meaning (spec.whole_section id.Custom) there).read from.old.left) }
     ensures end { from.new.end ≡ from.old.end }
 {
-    let kept = bounded_of::<Custom<'a>>(there, from)?;
+    let kept = bounded_of::<Kept<'a, CustomName<'a>>>(there, from)?;
     Ok(Section {
         id: SectionId::Custom,
         content: kept.content,
@@ -134,11 +135,11 @@ fn types<'a>(there: Spaces, from: &mut Reader<'a>) -> Result<Section<'a>, ReadEr
     ensures gives { Gives (λ x. (spec.section_value x, from.new.left)) result ((meaning (spec.whole_section id.Type_) there).read from.old.left) }
     ensures end { from.new.end ≡ from.old.end }
 {
-    let kept = bounded_of::<Kept<'a, FuncType>>(there, from)?;
+    let kept = bounded_of::<Kept<'a, Items<FuncType>>>(there, from)?;
     Ok(Section {
         id: SectionId::Type_,
         content: kept.content,
-        holds: Holding::Types(kept.items),
+        holds: Holding::Types(kept.holds.items),
     })
 }
 
@@ -146,11 +147,11 @@ fn imports<'a>(there: Spaces, from: &mut Reader<'a>) -> Result<Section<'a>, Read
     ensures gives { Gives (λ x. (spec.section_value x, from.new.left)) result ((meaning (spec.whole_section id.Import) there).read from.old.left) }
     ensures end { from.new.end ≡ from.old.end }
 {
-    let kept = bounded_of::<Kept<'a, Import<'a>>>(there, from)?;
+    let kept = bounded_of::<Kept<'a, Items<Import<'a>>>>(there, from)?;
     Ok(Section {
         id: SectionId::Import,
         content: kept.content,
-        holds: Holding::Imports(kept.items),
+        holds: Holding::Imports(kept.holds.items),
     })
 }
 
@@ -158,11 +159,11 @@ fn functions<'a>(there: Spaces, from: &mut Reader<'a>) -> Result<Section<'a>, Re
     ensures gives { Gives (λ x. (spec.section_value x, from.new.left)) result ((meaning (spec.whole_section id.Function) there).read from.old.left) }
     ensures end { from.new.end ≡ from.old.end }
 {
-    let kept = bounded_of::<Kept<'a, TypeIndex>>(there, from)?;
+    let kept = bounded_of::<Kept<'a, Items<TypeIndex>>>(there, from)?;
     Ok(Section {
         id: SectionId::Function,
         content: kept.content,
-        holds: Holding::Functions(kept.items),
+        holds: Holding::Functions(kept.holds.items),
     })
 }
 
@@ -170,11 +171,11 @@ fn tables<'a>(there: Spaces, from: &mut Reader<'a>) -> Result<Section<'a>, ReadE
     ensures gives { Gives (λ x. (spec.section_value x, from.new.left)) result ((meaning (spec.whole_section id.Table) there).read from.old.left) }
     ensures end { from.new.end ≡ from.old.end }
 {
-    let kept = bounded_of::<Kept<'a, TableType>>(there, from)?;
+    let kept = bounded_of::<Kept<'a, Items<TableType>>>(there, from)?;
     Ok(Section {
         id: SectionId::Table,
         content: kept.content,
-        holds: Holding::Tables(kept.items),
+        holds: Holding::Tables(kept.holds.items),
     })
 }
 
@@ -182,11 +183,11 @@ fn memories<'a>(there: Spaces, from: &mut Reader<'a>) -> Result<Section<'a>, Rea
     ensures gives { Gives (λ x. (spec.section_value x, from.new.left)) result ((meaning (spec.whole_section id.Memory) there).read from.old.left) }
     ensures end { from.new.end ≡ from.old.end }
 {
-    let kept = bounded_of::<Kept<'a, Limits>>(there, from)?;
+    let kept = bounded_of::<Kept<'a, Items<Limits>>>(there, from)?;
     Ok(Section {
         id: SectionId::Memory,
         content: kept.content,
-        holds: Holding::Memories(kept.items),
+        holds: Holding::Memories(kept.holds.items),
     })
 }
 
@@ -194,11 +195,11 @@ fn globals<'a>(there: Spaces, from: &mut Reader<'a>) -> Result<Section<'a>, Read
     ensures gives { Gives (λ x. (spec.section_value x, from.new.left)) result ((meaning (spec.whole_section id.Global) there).read from.old.left) }
     ensures end { from.new.end ≡ from.old.end }
 {
-    let kept = bounded_of::<KeptGlobals<'a>>(there, from)?;
+    let kept = bounded_of::<Kept<'a, Globals<'a>>>(there, from)?;
     Ok(Section {
         id: SectionId::Global,
         content: kept.content,
-        holds: Holding::Globals(kept.items),
+        holds: Holding::Globals(kept.holds.items),
     })
 }
 
@@ -206,11 +207,11 @@ fn exports<'a>(there: Spaces, from: &mut Reader<'a>) -> Result<Section<'a>, Read
     ensures gives { Gives (λ x. (spec.section_value x, from.new.left)) result ((meaning (spec.whole_section id.Export) there).read from.old.left) }
     ensures end { from.new.end ≡ from.old.end }
 {
-    let kept = bounded_of::<Kept<'a, Export<'a>>>(there, from)?;
+    let kept = bounded_of::<Kept<'a, Items<Export<'a>>>>(there, from)?;
     Ok(Section {
         id: SectionId::Export,
         content: kept.content,
-        holds: Holding::Exports(kept.items),
+        holds: Holding::Exports(kept.holds.items),
     })
 }
 

@@ -4,8 +4,8 @@ use Rattle.std.specs.Prelude.{map, filter, slice_get, bytes_eq}
 use Rattle.std.specs.List.{AllByRecursion as Each, list_any}
 use Rattle.std.proofs.lemmas.Bool.{cases_Bool}
 use Rattle.std.proofs.lemmas.Slice.Eq.{bytes_eq-Decides}
-use Rattle.wasm_format.specs.declared.types.ValType.{ValType}
-use Rattle.wasm_format.specs.Module.{FuncTypeValue}
+use Rattle.wasm_types.specs.declared.types.ValType.{ValType}
+use Rattle.wasm_types.specs.Types.{FuncTypeValue}
 use Rattle.wit_component.specs.Meaning.{value_code, same_values, same_core_type}
 use Rattle.wit_component.specs.Right.{IsIn, SameItems}
 

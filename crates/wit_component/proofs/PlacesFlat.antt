@@ -1,7 +1,7 @@
 -- A core type that isn't the one of a function.
 use Rattle.std.proofs.Common.{◌≡◌, ℕ, ◌<◌, List, [], ◌∷◌, length, get_or, map, refl, ap, ◌∙◌}
 use Rattle.std.proofs.lemmas.List.{get_or-map}
-use Rattle.wasm_format.specs.declared.types.ValType.{ValType}
+use Rattle.wasm_types.specs.declared.types.ValType.{ValType}
 use Rattle.wit_resolve.specs.declared.world.Param.{Param}
 use Rattle.wit_resolve.specs.World.{param_item}
 use Rattle.wit_component.specs.Flat.{flat_value}

@@ -11,8 +11,9 @@ use Rattle.std.proofs.lemmas.List.Elements.{filter_agree, All-nil, All-cons}
 use Rattle.std.proofs.lemmas.Option.{slice_get-map, slice_get-get_or, slice_get_within}
 use Rattle.std.specs.List.{All}
 use Rattle.std.specs.Prelude.{option_map}
-use Rattle.wasm_format.specs.declared.core_module.Export.{Export}
-use Rattle.wasm_format.specs.Module.{ModuleValue, export_value}
+use Rattle.wasm_types.specs.declared.entries.Export.{Export}
+use Rattle.wasm_types.specs.Entries.{export_value}
+use Rattle.wasm_format.specs.Module.{ModuleValue}
 use Rattle.wit_component.specs.Linking.{core_export}
 use Rattle.std.proofs.lemmas.List.Concat.{flat_map-cons}
 use Rattle.component_format.specs.Names.{is_new}

@@ -9,7 +9,6 @@ abbrev pub module_code : ModuleFault → Option (List ℕ)
 module_code modules.Malformed = Some (codes "M1")
 module_code modules.Unsupported = Some (codes "M2")
 module_code modules.TooLarge = Some (codes "M3")
-module_code modules.NotYet = Some (codes "X1")
 module_code modules.OutOfMemory = None
 
 -- want of memory has no code
@@ -32,7 +31,6 @@ abbrev pub module_name : ModuleFault → List ℕ
 module_name modules.Malformed = codes "Malformed"
 module_name modules.Unsupported = codes "Unsupported"
 module_name modules.TooLarge = codes "TooLarge"
-module_name modules.NotYet = codes "NotYet"
 module_name modules.OutOfMemory = codes "OutOfMemory"
 
 abbrev pub name : Fault → List ℕ

@@ -1,8 +1,8 @@
 -- Core types of functions (Component Model, Canonical ABI, Flattening), of the primitive types.
 use Rattle.std.specs.Prelude.{List, [], ◌∷◌, map, Option, Some, None}
-use Rattle.wasm_format.specs.declared.types.ValType.{ValType}
-use Rattle.wasm_format.specs.declared.types.ValType.TheVariants.{I32, I64}
-use Rattle.wasm_format.specs.Module.{FuncTypeValue}
+use Rattle.wasm_types.specs.declared.types.ValType.{ValType}
+use Rattle.wasm_types.specs.declared.types.ValType.TheVariants.{I32, I64}
+use Rattle.wasm_types.specs.Types.{FuncTypeValue}
 use Rattle.component_format.specs.declared.definition.PrimitiveType.{PrimitiveType}
 use Rattle.component_format.specs.declared.definition.PrimitiveType.TheVariants as primitives
 use Rattle.component_format.specs.Definition.{FunctionTypeValue}

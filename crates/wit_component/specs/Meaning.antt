@@ -2,10 +2,10 @@
 -- looking only at what is there already (Component Model Binary, Index Spaces; Explainer, Component Definitions).
 use Rattle.std.specs.Prelude.{ℕ, List, [], ◌∷◌, ◌++◌, map, fold, slice_get, Option, Some, None, option_map, option_and_then, Bool, true, false, ◌&&◌, ◌==◌, bytes_eq, if◌then◌else◌}
 use Rattle.std.specs.Cmp.Lexicographic.{pointwise}
-use Rattle.wasm_format.specs.declared.types.ValType.{ValType}
-use Rattle.wasm_format.specs.declared.types.ValType.TheVariants as values
-use Rattle.wasm_format.specs.declared.types.RefType.TheVariants as references
-use Rattle.wasm_format.specs.Module.{FuncTypeValue}
+use Rattle.wasm_types.specs.declared.types.ValType.{ValType}
+use Rattle.wasm_types.specs.declared.types.ValType.TheVariants as values
+use Rattle.wasm_types.specs.declared.types.RefType.TheVariants as references
+use Rattle.wasm_types.specs.Types.{FuncTypeValue}
 use Rattle.component_format.specs.declared.definition.PrimitiveType.{PrimitiveType}
 use Rattle.component_format.specs.declared.definition.PrimitiveType.TheVariants as primitives
 use Rattle.component_format.specs.Definition.{ParameterValue, FunctionTypeValue, ArgumentValue, InlineExportValue, DefinitionValue, core_module_of, instantiation_of, inline_of, alias_of, type_of, lift_of, lower_of, import_of, export_of}

@@ -2,13 +2,13 @@
 
 ghost use Rattle.std.specs.Prelude.{◌≡◌, ◌∷◌, [], map, option_map, Some, true, false};
 ghost use Rattle.wit_component.specs.Meaning.{same_values};
-ghost use Rattle.wasm_format.specs.Module.{func_type_value, import_value, export_value, module_value};
+ghost use Rattle.wasm_types.specs.Types.{func_type_value};
+ghost use Rattle.wasm_format.specs.Module.{module_value, imported_type, exported_type};
 ghost use Rattle.wit_component.specs.Flat.{flat_value, flat_result, flat};
 ghost use Rattle.wit_resolve.specs.World.{param_item, function_item};
-ghost use Rattle.wit_component.specs.Linking.{entity_type, function_type_at};
 
 use component_format::PrimitiveType;
-use wasm_format::{CoreModule, EntityType, Export, FuncType, Import, ValType};
+use wasm_format::{CoreModule, Export, FuncType, Import, ValType};
 use wit_resolve::{Function, Param, World};
 
 /// The chosen world, the main module, and whether legacy names stand for nothing.
@@ -25,28 +25,18 @@ pub struct Linking<'s, 'a> {
 }
 
 impl<'s, 'a> Linking<'s, 'a> {
-    /// The core type of an import.
+    /// The core type of an import; none where it isn't a function.
     pub fn import_type(&self, import: &Import) -> Option<&FuncType>
-        ensures { option_map (λ t. func_type_value t.now) result ≡ entity_type (module_value self.now.main) import.now.ty }
+        ensures { option_map (λ t. func_type_value t.now) result ≡ imported_type (module_value self.now.main) import.now.ty }
     {
-        match import.ty {
-            EntityType::Function(ty) => self.main.types.get(ty as usize),
-        }
+        self.main.imported_type(import)
     }
 
-    /// The core type of an export; imported functions come first in the index space
-    /// (WebAssembly Core, Modules, Indices).
+    /// The core type of an export; none where it isn't a function.
     pub fn export_type(&self, export: &Export) -> Option<&FuncType>
-        ensures { option_map (λ t. func_type_value t.now) result ≡ function_type_at (module_value self.now.main) export.now.index }
+        ensures { option_map (λ t. func_type_value t.now) result ≡ exported_type (module_value self.now.main) export.now.kind export.now.index }
     {
-        let index = export.index as usize;
-        let imports = self.main.imports.len();
-        if index < imports {
-            let import = self.main.imports.get(index)?;
-            return self.import_type(import);
-        }
-        let ty = self.main.functions.get(index - imports)?;
-        self.main.types.get(*ty as usize)
+        self.main.exported_type(export)
     }
 }
 

@@ -11,7 +11,8 @@ ghost use Rattle.wit_component.specs.Places.{ImportPlace, ExportPlace, Placed, n
 ghost use Rattle.wit_component.specs.Table.{needed};
 ghost use Rattle.wit_resolve.specs.World.{function_item};
 ghost use Rattle.wit_component.specs.View as view;
-ghost use Rattle.wasm_format.specs.Module.{import_value, export_value, module_value};
+ghost use Rattle.wasm_types.specs.Entries.{import_value, export_value};
+ghost use Rattle.wasm_format.specs.Module.{module_value};
 
 use crate::fault::Fault;
 use crate::linking::{Linking, is_of_type};

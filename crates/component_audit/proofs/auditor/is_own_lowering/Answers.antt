@@ -1,7 +1,8 @@
 use Rattle.std.proofs.Common.{◌≡◌, Bool, true, false, ◌&&◌, sym, ap, ◌∙◌}
 use Rattle.std.specs.Prelude.{option_map}
 use Rattle.std.proofs.lemmas.Bool.Decides.{Decides-at}
-use Rattle.wasm_format.specs.Module.{module_value, import_value}
+use Rattle.wasm_types.specs.Entries.{import_value}
+use Rattle.wasm_format.specs.Module.{module_value}
 use Rattle.wit_resolve.specs.World.{FunctionItem, function_item}
 use Rattle.wit_component.specs.Linking.{core_import}
 use Rattle.wit_component.specs.Meaning.{is_of_core_type}

@@ -1,5 +1,6 @@
 use Rattle.std.specs.Prelude.{option_map}
-use Rattle.wasm_format.specs.Module.{module_value, import_value}
+use Rattle.wasm_types.specs.Entries.{import_value}
+use Rattle.wasm_format.specs.Module.{module_value}
 use Rattle.wit_component.specs.Linking.{core_import}
 use Rattle.component_audit.specs.SpacesView.{core_function}
 use Rattle.wit_component.specs.View as view

@@ -1,4 +1,4 @@
-use Rattle.wasm_format.proofs.Sections.{one_module}
+use Rattle.wasm_format.proofs.Modules.{one_module}
 use Rattle.wasm_format.proofs.law.law_one_module.Goals as goal
 
 pub returns : goal.returns

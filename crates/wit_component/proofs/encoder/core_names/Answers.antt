@@ -1,7 +1,8 @@
 use Rattle.std.proofs.Common.{ℕ, ◌<◌, ◌≤◌, List, length, take, get_or, map, sym, ap, ◌∙◌, arith, Bor}
 use Rattle.std.proofs.lemmas.List.{take_all, length-map}
 use Rattle.std.proofs.lemmas.List.Elements.{All-get_or}
-use Rattle.wasm_format.specs.Module.{module_value, export_value}
+use Rattle.wasm_types.specs.Entries.{export_value}
+use Rattle.wasm_format.specs.Module.{module_value}
 use Rattle.wit_component.specs.Linking.{core_export}
 use Rattle.wit_component.specs.View as view
 use Rattle.wit_component.proofs.WrittenLinks.{text_at, text_here, texts_more, placed_within, placed_length, placed_texts}

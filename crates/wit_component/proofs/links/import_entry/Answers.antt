@@ -1,4 +1,5 @@
-use Rattle.wasm_format.specs.Module.{module_value, import_value}
+use Rattle.wasm_types.specs.Entries.{import_value}
+use Rattle.wasm_format.specs.Module.{module_value}
 use Rattle.wit_component.specs.Linking.{core_import}
 use Rattle.wit_component.specs.View as view
 use Rattle.wit_resolve.specs.World.{function_item}

@@ -1,5 +1,6 @@
 use Rattle.std.proofs.Common.{◌<◌, length, arith}
-use Rattle.wasm_format.specs.Module.{module_value, import_value}
+use Rattle.wasm_types.specs.Entries.{import_value}
+use Rattle.wasm_format.specs.Module.{module_value}
 use Rattle.wit_component.specs.Linking.{core_import}
 use Rattle.wit_component.specs.Places.{ImportPlace}
 use Rattle.wit_component.specs.View as view

@@ -1,6 +1,7 @@
 use Rattle.std.proofs.Common.{◌≡◌, ◌+◌, List, map, take, drop, sym, ap, subst, ◌∙◌}
 use Rattle.std.proofs.lemmas.Result.{err_from_is_err_and}
-use Rattle.wasm_format.specs.Module.{import_value, module_value}
+use Rattle.wasm_types.specs.Entries.{import_value}
+use Rattle.wasm_format.specs.Module.{module_value}
 use Rattle.wit_resolve.specs.declared.world.Function.{Function}
 use Rattle.wit_component.specs.Candidates.{candidates, names_in, Notes}
 use Rattle.wit_component.specs.Cause.{RepeatsPair, IsImportCause}

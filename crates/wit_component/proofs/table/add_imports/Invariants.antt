@@ -1,5 +1,6 @@
 use Rattle.std.proofs.Common.{◌≡◌, map, take}
-use Rattle.wasm_format.specs.Module.{import_value, module_value}
+use Rattle.wasm_types.specs.Entries.{import_value}
+use Rattle.wasm_format.specs.Module.{module_value}
 use Rattle.wit_component.specs.Candidates.{names_in}
 use Rattle.wit_component.specs.Cause.{RepeatsPair}
 use Rattle.wit_component.specs.CoreNames.{root, standard}

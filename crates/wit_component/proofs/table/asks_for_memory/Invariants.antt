@@ -1,6 +1,6 @@
 use Rattle.std.proofs.Common.{◌≡◌, map, drop}
 use Rattle.std.specs.List.{list_any}
-use Rattle.wasm_format.specs.Module.{ImportValue, import_value}
+use Rattle.wasm_types.specs.Entries.{ImportValue, import_value}
 use Rattle.wit_component.specs.CoreNames.{is_outer_memory}
 use Rattle.wit_component.proofs.table.asks_for_memory.Given as goal
 

@@ -1,6 +1,7 @@
 use Rattle.std.proofs.Common.{◌≡◌, Some, sym, ◌∙◌, inr}
 use Rattle.std.specs.Prelude.{slice_get, filter, true}
-use Rattle.wasm_format.specs.Module.{export_value, module_value}
+use Rattle.wasm_types.specs.Entries.{export_value}
+use Rattle.wasm_format.specs.Module.{module_value}
 use Rattle.wit_component.specs.CoreNames.{is_export_name, is_memory_name}
 use Rattle.wit_component.specs.Linking.{CoreExport, core_export}
 use Rattle.wit_component.specs.View as view

@@ -1,6 +1,7 @@
 use Rattle.std.proofs.Common.{map, ap, ◌∙◌}
 use Rattle.std.specs.Prelude.{string_bytes}
-use Rattle.wasm_format.specs.Module.{export_value, module_value}
+use Rattle.wasm_types.specs.Entries.{export_value}
+use Rattle.wasm_format.specs.Module.{module_value}
 use Rattle.wit_component.specs.Candidates.{candidates, named_by}
 use Rattle.wit_component.specs.Linking.{CoreExport, core_export}
 use Rattle.wit_component.specs.Places.{ExportPlace}

@@ -1,7 +1,8 @@
 use Rattle.std.proofs.Common.{◌≡◌, Some, None, sym, ap, ◌∙◌, subst}
 use Rattle.std.specs.Prelude.{slice_get, option_map, bytes_eq}
 use Rattle.std.proofs.lemmas.Option.{slice_get-map, slice_get_past}
-use Rattle.wasm_format.specs.Module.{import_value, module_value}
+use Rattle.wasm_types.specs.Entries.{import_value}
+use Rattle.wasm_format.specs.Module.{module_value}
 use Rattle.wit_component.specs.Candidates.{Stands}
 use Rattle.wit_component.specs.CoreNames.{is_import_name}
 use Rattle.wit_component.specs.Linking.{core_import}

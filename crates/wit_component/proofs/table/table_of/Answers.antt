@@ -1,8 +1,9 @@
 use Rattle.std.proofs.Common.{List, map, sym, ap, subst, ◌∙◌}
 use Rattle.std.specs.Prelude.{◌||◌}
 use Rattle.component_format.proofs.Lists.{list_any_map}
-use Rattle.wasm_format.specs.declared.core_module.Export.{Export}
-use Rattle.wasm_format.specs.Module.{ExportValue, import_value, export_value, module_value}
+use Rattle.wasm_types.specs.declared.entries.Export.{Export}
+use Rattle.wasm_types.specs.Entries.{ExportValue, import_value, export_value}
+use Rattle.wasm_format.specs.Module.{module_value}
 use Rattle.wit_component.specs.Candidates.{candidates, Notes}
 use Rattle.wit_component.specs.CoreNames.{is_outer_memory}
 use Rattle.wit_component.specs.Linking.{CoreImport, CoreExport, core_import, core_export}

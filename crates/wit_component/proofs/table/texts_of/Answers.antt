@@ -1,5 +1,5 @@
 use Rattle.std.proofs.Common.{arith, refl}
-use Rattle.wasm_format.specs.Module.{ExportValue, export_value}
+use Rattle.wasm_types.specs.Entries.{ExportValue, export_value}
 use Rattle.wit_component.specs.Candidates.{candidates}
 use Rattle.wit_component.proofs.PlacesLists.{notes_more, notes_all}
 use Rattle.wit_component.proofs.table.texts_of.Goals as goal

@@ -1,5 +1,5 @@
 use Rattle.std.proofs.Common.{map, take}
-use Rattle.wasm_format.specs.Module.{ExportValue, export_value}
+use Rattle.wasm_types.specs.Entries.{ExportValue, export_value}
 use Rattle.wit_component.specs.Candidates.{candidates, Notes}
 use Rattle.wit_component.proofs.table.texts_of.Given as goal
 

@@ -1,8 +1,9 @@
 use Rattle.std.proofs.Common.{◌≡◌, Some, None, rules, ap, ◌∙◌, sym, List}
 use Rattle.std.specs.Prelude.{option_map, slice_get}
 use Rattle.std.proofs.lemmas.Option.{slice_get-get_or}
-use Rattle.wasm_format.specs.declared.core_module.Export.{Export}
-use Rattle.wasm_format.specs.Module.{module_value, func_type_value}
+use Rattle.wasm_types.specs.declared.entries.Export.{Export}
+use Rattle.wasm_types.specs.Types.{func_type_value}
+use Rattle.wasm_format.specs.Module.{module_value}
 use Rattle.component_audit.specs.SpacesView.{core_function}
 use Rattle.component_audit.proofs.Named.{export_here}
 use Rattle.component_audit.proofs.walk.Walk.export_at.Goals as goal
