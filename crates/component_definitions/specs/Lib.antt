@@ -1,0 +1,4 @@
+pub mod Sorts
+pub mod Aliases
+pub mod Canonical
+pub mod Externs

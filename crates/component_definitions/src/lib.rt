@@ -1,0 +1,12 @@
+//! Definitions of components, read and written.
+#![tactic(auto)]
+
+mod aliases;
+mod canonical;
+mod externs;
+mod sorts;
+
+pub use aliases::Alias;
+pub use canonical::{CanonicalDefinition, CanonicalOption};
+pub use externs::{Description, Export, Import, extern_name, put_extern_name};
+pub use sorts::{ComponentSort, Sort, component_count, core_count, count};

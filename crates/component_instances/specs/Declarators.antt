@@ -1,0 +1,147 @@
+-- Types of instances (Component Model Binary, Type Definitions, Instance Declarators).
+use Rattle.std.specs.Prelude.{ℕ, suc, List, [], ◌∷◌, ◌++◌, map, Some, Bool, true, false, ◌==◌, if◌then◌else◌}
+use Rattle.binary_grammar.specs.declared.fault.Rule.TheVariants as rules
+use Rattle.binary_grammar.specs.Syntax.{Syntax, unbounded, ◌◂◌, ◌>>=◌, one_byte, gives, refuses, tested, growing, where_known}
+use Rattle.wasm_types.specs.declared.types.ExportKind.{ExportKind}
+use Rattle.wasm_types.specs.declared.types.ExportKind.TheVariants as kinds
+use Rattle.distinct_names.specs.Names.{is_new}
+use Rattle.component_value_types.specs.declared.scope.Scope.{Scope}
+use Rattle.component_value_types.specs.declared.values.PrimitiveValueType.TheVariants as primitives
+use Rattle.component_value_types.specs.Scope.{Grammar}
+use Rattle.component_value_types.specs.Types.{DefinedTypeValue, defined_type_value, defined_type, primitive}
+use Rattle.component_definitions.specs.declared.sorts.ComponentSort.{ComponentSort}
+use Rattle.component_definitions.specs.declared.sorts.ComponentSort.TheVariants as components
+use Rattle.component_definitions.specs.declared.externs.Description.{Description}
+use Rattle.component_definitions.specs.declared.externs.Description.TheVariants as descriptions
+use Rattle.component_definitions.specs.Aliases.{AliasValue, alias_value, alias, instance_export, core_instance_export, outer}
+use Rattle.component_definitions.specs.Externs.{extern_name, description}
+use Rattle.component_instances.specs.declared.declarators.Declarator.{Declarator}
+use Rattle.component_instances.specs.declared.declarators.Declarator.TheVariants as code
+use Rattle.component_instances.specs.declared.declarators.InstanceType.{InstanceType}
+
+-- ---- what there is behind a definition of a sort
+
+abbrev pub with_core : Scope → ExportKind → Scope
+with_core there kinds.Func = record there { core_functions = suc there.core_functions }
+with_core there kinds.Table = record there { core_tables = suc there.core_tables }
+with_core there kinds.Memory = record there { core_memories = suc there.core_memories }
+with_core there kinds.Global = record there { core_globals = suc there.core_globals }
+
+abbrev pub with_sort : Scope → ComponentSort → Scope
+with_sort there components.Function = record there { functions = suc there.functions }
+with_sort there components.Type_ = record there { types = suc there.types }
+with_sort there components.Instance = record there { instances = suc there.instances }
+
+abbrev pub with_alias : Scope → AliasValue → Scope
+with_alias there (instance_export s i name) = with_sort there s
+with_alias there (core_instance_export k i name) = with_core there k
+with_alias there (outer count i) = with_sort there components.Type_
+
+abbrev pub with_described : Scope → Description → Scope
+with_described there (descriptions.Function t) = with_sort there components.Function
+with_described there (descriptions.Equal t) = with_sort there components.Type_
+with_described there descriptions.Resource = with_sort there components.Type_
+with_described there (descriptions.Instance t) = with_sort there components.Instance
+
+-- within an instance type nothing is there yet, and the types around can be named
+abbrev pub inside : Scope → Scope
+inside there = record {
+  core_functions = 0;
+  core_tables = 0;
+  core_memories = 0;
+  core_globals = 0;
+  core_modules = 0;
+  core_instances = 0;
+  components = 0;
+  instances = 0;
+  functions = 0;
+  types = 0;
+  outer = Some there.types;
+  outermost = there.outer;
+}
+
+-- ---- declarators
+
+pub data DeclaratorValue : Type 0 where
+  declared_type : DefinedTypeValue → DeclaratorValue
+  declared_alias : AliasValue → DeclaratorValue
+  declared_export : List ℕ → Description → DeclaratorValue
+
+abbrev pub declarator_value : Declarator → DeclaratorValue
+declarator_value (code.Type_ t) = declared_type (defined_type_value t)
+declarator_value (code.Alias a) = declared_alias (alias_value a)
+declarator_value (code.Export name d) = declared_export name.now d
+
+abbrev pub declarator_byte : DeclaratorValue → ℕ
+declarator_byte (declared_type t) = 1
+declarator_byte (declared_alias a) = 2
+declarator_byte (declared_export name d) = 4
+
+-- its parts, and any value where it has another part
+abbrev pub type_in : DeclaratorValue → DefinedTypeValue
+type_in (declared_type t) = t
+type_in _ = primitive primitives.Bool
+
+abbrev pub alias_in : DeclaratorValue → AliasValue
+alias_in (declared_alias a) = a
+alias_in _ = outer 0 0
+
+abbrev pub name_in : DeclaratorValue → List ℕ
+name_in (declared_export name d) = name
+name_in _ = []
+
+abbrev pub description_in : DeclaratorValue → Description
+description_in (declared_export name d) = d
+description_in _ = descriptions.Resource
+
+-- what is known where a declarator stands: how many of each sort there are, and the names that are exported
+pub record Declared : Type 0 where
+  pub scope : Scope
+  pub names : List (List ℕ)
+
+-- names are a set
+abbrev pub with_name : List (List ℕ) → List ℕ → List (List ℕ)
+with_name names name = if is_new names name then names ++ name ∷ [] else names
+
+abbrev pub declared_with : Declared → DeclaratorValue → Declared
+declared_with k (declared_type t) = record k { scope = with_sort k.scope components.Type_ }
+declared_with k (declared_alias a) = record k { scope = with_alias k.scope a }
+declared_with k (declared_export name d) = record { scope = with_described k.scope d; names = with_name k.names name }
+
+pub data DeclaratorForm : Type 0 where
+  a_type : DeclaratorForm
+  an_alias : DeclaratorForm
+  an_export : DeclaratorForm
+  other : DeclaratorForm
+
+unfoldable pub declarator_form_of : ℕ → DeclaratorForm
+declarator_form_of b = if b == 1 then a_type else if b == 2 then an_alias else if b == 4 then an_export else other
+
+-- an instance exports functions and types alone
+abbrev pub is_exported : Description → Bool
+is_exported (descriptions.Instance t) = false
+is_exported _ = true
+
+abbrev pub declarator_behind : DeclaratorForm → Syntax unbounded Declared DeclaratorValue
+declarator_behind a_type = do
+  t ← type_in ◂ where_known (λ k. k.scope) defined_type
+  gives (declared_type t)
+declarator_behind an_alias = do
+  a ← alias_in ◂ where_known (λ k. k.scope) alias
+  gives (declared_alias a)
+declarator_behind an_export = do
+  n ← name_in ◂ tested rules.Duplicate (λ k name. is_new k.names name) (where_known (λ k. k.scope) extern_name)
+  d ← description_in ◂ tested rules.Tag (λ _ d. is_exported d) (where_known (λ k. k.scope) description)
+  gives (declared_export n d)
+declarator_behind other = refuses rules.Tag
+
+unfoldable pub declarator : Syntax unbounded Declared DeclaratorValue
+declarator = do
+  b ← declarator_byte ◂ one_byte
+  declarator_behind (declarator_form_of b)
+
+abbrev pub instance_type_value : InstanceType → List DeclaratorValue
+instance_type_value t = map declarator_value t.declarators.items
+
+unfoldable pub instance_type : Grammar (List DeclaratorValue)
+instance_type = where_known (λ there. record { scope = inside there; names = [] }) (growing declared_with declarator)

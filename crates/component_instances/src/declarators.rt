@@ -1,0 +1,270 @@
+//! Types of instances.
+
+ghost use Rattle.std.specs.Prelude.{◌≡◌, ◌++◌, map, IfSome, OnOk, Err};
+ghost use Rattle.std.specs.List.{flat_map, All};
+ghost use Rattle.binary_grammar.specs.Fault.{Gives};
+ghost use Rattle.binary_grammar.specs.Syntax.{meaning, bytes, IsTyped};
+ghost use Rattle.component_definitions.specs.Aliases.{alias_value};
+ghost use Rattle.component_instances.specs.Declarators as spec;
+
+use binary_grammar::{
+    Part, ReadError, Reader, Rule, Steps, WriteFault, broken_at, growing_of, put_number,
+};
+use component_definitions::{Alias, ComponentSort, Description, extern_name, put_extern_name};
+use component_value_types::{DefinedType, Scope};
+use distinct_names::Names;
+use wasm_types::ExportKind;
+
+/// What an instance type says (Component Model Binary, Type Definitions, Instance Declarators).
+#[derive(Debug, Drop)]
+pub enum Declarator<'a> {
+    /// A type.
+    Type_(DefinedType<'a>),
+    /// Another name for what is there already.
+    Alias(Alias<'a>),
+    /// A function or a type that an instance exports, under a name that no other has.
+    Export(&'a str, Description),
+}
+
+/// The type of an instance.
+#[derive(Debug, Drop)]
+pub struct InstanceType<'a> {
+    /// What it says, each where those before it are known.
+    pub declarators: Vec<Declarator<'a>>,
+}
+
+/// One more of a core sort, unless that can't be counted.
+fn with_core(there: Scope, kind: ExportKind) -> Option<Scope>
+    ensures { IfSome result (λ s. s ≡ spec.with_core there kind) }
+{
+    let mut scope = there;
+    match kind {
+        ExportKind::Func => scope.core_functions = there.core_functions.checked_add(1)?,
+        ExportKind::Table => scope.core_tables = there.core_tables.checked_add(1)?,
+        ExportKind::Memory => scope.core_memories = there.core_memories.checked_add(1)?,
+        ExportKind::Global => scope.core_globals = there.core_globals.checked_add(1)?,
+    }
+    Some(scope)
+}
+
+/// One more of a sort of a component, unless that can't be counted.
+fn with_sort(there: Scope, sort: ComponentSort) -> Option<Scope>
+    ensures { IfSome result (λ s. s ≡ spec.with_sort there sort) }
+{
+    let mut scope = there;
+    match sort {
+        ComponentSort::Function => scope.functions = there.functions.checked_add(1)?,
+        ComponentSort::Type_ => scope.types = there.types.checked_add(1)?,
+        ComponentSort::Instance => scope.instances = there.instances.checked_add(1)?,
+    }
+    Some(scope)
+}
+
+/// What there is behind an alias, unless that can't be counted.
+fn with_alias(there: Scope, alias: Alias) -> Option<Scope>
+    ensures { IfSome result (λ s. s ≡ spec.with_alias there (alias_value alias.entry)) }
+{
+    match alias {
+        Alias::InstanceExport(sort, _, _) => with_sort(there, sort),
+        Alias::CoreInstanceExport(kind, _, _) => with_core(there, kind),
+        Alias::Outer(_, _) => with_sort(there, ComponentSort::Type_),
+    }
+}
+
+/// What there is behind what is described so, unless that can't be counted.
+fn with_described(there: Scope, description: Description) -> Option<Scope>
+    ensures { IfSome result (λ s. s ≡ spec.with_described there description) }
+{
+    match description {
+        Description::Function(_) => with_sort(there, ComponentSort::Function),
+        Description::Equal(_) | Description::Resource => with_sort(there, ComponentSort::Type_),
+        Description::Instance(_) => with_sort(there, ComponentSort::Instance),
+    }
+}
+
+/// What is there within an instance type.
+fn inside(there: Scope) -> Scope
+    ensures { result ≡ spec.inside there }
+{
+    Scope {
+        core_functions: 0,
+        core_tables: 0,
+        core_memories: 0,
+        core_globals: 0,
+        core_modules: 0,
+        core_instances: 0,
+        components: 0,
+        instances: 0,
+        functions: 0,
+        types: 0,
+        outer: Some(there.types),
+        outermost: there.outer,
+    }
+}
+
+/// Whether an instance may export it.
+fn is_exported(description: Description) -> bool
+    ensures { result ≡ spec.is_exported description }
+{
+    match description {
+        Description::Instance(_) => false,
+        Description::Function(_) | Description::Equal(_) | Description::Resource => true,
+    }
+}
+
+/// The declarators that were read.
+#[derive(Drop)]
+struct DeclaratorsReader<'a> {
+    scope: Scope,
+    names: Names<'a>,
+    declarators: Vec<Declarator<'a>>,
+}
+
+impl<'a> DeclaratorsReader<'a> {
+    /// An export, under a new name.
+    fn export(&self, from: &mut Reader<'a>) -> Result<Declarator<'a>, ReadError>
+        ensures gives { Gives (λ x. (spec.declarator_value x, from.new.left)) result ((meaning (spec.declarator_behind spec.an_export) (record { scope = self.now.scope; names = self.now.names })).read from.old.left) }
+        ensures end { from.new.end ≡ from.old.end }
+    {
+        let at = from.left();
+        let name = extern_name(self.scope, from)?;
+        if !self.names.is_new(name) {
+            return Err(broken_at(Rule::Duplicate, at));
+        }
+        let at = from.left();
+        let description = Description::read(self.scope, from)?;
+        if !is_exported(description) {
+            return Err(broken_at(Rule::Tag, at));
+        }
+        Ok(Declarator::Export(name, description))
+    }
+}
+
+impl<'a> Steps<'a> for DeclaratorsReader<'a> {
+    type Item = Declarator<'a>;
+
+    ghost use Rattle.std.specs.Prelude.{map};
+    ghost use Rattle.component_instances.specs.Declarators as spec;
+
+    ghost Value = { spec.DeclaratorValue };
+
+    ghost Known = { spec.Declared };
+
+    ghost grow = { spec.declared_with };
+
+    ghost which = { λ _. 0 };
+
+    ghost next = { λ _. spec.declarator };
+
+    ghost value = { spec.declarator_value };
+
+    ghost known = { λ r. record { scope = r.scope; names = r.names } };
+
+    ghost values = { λ r. map spec.declarator_value r.declarators.items };
+
+    #[tactic(auto, unfolding(crate::specs::Declarators::declarator, crate::specs::Declarators::declarator_form_of))]
+    fn read(&self, _kind: u8, from: &mut Reader<'a>) -> Result<Declarator<'a>, ReadError> {
+        match from.byte()? {
+            1 => Ok(Declarator::Type_(DefinedType::read(self.scope, from)?)),
+            2 => Ok(Declarator::Alias(Alias::read(self.scope, from)?)),
+            4 => self.export(from),
+            _ => Err(from.broken(Rule::Tag)),
+        }
+    }
+
+    fn add(&mut self, item: Declarator<'a>) -> Result<(), ReadError> {
+        let scope = match &item {
+            Declarator::Type_(_) => with_sort(self.scope, ComponentSort::Type_),
+            Declarator::Alias(alias) => with_alias(self.scope, *alias),
+            Declarator::Export(name, description) => {
+                if self.names.is_new(name) {
+                    self.names.add(name)?;
+                }
+                with_described(self.scope, *description)
+            }
+        };
+        let scope = scope.ok_or(ReadError::Memory)?;
+        self.declarators.push(item)?;
+        self.scope = scope;
+        Ok(())
+    }
+}
+
+impl<'a> Declarator<'a> {
+    /// Adds the shortest bytes of the declarator. Answers `TooLarge` only where its names, lengths and counts don't all fit.
+    #[tactic(auto, unfolding(crate::specs::Declarators::declarator, crate::specs::Declarators::declarator_form_of))]
+    fn put(&self, out: &mut Vec<u8>) -> Result<(), WriteFault>
+        ensures bytes { OnOk result (out.new.items ≡ out.old.items ++ bytes spec.declarator (spec.declarator_value self.now)) }
+        ensures typed { OnOk result (IsTyped spec.declarator (spec.declarator_value self.now)) }
+        ensures large { result ≡ Err WriteFault.TooLarge → IsTyped spec.declarator (spec.declarator_value self.now) → ⊥ }
+    {
+        match self {
+            Declarator::Type_(ty) => {
+                out.push(1)?;
+                ty.put(out)?;
+            }
+            Declarator::Alias(alias) => {
+                out.push(2)?;
+                alias.put(out)?;
+            }
+            Declarator::Export(name, description) => {
+                out.push(4)?;
+                put_extern_name(name, out)?;
+                description.put(out)?;
+            }
+        }
+        Ok(())
+    }
+}
+
+fn put_each(items: &[Declarator<'_>], out: &mut Vec<u8>) -> Result<(), WriteFault>
+    ensures bytes { OnOk result (out.new.items ≡ out.old.items ++ flat_map (bytes spec.declarator) (map spec.declarator_value items.now)) }
+    ensures typed { OnOk result (All (λ x. IsTyped spec.declarator (spec.declarator_value x)) items.now) }
+    ensures large { result ≡ Err WriteFault.TooLarge → All (λ x. IsTyped spec.declarator (spec.declarator_value x)) items.now → ⊥ }
+{
+    for item in items {
+        item.put(out)?;
+    }
+    Ok(())
+}
+
+impl<'a> Part<'a> for InstanceType<'a> {
+    type Context = Scope;
+
+    ghost use Rattle.std.specs.Prelude.{List};
+    ghost use Rattle.component_value_types.specs.declared.scope.Scope.{Scope};
+    ghost use Rattle.component_instances.specs.Declarators as spec;
+
+    ghost Value = { List spec.DeclaratorValue };
+
+    ghost Known = { Scope };
+
+    ghost syntax = { spec.instance_type };
+
+    ghost known = { λ s. s };
+
+    ghost value = { spec.instance_type_value };
+
+    #[tactic(auto, unfolding(crate::specs::Declarators::instance_type))]
+    fn read(there: Scope, from: &mut Reader<'a>) -> Result<InstanceType<'a>, ReadError> {
+        let alloc = from.allocator();
+        let mut state = DeclaratorsReader {
+            scope: inside(there),
+            names: Names::new(alloc),
+            declarators: Vec::new(alloc),
+        };
+        growing_of(0, &mut state, from)?;
+        let DeclaratorsReader { declarators, .. } = state;
+        Ok(InstanceType { declarators })
+    }
+
+    #[tactic(auto, unfolding(crate::specs::Declarators::instance_type))]
+    fn put(&self, out: &mut Vec<u8>) -> Result<(), WriteFault> {
+        let Ok(count) = u32::try_from(self.declarators.len()) else {
+            return Err(WriteFault::TooLarge);
+        };
+        put_number(out, count)?;
+        put_each(&self.declarators, out)?;
+        Ok(())
+    }
+}

@@ -1,0 +1,5 @@
+pub mod Combinators
+pub mod Names
+pub mod Scope
+pub mod Values
+pub mod Types

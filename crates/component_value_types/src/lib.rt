@@ -1,0 +1,16 @@
+//! Types of components: what values and functions are of, read and written.
+#![tactic(auto)]
+
+mod distinct;
+mod named;
+mod optional;
+mod scope;
+mod types;
+mod values;
+
+pub use distinct::{HasName, distinct_vec_of};
+pub use named::{Label, Named, labels_of};
+pub use optional::{optional_of, put_optional};
+pub use scope::Scope;
+pub use types::{CaseType, DefinedType, FunctionType};
+pub use values::{PrimitiveValueType, ValueType};
