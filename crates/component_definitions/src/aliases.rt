@@ -14,12 +14,31 @@ use wasm_types::{Code, ExportKind};
 /// Another name for what is there already (Component Model Binary, Alias Definitions).
 #[derive(Clone, Copy, Debug, PartialEq, Eq)]
 pub enum Alias<'a> {
-    /// What an instance exports: its sort, the instance, and the name.
-    InstanceExport(ComponentSort, u32, &'a str),
-    /// What a core instance exports: its sort, the core instance, and the name.
-    CoreInstanceExport(ExportKind, u32, &'a str),
-    /// A type of a component or instance type around: how many outwards, and its index there.
-    Outer(u32, u32),
+    /// What an instance exports.
+    InstanceExport {
+        /// Its sort.
+        sort: ComponentSort,
+        /// The instance.
+        instance: u32,
+        /// The name.
+        name: &'a str,
+    },
+    /// What a core instance exports.
+    CoreInstanceExport {
+        /// Its sort.
+        kind: ExportKind,
+        /// The core instance.
+        instance: u32,
+        /// The name.
+        name: &'a str,
+    },
+    /// A type of a component or instance type around.
+    Outer {
+        /// How many outwards; 0 is the own.
+        count: u32,
+        /// Its index there.
+        index: u32,
+    },
 }
 
 fn instance_export<'a>(
@@ -32,7 +51,11 @@ fn instance_export<'a>(
 {
     let instance = from.index(there.instances)?;
     let name = from.name()?;
-    Ok(Alias::InstanceExport(sort, instance, name))
+    Ok(Alias::InstanceExport {
+        sort,
+        instance,
+        name,
+    })
 }
 
 fn core_instance_export<'a>(
@@ -45,7 +68,11 @@ fn core_instance_export<'a>(
 {
     let instance = from.index(there.core_instances)?;
     let name = from.name()?;
-    Ok(Alias::CoreInstanceExport(kind, instance, name))
+    Ok(Alias::CoreInstanceExport {
+        kind,
+        instance,
+        name,
+    })
 }
 
 fn outer<'a>(there: Scope, from: &mut Reader<'a>) -> Result<Alias<'a>, ReadError>
@@ -58,7 +85,7 @@ fn outer<'a>(there: Scope, from: &mut Reader<'a>) -> Result<Alias<'a>, ReadError
         return Err(broken_at(Rule::Index, at));
     };
     let index = from.index(types)?;
-    Ok(Alias::Outer(count, index))
+    Ok(Alias::Outer { count, index })
 }
 
 /// Adds the sort, where it comes from, the instance, and the name.
@@ -124,13 +151,17 @@ impl<'a> Part<'a> for Alias<'a> {
     #[tactic(auto, unfolding(crate::specs::Aliases::alias, crate::specs::Sorts::sort, crate::specs::Sorts::sort_form_of, crate::specs::Sorts::component_sort_of))]
     fn put(&self, out: &mut Vec<u8>) -> Result<(), WriteFault> {
         match self {
-            Alias::InstanceExport(sort, instance, name) => {
-                put_export(Sort::Component(*sort), 0, *instance, name, out)
-            }
-            Alias::CoreInstanceExport(kind, instance, name) => {
-                put_export(Sort::Core(*kind), 1, *instance, name, out)
-            }
-            Alias::Outer(count, index) => put_outer(*count, *index, out),
+            Alias::InstanceExport {
+                sort,
+                instance,
+                name,
+            } => { put_export(Sort::Component(*sort), 0, *instance, name, out) }
+            Alias::CoreInstanceExport {
+                kind,
+                instance,
+                name,
+            } => { put_export(Sort::Core(*kind), 1, *instance, name, out) }
+            Alias::Outer { count, index } => put_outer(*count, *index, out),
         }
     }
 }

@@ -30,10 +30,22 @@ pub enum CanonicalOption {
 /// What joins core functions and functions.
 #[derive(Debug, Drop)]
 pub enum CanonicalDefinition {
-    /// A function of a type, by a core function.
-    Lift(u32, Vec<CanonicalOption>, u32),
+    /// A function, by a core function.
+    Lift {
+        /// The core function.
+        core_function: u32,
+        /// How values are lifted.
+        options: Vec<CanonicalOption>,
+        /// The type of the function.
+        ty: u32,
+    },
     /// A core function, by a function.
-    Lower(u32, Vec<CanonicalOption>),
+    Lower {
+        /// The function.
+        function: u32,
+        /// How values are lowered.
+        options: Vec<CanonicalOption>,
+    },
     /// A core function that makes a handle of a resource type.
     ResourceNew(u32),
     /// A core function that drops one.
@@ -156,10 +168,14 @@ fn lift(there: Scope, from: &mut Reader<'_>) -> Result<CanonicalDefinition, Read
     ensures end { from.new.end ≡ from.old.end }
 {
     from.byte_is(Rule::Tag, 0)?;
-    let function = from.index(there.core_functions)?;
+    let core_function = from.index(there.core_functions)?;
     let options = options_of(there, from)?;
     let ty = from.index(there.types)?;
-    Ok(CanonicalDefinition::Lift(function, options, ty))
+    Ok(CanonicalDefinition::Lift {
+        core_function,
+        options,
+        ty,
+    })
 }
 
 fn lower(there: Scope, from: &mut Reader<'_>) -> Result<CanonicalDefinition, ReadError>
@@ -169,7 +185,7 @@ fn lower(there: Scope, from: &mut Reader<'_>) -> Result<CanonicalDefinition, Rea
     from.byte_is(Rule::Tag, 0)?;
     let function = from.index(there.functions)?;
     let options = options_of(there, from)?;
-    Ok(CanonicalDefinition::Lower(function, options))
+    Ok(CanonicalDefinition::Lower { function, options })
 }
 
 impl<'a> Part<'a> for CanonicalDefinition {
@@ -203,11 +219,15 @@ impl<'a> Part<'a> for CanonicalDefinition {
     #[tactic(auto, unfolding(crate::specs::Canonical::canonical, crate::specs::Canonical::canonical_form_of, crate::specs::Canonical::option_list))]
     fn put(&self, out: &mut Vec<u8>) -> Result<(), WriteFault> {
         match self {
-            CanonicalDefinition::Lift(function, options, ty) => {
-                put_joined(0, *function, options, out)?;
+            CanonicalDefinition::Lift {
+                core_function,
+                options,
+                ty,
+            } => {
+                put_joined(0, *core_function, options, out)?;
                 put_number(out, *ty)?;
             }
-            CanonicalDefinition::Lower(function, options) => put_joined(
+            CanonicalDefinition::Lower { function, options } => put_joined(
                 1, *function, options, out,
             )?,
             CanonicalDefinition::ResourceNew(ty) => put_resource(2, *ty, out)?,

@@ -23,7 +23,12 @@ pub enum Declarator<'a> {
     /// Another name for what is there already.
     Alias(Alias<'a>),
     /// A function or a type that an instance exports, under a name that no other has.
-    Export(&'a str, Description),
+    Export {
+        /// The name.
+        name: &'a str,
+        /// What it is.
+        description: Description,
+    },
 }
 
 /// The type of an instance.
@@ -65,9 +70,9 @@ fn with_alias(there: Scope, alias: Alias) -> Option<Scope>
     ensures { IfSome result (λ s. s ≡ spec.with_alias there (alias_value alias.entry)) }
 {
     match alias {
-        Alias::InstanceExport(sort, _, _) => with_sort(there, sort),
-        Alias::CoreInstanceExport(kind, _, _) => with_core(there, kind),
-        Alias::Outer(_, _) => with_sort(there, ComponentSort::Type_),
+        Alias::InstanceExport { sort, .. } => with_sort(there, sort),
+        Alias::CoreInstanceExport { kind, .. } => with_core(there, kind),
+        Alias::Outer { .. } => with_sort(there, ComponentSort::Type_),
     }
 }
 
@@ -136,7 +141,7 @@ impl<'a> DeclaratorsReader<'a> {
         if !is_exported(description) {
             return Err(broken_at(Rule::Tag, at));
         }
-        Ok(Declarator::Export(name, description))
+        Ok(Declarator::Export { name, description })
     }
 }
 
@@ -176,7 +181,7 @@ impl<'a> Steps<'a> for DeclaratorsReader<'a> {
         let scope = match &item {
             Declarator::Type_(_) => with_sort(self.scope, ComponentSort::Type_),
             Declarator::Alias(alias) => with_alias(self.scope, *alias),
-            Declarator::Export(name, description) => {
+            Declarator::Export { name, description } => {
                 if self.names.is_new(name) {
                     self.names.add(name)?;
                 }
@@ -207,7 +212,7 @@ impl<'a> Declarator<'a> {
                 out.push(2)?;
                 alias.put(out)?;
             }
-            Declarator::Export(name, description) => {
+            Declarator::Export { name, description } => {
                 out.push(4)?;
                 put_extern_name(name, out)?;
                 description.put(out)?;

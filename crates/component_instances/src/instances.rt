@@ -49,8 +49,13 @@ pub struct InlineExport<'a> {
 /// A core instance (Component Model Binary, Core Instance Definitions). Names are distinct.
 #[derive(Debug, Drop)]
 pub enum CoreInstance<'a> {
-    /// Of the core module at this index, given these.
-    Instantiate(u32, Vec<Named<'a, CoreArgument>>),
+    /// Of a core module.
+    Instantiate {
+        /// The core module.
+        core_module: u32,
+        /// What it is given.
+        args: Vec<Named<'a, CoreArgument>>,
+    },
     /// Made of these exports.
     Inline(Vec<Named<'a, CoreItem>>),
 }
@@ -58,8 +63,13 @@ pub enum CoreInstance<'a> {
 /// An instance (Component Model Binary, Instance Definitions). Names are distinct.
 #[derive(Debug, Drop)]
 pub enum Instance<'a> {
-    /// Of the component at this index, given these.
-    Instantiate(u32, Vec<Named<'a, Item>>),
+    /// Of a component.
+    Instantiate {
+        /// The component.
+        component: u32,
+        /// What it is given.
+        args: Vec<Named<'a, Item>>,
+    },
     /// Made of these exports.
     Inline(Vec<InlineExport<'a>>),
 }
@@ -241,18 +251,18 @@ fn core_instantiate<'a>(there: Scope, from: &mut Reader<'a>) -> Result<CoreInsta
     ensures gives { Gives (λ x. (spec.core_instance_value x, from.new.left)) result ((meaning (spec.core_instance_behind spec.instantiates) there).read from.old.left) }
     ensures end { from.new.end ≡ from.old.end }
 {
-    let index = from.index(there.core_modules)?;
+    let core_module = from.index(there.core_modules)?;
     let args = core_arguments_of(there, from)?;
-    Ok(CoreInstance::Instantiate(index, args))
+    Ok(CoreInstance::Instantiate { core_module, args })
 }
 
 fn instantiate<'a>(there: Scope, from: &mut Reader<'a>) -> Result<Instance<'a>, ReadError>
     ensures gives { Gives (λ x. (spec.instance_value x, from.new.left)) result ((meaning (spec.instance_behind spec.instantiates) there).read from.old.left) }
     ensures end { from.new.end ≡ from.old.end }
 {
-    let index = from.index(there.components)?;
+    let component = from.index(there.components)?;
     let args = arguments_of(there, from)?;
-    Ok(Instance::Instantiate(index, args))
+    Ok(Instance::Instantiate { component, args })
 }
 
 impl<'a> Part<'a> for CoreInstance<'a> {
@@ -283,9 +293,9 @@ impl<'a> Part<'a> for CoreInstance<'a> {
     #[tactic(auto, unfolding(crate::specs::Instances::core_instance, crate::specs::Instances::instance_form_of))]
     fn put(&self, out: &mut Vec<u8>) -> Result<(), WriteFault> {
         match self {
-            CoreInstance::Instantiate(index, args) => {
+            CoreInstance::Instantiate { core_module, args } => {
                 out.push(0)?;
-                put_number(out, *index)?;
+                put_number(out, *core_module)?;
                 put_vec(args, out)?;
             }
             CoreInstance::Inline(exports) => {
@@ -325,9 +335,9 @@ impl<'a> Part<'a> for Instance<'a> {
     #[tactic(auto, unfolding(crate::specs::Instances::instance, crate::specs::Instances::instance_form_of))]
     fn put(&self, out: &mut Vec<u8>) -> Result<(), WriteFault> {
         match self {
-            Instance::Instantiate(index, args) => {
+            Instance::Instantiate { component, args } => {
                 out.push(0)?;
-                put_number(out, *index)?;
+                put_number(out, *component)?;
                 put_vec(args, out)?;
             }
             Instance::Inline(exports) => {

@@ -80,7 +80,12 @@ pub enum DefinedType<'a> {
     /// `list`
     List(ValueType),
     /// `list` of so many elements.
-    FixedLengthList(ValueType, u32),
+    FixedLengthList {
+        /// The type of the elements.
+        element: ValueType,
+        /// How many.
+        length: u32,
+    },
     /// `tuple`
     Tuple(Vec<ValueType>),
     /// `flags`
@@ -89,8 +94,13 @@ pub enum DefinedType<'a> {
     Enum(Vec<Label<'a>>),
     /// `option`
     Option(ValueType),
-    /// `result`: what there is where it's fine, and where it isn't.
-    Result(Option<ValueType>, Option<ValueType>),
+    /// `result`
+    Result {
+        /// What there is of a success.
+        ok: Option<ValueType>,
+        /// What there is of a failure.
+        err: Option<ValueType>,
+    },
     /// `own`: a handle of the resource type at this index.
     Own(u32),
     /// `borrow`: a lent handle of the resource type at this index.
@@ -284,7 +294,7 @@ fn fixed_length_list<'a>(there: Scope, from: &mut Reader<'a>) -> Result<DefinedT
 {
     let element = ValueType::read(there, from)?;
     let length = from.number()?;
-    Ok(DefinedType::FixedLengthList(element, length))
+    Ok(DefinedType::FixedLengthList { element, length })
 }
 
 fn result<'a>(there: Scope, from: &mut Reader<'a>) -> Result<DefinedType<'a>, ReadError>
@@ -293,7 +303,7 @@ fn result<'a>(there: Scope, from: &mut Reader<'a>) -> Result<DefinedType<'a>, Re
 {
     let ok = optional_of(there, from)?;
     let err = optional_of(there, from)?;
-    Ok(DefinedType::Result(ok, err))
+    Ok(DefinedType::Result { ok, err })
 }
 
 /// Adds an element and a length.
@@ -362,12 +372,12 @@ impl<'a> DefinedType<'a> {
             DefinedType::Record(_) => 0x72,
             DefinedType::Variant(_) => 0x71,
             DefinedType::List(_) => 0x70,
-            DefinedType::FixedLengthList(_, _) => 0x67,
+            DefinedType::FixedLengthList { .. } => 0x67,
             DefinedType::Tuple(_) => 0x6f,
             DefinedType::Flags(_) => 0x6e,
             DefinedType::Enum(_) => 0x6d,
             DefinedType::Option(_) => 0x6b,
-            DefinedType::Result(_, _) => 0x6a,
+            DefinedType::Result { .. } => 0x6a,
             DefinedType::Own(_) => 0x69,
             DefinedType::Borrow(_) => 0x68,
             DefinedType::Function(_) => 0x40,
@@ -386,10 +396,10 @@ impl<'a> DefinedType<'a> {
             DefinedType::Record(fields) => put_vec(fields, out),
             DefinedType::Variant(cases) => put_vec(cases, out),
             DefinedType::List(element) | DefinedType::Option(element) => element.put(out),
-            DefinedType::FixedLengthList(element, length) => put_fixed(*element, *length, out),
+            DefinedType::FixedLengthList { element, length } => put_fixed(*element, *length, out),
             DefinedType::Tuple(elements) => put_vec(elements, out),
             DefinedType::Flags(labels) | DefinedType::Enum(labels) => put_vec(labels, out),
-            DefinedType::Result(ok, err) => put_both(ok, err, out),
+            DefinedType::Result { ok, err } => put_both(ok, err, out),
             DefinedType::Own(index) | DefinedType::Borrow(index) => Ok(put_number(out, *index)?),
             DefinedType::Function(function) => function.put(out),
         }
