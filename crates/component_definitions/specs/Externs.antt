@@ -1,7 +1,7 @@
 -- Imports and exports (Component Model Binary, Import and Export Definitions).
 use Rattle.std.specs.Prelude.{ℕ, List, Option, option_map, nat_le, ◌==◌, if◌then◌else◌}
 use Rattle.binary_grammar.specs.declared.fault.Rule.TheVariants as rules
-use Rattle.binary_grammar.specs.Syntax.{◌◂◌, ◌>>=◌, one_byte, some_name, gives, refuses, tested}
+use Rattle.binary_grammar.specs.Syntax.{Syntax, unbounded, ◌◂◌, ◌>>=◌, one_byte, some_name, gives, refuses, tested}
 use Rattle.component_value_types.specs.Combinators.{optional}
 use Rattle.component_value_types.specs.Scope.{Grammar, index}
 use Rattle.component_definitions.specs.declared.sorts.Sort.{Sort}
@@ -12,7 +12,7 @@ use Rattle.component_definitions.specs.declared.externs.Export.{Export}
 use Rattle.component_definitions.specs.Sorts.{sort, count}
 
 -- `00`, or `01`, which is read alike, and a name
-unfoldable pub extern_name : Grammar (List ℕ)
+abbrev pub extern_name : {C : Type 0} → Syntax unbounded C (List ℕ)
 extern_name = do
   k ← (λ _. 0) ◂ tested rules.Tag (λ _ b. nat_le b 1) one_byte
   n ← (λ x. x) ◂ some_name

@@ -45,9 +45,8 @@ pub struct Export<'a> {
 }
 
 /// The name of an import or export.
-#[tactic(auto, unfolding(crate::specs::Externs::extern_name))]
-pub fn extern_name<'a>(there: Scope, from: &mut Reader<'a>) -> Result<&'a str, ReadError>
-    ensures gives { Gives (λ x. (x.now, from.new.left)) result ((meaning spec.extern_name there).read from.old.left) }
+pub fn extern_name<'a>(from: &mut Reader<'a>) -> Result<&'a str, ReadError>
+    ensures gives { Gives (λ x. (x.now, from.new.left)) result ((meaning (spec.extern_name {C = Unit {0}}) tt).read from.old.left) }
     ensures end { from.new.end ≡ from.old.end }
 {
     let at = from.left();
@@ -59,11 +58,10 @@ pub fn extern_name<'a>(there: Scope, from: &mut Reader<'a>) -> Result<&'a str, R
 }
 
 /// Adds the name of an import or export. Answers `TooLarge` where 32 bits can't say its length.
-#[tactic(auto, unfolding(crate::specs::Externs::extern_name))]
 pub fn put_extern_name(name: &str, out: &mut Vec<u8>) -> Result<(), WriteFault>
-    ensures bytes { OnOk result (out.new.items ≡ out.old.items ++ bytes spec.extern_name name.now) }
-    ensures typed { OnOk result (IsTyped spec.extern_name name.now) }
-    ensures large { result ≡ Err WriteFault.TooLarge → IsTyped spec.extern_name name.now → ⊥ }
+    ensures bytes { OnOk result (out.new.items ≡ out.old.items ++ bytes (spec.extern_name {C = Unit {0}}) name.now) }
+    ensures typed { OnOk result (IsTyped (spec.extern_name {C = Unit {0}}) name.now) }
+    ensures large { result ≡ Err WriteFault.TooLarge → IsTyped (spec.extern_name {C = Unit {0}}) name.now → ⊥ }
 {
     out.push(0)?;
     put_name(out, name)?;
@@ -156,7 +154,7 @@ impl<'a> Part<'a> for Import<'a> {
 
     #[tactic(auto, unfolding(crate::specs::Externs::import_entry))]
     fn read(there: Scope, from: &mut Reader<'a>) -> Result<Import<'a>, ReadError> {
-        let name = extern_name(there, from)?;
+        let name = extern_name(from)?;
         let description = Description::read(there, from)?;
         Ok(Import { name, description })
     }
@@ -187,7 +185,7 @@ impl<'a> Part<'a> for Export<'a> {
 
     #[tactic(auto, unfolding(crate::specs::Externs::export_entry))]
     fn read(there: Scope, from: &mut Reader<'a>) -> Result<Export<'a>, ReadError> {
-        let name = extern_name(there, from)?;
+        let name = extern_name(from)?;
         let sort = Sort::read(there, from)?;
         let index = from.index(count(there, sort))?;
         let ascribed = optional_of(there, from)?;

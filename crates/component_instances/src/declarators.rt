@@ -132,7 +132,7 @@ impl<'a> DeclaratorsReader<'a> {
         ensures end { from.new.end ≡ from.old.end }
     {
         let at = from.left();
-        let name = extern_name(self.scope, from)?;
+        let name = extern_name(from)?;
         if !self.names.is_new(name) {
             return Err(broken_at(Rule::Duplicate, at));
         }

@@ -196,7 +196,7 @@ impl<'a> Part<'a> for InlineExport<'a> {
 
     #[tactic(auto, unfolding(crate::specs::Instances::inline_export))]
     fn read(there: Scope, from: &mut Reader<'a>) -> Result<InlineExport<'a>, ReadError> {
-        let name = extern_name(there, from)?;
+        let name = extern_name(from)?;
         let item = Item::read(there, from)?;
         Ok(InlineExport { name, item })
     }
