@@ -41,6 +41,19 @@ pub enum Alias<'a> {
     },
 }
 
+impl Alias<'_> {
+    /// The sort of what it names, of which it takes the next index.
+    pub fn sort(self) -> Sort
+        ensures { result ≡ spec.alias_sort (spec.alias_value self.entry) }
+    {
+        match self {
+            Alias::InstanceExport { sort, .. } => Sort::Component(sort),
+            Alias::CoreInstanceExport { kind, .. } => Sort::Core(kind),
+            Alias::Outer { .. } => Sort::Component(ComponentSort::Type_),
+        }
+    }
+}
+
 fn instance_export<'a>(
     sort: ComponentSort,
     there: Scope,

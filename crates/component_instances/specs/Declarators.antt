@@ -11,9 +11,11 @@ use Rattle.component_value_types.specs.Scope.{Grammar}
 use Rattle.component_value_types.specs.Types.{DefinedTypeValue, defined_type_value, defined_type, primitive}
 use Rattle.component_definitions.specs.declared.sorts.ComponentSort.{ComponentSort}
 use Rattle.component_definitions.specs.declared.sorts.ComponentSort.TheVariants as components
+use Rattle.component_definitions.specs.declared.sorts.Sort.{Sort}
+use Rattle.component_definitions.specs.declared.sorts.Sort.TheVariants as sorts
 use Rattle.component_definitions.specs.declared.externs.Description.{Description}
 use Rattle.component_definitions.specs.declared.externs.Description.TheVariants as descriptions
-use Rattle.component_definitions.specs.Aliases.{AliasValue, alias_value, alias, instance_export, core_instance_export, outer}
+use Rattle.component_definitions.specs.Aliases.{AliasValue, alias_value, alias_sort, alias, outer}
 use Rattle.component_definitions.specs.Externs.{extern_name, description}
 use Rattle.component_instances.specs.declared.declarators.Declarator.{Declarator}
 use Rattle.component_instances.specs.declared.declarators.Declarator.TheVariants as code
@@ -32,16 +34,16 @@ with_sort there components.Function = record there { functions = suc there.funct
 with_sort there components.Type_ = record there { types = suc there.types }
 with_sort there components.Instance = record there { instances = suc there.instances }
 
-abbrev pub with_alias : Scope → AliasValue → Scope
-with_alias there (instance_export s i name) = with_sort there s
-with_alias there (core_instance_export k i name) = with_core there k
-with_alias there (outer count i) = with_sort there components.Type_
+abbrev pub with_one : Scope → Sort → Scope
+with_one there (sorts.Core k) = with_core there k
+with_one there (sorts.Component s) = with_sort there s
 
-abbrev pub with_described : Scope → Description → Scope
-with_described there (descriptions.Function t) = with_sort there components.Function
-with_described there (descriptions.Equal t) = with_sort there components.Type_
-with_described there descriptions.Resource = with_sort there components.Type_
-with_described there (descriptions.Instance t) = with_sort there components.Instance
+-- the sort of what is described so
+abbrev pub described_sort : Description → ComponentSort
+described_sort (descriptions.Function t) = components.Function
+described_sort (descriptions.Equal t) = components.Type_
+described_sort descriptions.Resource = components.Type_
+described_sort (descriptions.Instance t) = components.Instance
 
 -- within an instance type nothing is there yet, and the types around can be named
 abbrev pub inside : Scope → Scope
@@ -103,10 +105,19 @@ pub record Declared : Type 0 where
 abbrev pub with_name : List (List ℕ) → List ℕ → List (List ℕ)
 with_name names name = if is_new names name then names ++ name ∷ [] else names
 
+-- each declarator takes the next index of one sort
+abbrev pub declared_sort : DeclaratorValue → Sort
+declared_sort (declared_type t) = sorts.Component components.Type_
+declared_sort (declared_alias a) = alias_sort a
+declared_sort (declared_export name d) = sorts.Component (described_sort d)
+
+abbrev pub declared_names : List (List ℕ) → DeclaratorValue → List (List ℕ)
+declared_names names (declared_type t) = names
+declared_names names (declared_alias a) = names
+declared_names names (declared_export name d) = with_name names name
+
 abbrev pub declared_with : Declared → DeclaratorValue → Declared
-declared_with k (declared_type t) = record k { scope = with_sort k.scope components.Type_ }
-declared_with k (declared_alias a) = record k { scope = with_alias k.scope a }
-declared_with k (declared_export name d) = record { scope = with_described k.scope d; names = with_name k.names name }
+declared_with k d = record { scope = with_one k.scope (declared_sort d); names = declared_names k.names d }
 
 pub data DeclaratorForm : Type 0 where
   a_type : DeclaratorForm

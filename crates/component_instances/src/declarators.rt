@@ -1,16 +1,18 @@
 //! Types of instances.
 
-ghost use Rattle.std.specs.Prelude.{◌≡◌, ◌++◌, map, IfSome, OnOk, Err};
+ghost use Rattle.std.specs.Prelude.{◌≡◌, ◌+◌, ◌<◌, ◌^◌, ◌++◌, map, IfSome, IsSome, OnOk, Err};
 ghost use Rattle.std.specs.List.{flat_map, All};
 ghost use Rattle.binary_grammar.specs.Fault.{Gives};
 ghost use Rattle.binary_grammar.specs.Syntax.{meaning, bytes, IsTyped};
-ghost use Rattle.component_definitions.specs.Aliases.{alias_value};
+ghost use Rattle.component_definitions.specs.Sorts.{core_count, component_count, count};
 ghost use Rattle.component_instances.specs.Declarators as spec;
 
 use binary_grammar::{
     Part, ReadError, Reader, Rule, Steps, WriteFault, broken_at, growing_of, put_number,
 };
-use component_definitions::{Alias, ComponentSort, Description, extern_name, put_extern_name};
+use component_definitions::{
+    Alias, ComponentSort, Description, Sort, extern_name, put_extern_name,
+};
 use component_value_types::{DefinedType, Scope};
 use distinct_names::Names;
 use wasm_types::ExportKind;
@@ -38,9 +40,10 @@ pub struct InstanceType<'a> {
     pub declarators: Vec<Declarator<'a>>,
 }
 
-/// One more of a core sort, unless that can't be counted.
+/// One more of a core sort, unless 64 bits can't count it.
 fn with_core(there: Scope, kind: ExportKind) -> Option<Scope>
-    ensures { IfSome result (λ s. s ≡ spec.with_core there kind) }
+    ensures value { IfSome result (λ s. s ≡ spec.with_core there kind) }
+    ensures fits { core_count there kind + 1 < 2 ^ 64 → IsSome result }
 {
     let mut scope = there;
     match kind {
@@ -52,9 +55,10 @@ fn with_core(there: Scope, kind: ExportKind) -> Option<Scope>
     Some(scope)
 }
 
-/// One more of a sort of a component, unless that can't be counted.
+/// One more of a sort of a component, unless 64 bits can't count it.
 fn with_sort(there: Scope, sort: ComponentSort) -> Option<Scope>
-    ensures { IfSome result (λ s. s ≡ spec.with_sort there sort) }
+    ensures value { IfSome result (λ s. s ≡ spec.with_sort there sort) }
+    ensures fits { component_count there sort + 1 < 2 ^ 64 → IsSome result }
 {
     let mut scope = there;
     match sort {
@@ -65,25 +69,25 @@ fn with_sort(there: Scope, sort: ComponentSort) -> Option<Scope>
     Some(scope)
 }
 
-/// What there is behind an alias, unless that can't be counted.
-fn with_alias(there: Scope, alias: Alias) -> Option<Scope>
-    ensures { IfSome result (λ s. s ≡ spec.with_alias there (alias_value alias.entry)) }
+/// One more of a sort, unless 64 bits can't count it.
+fn with_one(there: Scope, sort: Sort) -> Option<Scope>
+    ensures value { IfSome result (λ s. s ≡ spec.with_one there sort) }
+    ensures fits { count there sort + 1 < 2 ^ 64 → IsSome result }
 {
-    match alias {
-        Alias::InstanceExport { sort, .. } => with_sort(there, sort),
-        Alias::CoreInstanceExport { kind, .. } => with_core(there, kind),
-        Alias::Outer { .. } => with_sort(there, ComponentSort::Type_),
+    match sort {
+        Sort::Core(kind) => with_core(there, kind),
+        Sort::Component(sort) => with_sort(there, sort),
     }
 }
 
-/// What there is behind what is described so, unless that can't be counted.
-fn with_described(there: Scope, description: Description) -> Option<Scope>
-    ensures { IfSome result (λ s. s ≡ spec.with_described there description) }
+/// The sort of what is described so.
+fn described_sort(description: Description) -> ComponentSort
+    ensures { result ≡ spec.described_sort description }
 {
     match description {
-        Description::Function(_) => with_sort(there, ComponentSort::Function),
-        Description::Equal(_) | Description::Resource => with_sort(there, ComponentSort::Type_),
-        Description::Instance(_) => with_sort(there, ComponentSort::Instance),
+        Description::Function(_) => ComponentSort::Function,
+        Description::Equal(_) | Description::Resource => ComponentSort::Type_,
+        Description::Instance(_) => ComponentSort::Instance,
     }
 }
 
@@ -178,17 +182,14 @@ impl<'a> Steps<'a> for DeclaratorsReader<'a> {
     }
 
     fn add(&mut self, item: Declarator<'a>) -> Result<(), ReadError> {
-        let scope = match &item {
-            Declarator::Type_(_) => with_sort(self.scope, ComponentSort::Type_),
-            Declarator::Alias(alias) => with_alias(self.scope, *alias),
-            Declarator::Export { name, description } => {
-                if self.names.is_new(name) {
-                    self.names.add(name)?;
-                }
-                with_described(self.scope, *description)
-            }
+        let Some(scope) = with_one(self.scope, item.sort()) else {
+            return Err(ReadError::Memory);
         };
-        let scope = scope.ok_or(ReadError::Memory)?;
+        if let Declarator::Export { name, .. } = &item {
+            if self.names.is_new(name) {
+                self.names.add(name)?;
+            }
+        }
         self.declarators.push(item)?;
         self.scope = scope;
         Ok(())
@@ -196,6 +197,19 @@ impl<'a> Steps<'a> for DeclaratorsReader<'a> {
 }
 
 impl<'a> Declarator<'a> {
+    /// The sort of which it takes the next index.
+    fn sort(&self) -> Sort
+        ensures { result ≡ spec.declared_sort (spec.declarator_value self.now) }
+    {
+        match self {
+            Declarator::Type_(_) => Sort::Component(ComponentSort::Type_),
+            Declarator::Alias(alias) => alias.sort(),
+            Declarator::Export { description, .. } => {
+                Sort::Component(described_sort(*description))
+            }
+        }
+    }
+
     /// Adds the shortest bytes of the declarator. Answers `TooLarge` only where its names, lengths and counts don't all fit.
     #[tactic(auto, unfolding(crate::specs::Declarators::declarator, crate::specs::Declarators::declarator_form_of))]
     fn put(&self, out: &mut Vec<u8>) -> Result<(), WriteFault>
