@@ -5,6 +5,10 @@ use Rattle.binary_grammar.specs.Syntax.{◌◂◌, ◌>>=◌, one_byte, gives, r
 use Rattle.component_value_types.specs.Scope.{Grammar, index}
 use Rattle.component_definitions.specs.declared.canonical.CanonicalOption.{CanonicalOption}
 use Rattle.component_definitions.specs.declared.canonical.CanonicalOption.TheVariants as options
+use Rattle.wasm_types.specs.declared.types.ExportKind.TheVariants as kinds
+use Rattle.component_definitions.specs.declared.sorts.ComponentSort.TheVariants as components
+use Rattle.component_definitions.specs.declared.sorts.Sort.{Sort}
+use Rattle.component_definitions.specs.declared.sorts.Sort.TheVariants as sorts
 use Rattle.component_definitions.specs.declared.canonical.CanonicalDefinition.{CanonicalDefinition}
 use Rattle.component_definitions.specs.declared.canonical.CanonicalDefinition.TheVariants as code
 
@@ -96,6 +100,14 @@ canonical_byte (lower f os) = 1
 canonical_byte (resource_new t) = 2
 canonical_byte (resource_drop t) = 3
 canonical_byte (resource_rep t) = 4
+
+-- the sort of what it defines
+abbrev pub canonical_sort : CanonicalValue → Sort
+canonical_sort (lift f os t) = sorts.Component components.Function
+canonical_sort (lower f os) = sorts.Core kinds.Func
+canonical_sort (resource_new t) = sorts.Core kinds.Func
+canonical_sort (resource_drop t) = sorts.Core kinds.Func
+canonical_sort (resource_rep t) = sorts.Core kinds.Func
 
 -- its parts, and any value where it has another part
 abbrev pub function_in : CanonicalValue → ℕ

@@ -87,11 +87,16 @@ pub record ImportValue : Type 0 where
 abbrev pub import_value : Import → ImportValue
 import_value i = record { name = i.name.now; description = i.description }
 
+-- what stands behind the name
+abbrev pub import_behind : List ℕ → Grammar ImportValue
+import_behind n = do
+  d ← (λ i. i.description) ◂ description
+  gives (record { name = n; description = d })
+
 unfoldable pub import_entry : Grammar ImportValue
 import_entry = do
   n ← (λ i. i.name) ◂ extern_name
-  d ← (λ i. i.description) ◂ description
-  gives (record { name = n; description = d })
+  import_behind n
 
 pub record ExportValue : Type 0 where
   pub name : List ℕ
@@ -102,10 +107,15 @@ pub record ExportValue : Type 0 where
 abbrev pub export_value : Export → ExportValue
 export_value e = record { name = e.name.now; sort = e.sort; index = e.index; ascribed = option_map (λ d. d) e.ascribed }
 
-unfoldable pub export_entry : Grammar ExportValue
-export_entry = do
-  n ← (λ e. e.name) ◂ extern_name
+-- what stands behind the name
+abbrev pub export_behind : List ℕ → Grammar ExportValue
+export_behind n = do
   s ← (λ e. e.sort) ◂ sort
   i ← (λ e. e.index) ◂ index (λ there. count there s)
   a ← (λ e. e.ascribed) ◂ optional description
   gives (record { name = n; sort = s; index = i; ascribed = a })
+
+unfoldable pub export_entry : Grammar ExportValue
+export_entry = do
+  n ← (λ e. e.name) ◂ extern_name
+  export_behind n

@@ -2,3 +2,4 @@ pub mod Sorts
 pub mod Aliases
 pub mod Canonical
 pub mod Externs
+pub mod Counting

@@ -5,10 +5,12 @@ ghost use Rattle.binary_grammar.specs.Fault.{Gives};
 ghost use Rattle.binary_grammar.specs.Syntax.{meaning, bytes, vec, IsTyped, u32_bytes};
 ghost use Rattle.component_definitions.specs.Canonical as spec;
 
+use crate::sorts::{ComponentSort, Sort};
 use binary_grammar::{
     Part, ReadError, Reader, Rule, WriteFault, broken_at, put_number, put_vec, vec_of,
 };
 use component_value_types::Scope;
+use wasm_types::ExportKind;
 
 /// How values are lifted and lowered (Component Model Binary, Canonical Definitions).
 #[derive(Clone, Copy, Debug, PartialEq, Eq)]
@@ -186,6 +188,21 @@ fn lower(there: Scope, from: &mut Reader<'_>) -> Result<CanonicalDefinition, Rea
     let function = from.index(there.functions)?;
     let options = options_of(there, from)?;
     Ok(CanonicalDefinition::Lower { function, options })
+}
+
+impl CanonicalDefinition {
+    /// The sort of what it defines, of which it takes the next index.
+    pub fn sort(&self) -> Sort
+        ensures { result ≡ spec.canonical_sort (spec.canonical_value self.now) }
+    {
+        match self {
+            CanonicalDefinition::Lift { .. } => Sort::Component(ComponentSort::Function),
+            CanonicalDefinition::Lower { .. }
+            | CanonicalDefinition::ResourceNew(_)
+            | CanonicalDefinition::ResourceDrop(_)
+            | CanonicalDefinition::ResourceRep(_) => Sort::Core(ExportKind::Func),
+        }
+    }
 }
 
 impl<'a> Part<'a> for CanonicalDefinition {

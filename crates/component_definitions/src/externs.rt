@@ -136,6 +136,21 @@ fn put_type(kind: u8, ty: u32, out: &mut Vec<u8>) -> Result<(), WriteFault>
     Ok(())
 }
 
+impl<'a> Import<'a> {
+    /// Reads what stands behind the name.
+    pub fn read_behind(
+        name: &'a str,
+        there: Scope,
+        from: &mut Reader<'a>,
+    ) -> Result<Import<'a>, ReadError>
+        ensures gives { Gives (λ x. (spec.import_value x, from.new.left)) result ((meaning (spec.import_behind name.now) there).read from.old.left) }
+        ensures end { from.new.end ≡ from.old.end }
+    {
+        let description = Description::read(there, from)?;
+        Ok(Import { name, description })
+    }
+}
+
 impl<'a> Part<'a> for Import<'a> {
     type Context = Scope;
 
@@ -155,8 +170,7 @@ impl<'a> Part<'a> for Import<'a> {
     #[tactic(auto, unfolding(crate::specs::Externs::import_entry))]
     fn read(there: Scope, from: &mut Reader<'a>) -> Result<Import<'a>, ReadError> {
         let name = extern_name(from)?;
-        let description = Description::read(there, from)?;
-        Ok(Import { name, description })
+        Import::read_behind(name, there, from)
     }
 
     #[tactic(auto, unfolding(crate::specs::Externs::import_entry))]
@@ -164,6 +178,28 @@ impl<'a> Part<'a> for Import<'a> {
         put_extern_name(self.name, out)?;
         self.description.put(out)?;
         Ok(())
+    }
+}
+
+impl<'a> Export<'a> {
+    /// Reads what stands behind the name.
+    pub fn read_behind(
+        name: &'a str,
+        there: Scope,
+        from: &mut Reader<'a>,
+    ) -> Result<Export<'a>, ReadError>
+        ensures gives { Gives (λ x. (spec.export_value x, from.new.left)) result ((meaning (spec.export_behind name.now) there).read from.old.left) }
+        ensures end { from.new.end ≡ from.old.end }
+    {
+        let sort = Sort::read(there, from)?;
+        let index = from.index(count(there, sort))?;
+        let ascribed = optional_of(there, from)?;
+        Ok(Export {
+            name,
+            sort,
+            index,
+            ascribed,
+        })
     }
 }
 
@@ -186,15 +222,7 @@ impl<'a> Part<'a> for Export<'a> {
     #[tactic(auto, unfolding(crate::specs::Externs::export_entry))]
     fn read(there: Scope, from: &mut Reader<'a>) -> Result<Export<'a>, ReadError> {
         let name = extern_name(from)?;
-        let sort = Sort::read(there, from)?;
-        let index = from.index(count(there, sort))?;
-        let ascribed = optional_of(there, from)?;
-        Ok(Export {
-            name,
-            sort,
-            index,
-            ascribed,
-        })
+        Export::read_behind(name, there, from)
     }
 
     #[tactic(auto, unfolding(crate::specs::Externs::export_entry))]

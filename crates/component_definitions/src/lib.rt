@@ -3,10 +3,12 @@
 
 mod aliases;
 mod canonical;
+mod counting;
 mod externs;
 mod sorts;
 
 pub use aliases::Alias;
 pub use canonical::{CanonicalDefinition, CanonicalOption};
+pub use counting::{described_sort, inside, with_one};
 pub use externs::{Description, Export, Import, extern_name, put_extern_name};
 pub use sorts::{ComponentSort, Sort, component_count, core_count, count};

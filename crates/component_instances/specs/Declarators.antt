@@ -1,15 +1,12 @@
 -- Types of instances (Component Model Binary, Type Definitions, Instance Declarators).
-use Rattle.std.specs.Prelude.{ℕ, suc, List, [], ◌∷◌, ◌++◌, map, Some, Bool, true, false, ◌==◌, if◌then◌else◌}
+use Rattle.std.specs.Prelude.{ℕ, List, [], ◌∷◌, ◌++◌, map, Bool, true, false, ◌==◌, if◌then◌else◌}
 use Rattle.binary_grammar.specs.declared.fault.Rule.TheVariants as rules
 use Rattle.binary_grammar.specs.Syntax.{Syntax, unbounded, ◌◂◌, ◌>>=◌, one_byte, gives, refuses, tested, growing, where_known}
-use Rattle.wasm_types.specs.declared.types.ExportKind.{ExportKind}
-use Rattle.wasm_types.specs.declared.types.ExportKind.TheVariants as kinds
 use Rattle.distinct_names.specs.Names.{is_new}
 use Rattle.component_value_types.specs.declared.scope.Scope.{Scope}
 use Rattle.component_value_types.specs.declared.values.PrimitiveValueType.TheVariants as primitives
 use Rattle.component_value_types.specs.Scope.{Grammar}
 use Rattle.component_value_types.specs.Types.{DefinedTypeValue, defined_type_value, defined_type, primitive}
-use Rattle.component_definitions.specs.declared.sorts.ComponentSort.{ComponentSort}
 use Rattle.component_definitions.specs.declared.sorts.ComponentSort.TheVariants as components
 use Rattle.component_definitions.specs.declared.sorts.Sort.{Sort}
 use Rattle.component_definitions.specs.declared.sorts.Sort.TheVariants as sorts
@@ -17,50 +14,10 @@ use Rattle.component_definitions.specs.declared.externs.Description.{Description
 use Rattle.component_definitions.specs.declared.externs.Description.TheVariants as descriptions
 use Rattle.component_definitions.specs.Aliases.{AliasValue, alias_value, alias_sort, alias, outer}
 use Rattle.component_definitions.specs.Externs.{extern_name, description}
+use Rattle.component_definitions.specs.Counting.{with_one, described_sort, inside}
 use Rattle.component_instances.specs.declared.declarators.Declarator.{Declarator}
 use Rattle.component_instances.specs.declared.declarators.Declarator.TheVariants as code
 use Rattle.component_instances.specs.declared.declarators.InstanceType.{InstanceType}
-
--- ---- what there is behind a definition of a sort
-
-abbrev pub with_core : Scope → ExportKind → Scope
-with_core there kinds.Func = record there { core_functions = suc there.core_functions }
-with_core there kinds.Table = record there { core_tables = suc there.core_tables }
-with_core there kinds.Memory = record there { core_memories = suc there.core_memories }
-with_core there kinds.Global = record there { core_globals = suc there.core_globals }
-
-abbrev pub with_sort : Scope → ComponentSort → Scope
-with_sort there components.Function = record there { functions = suc there.functions }
-with_sort there components.Type_ = record there { types = suc there.types }
-with_sort there components.Instance = record there { instances = suc there.instances }
-
-abbrev pub with_one : Scope → Sort → Scope
-with_one there (sorts.Core k) = with_core there k
-with_one there (sorts.Component s) = with_sort there s
-
--- the sort of what is described so
-abbrev pub described_sort : Description → ComponentSort
-described_sort (descriptions.Function t) = components.Function
-described_sort (descriptions.Equal t) = components.Type_
-described_sort descriptions.Resource = components.Type_
-described_sort (descriptions.Instance t) = components.Instance
-
--- within an instance type nothing is there yet, and the types around can be named
-abbrev pub inside : Scope → Scope
-inside there = record {
-  core_functions = 0;
-  core_tables = 0;
-  core_memories = 0;
-  core_globals = 0;
-  core_modules = 0;
-  core_instances = 0;
-  components = 0;
-  instances = 0;
-  functions = 0;
-  types = 0;
-  outer = Some there.types;
-  outermost = there.outer;
-}
 
 -- ---- declarators
 

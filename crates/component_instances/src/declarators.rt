@@ -1,21 +1,20 @@
 //! Types of instances.
 
-ghost use Rattle.std.specs.Prelude.{◌≡◌, ◌+◌, ◌<◌, ◌^◌, ◌++◌, map, IfSome, IsSome, OnOk, Err};
+ghost use Rattle.std.specs.Prelude.{◌≡◌, ◌++◌, map, OnOk, Err};
 ghost use Rattle.std.specs.List.{flat_map, All};
 ghost use Rattle.binary_grammar.specs.Fault.{Gives};
 ghost use Rattle.binary_grammar.specs.Syntax.{meaning, bytes, IsTyped};
-ghost use Rattle.component_definitions.specs.Sorts.{core_count, component_count, count};
 ghost use Rattle.component_instances.specs.Declarators as spec;
 
 use binary_grammar::{
     Part, ReadError, Reader, Rule, Steps, WriteFault, broken_at, growing_of, put_number,
 };
 use component_definitions::{
-    Alias, ComponentSort, Description, Sort, extern_name, put_extern_name,
+    Alias, ComponentSort, Description, Sort, described_sort, extern_name, inside, put_extern_name,
+    with_one,
 };
 use component_value_types::{DefinedType, Scope};
 use distinct_names::Names;
-use wasm_types::ExportKind;
 
 /// What an instance type says (Component Model Binary, Type Definitions, Instance Declarators).
 #[derive(Debug, Drop)]
@@ -38,77 +37,6 @@ pub enum Declarator<'a> {
 pub struct InstanceType<'a> {
     /// What it says, each where those before it are known.
     pub declarators: Vec<Declarator<'a>>,
-}
-
-/// One more of a core sort, unless 64 bits can't count it.
-fn with_core(there: Scope, kind: ExportKind) -> Option<Scope>
-    ensures value { IfSome result (λ s. s ≡ spec.with_core there kind) }
-    ensures fits { core_count there kind + 1 < 2 ^ 64 → IsSome result }
-{
-    let mut scope = there;
-    match kind {
-        ExportKind::Func => scope.core_functions = there.core_functions.checked_add(1)?,
-        ExportKind::Table => scope.core_tables = there.core_tables.checked_add(1)?,
-        ExportKind::Memory => scope.core_memories = there.core_memories.checked_add(1)?,
-        ExportKind::Global => scope.core_globals = there.core_globals.checked_add(1)?,
-    }
-    Some(scope)
-}
-
-/// One more of a sort of a component, unless 64 bits can't count it.
-fn with_sort(there: Scope, sort: ComponentSort) -> Option<Scope>
-    ensures value { IfSome result (λ s. s ≡ spec.with_sort there sort) }
-    ensures fits { component_count there sort + 1 < 2 ^ 64 → IsSome result }
-{
-    let mut scope = there;
-    match sort {
-        ComponentSort::Function => scope.functions = there.functions.checked_add(1)?,
-        ComponentSort::Type_ => scope.types = there.types.checked_add(1)?,
-        ComponentSort::Instance => scope.instances = there.instances.checked_add(1)?,
-    }
-    Some(scope)
-}
-
-/// One more of a sort, unless 64 bits can't count it.
-fn with_one(there: Scope, sort: Sort) -> Option<Scope>
-    ensures value { IfSome result (λ s. s ≡ spec.with_one there sort) }
-    ensures fits { count there sort + 1 < 2 ^ 64 → IsSome result }
-{
-    match sort {
-        Sort::Core(kind) => with_core(there, kind),
-        Sort::Component(sort) => with_sort(there, sort),
-    }
-}
-
-/// The sort of what is described so.
-fn described_sort(description: Description) -> ComponentSort
-    ensures { result ≡ spec.described_sort description }
-{
-    match description {
-        Description::Function(_) => ComponentSort::Function,
-        Description::Equal(_) | Description::Resource => ComponentSort::Type_,
-        Description::Instance(_) => ComponentSort::Instance,
-    }
-}
-
-/// What is there within an instance type.
-fn inside(there: Scope) -> Scope
-    ensures { result ≡ spec.inside there }
-{
-    Scope {
-        core_functions: 0,
-        core_tables: 0,
-        core_memories: 0,
-        core_globals: 0,
-        core_modules: 0,
-        core_instances: 0,
-        components: 0,
-        instances: 0,
-        functions: 0,
-        types: 0,
-        outer: Some(there.types),
-        outermost: there.outer,
-    }
 }
 
 /// Whether an instance may export it.

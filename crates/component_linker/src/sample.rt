@@ -15,20 +15,36 @@ const MODULE: &[u8] = &[
     0x01, 0x05, 0x24, 0x72, 0x6f, 0x6f, 0x74, 0x01, 0x66, 0x00, 0x00,
 ];
 
-/// The links of the example, and the verdict on the component that is built of it.
-fn answer(alloc: Global) -> Result<String, Fault> {
-    let mut session = Session::new(alloc);
+/// Hands the text and the module over, for the world.
+fn hand_over(session: &mut Session<'static>) -> Result<(), Fault> {
     let package = session.push_source("a.wit", TEXT)?;
     let world = session.select_world(&[package], Some("w"))?;
-    session.module(MODULE, world, StringEncoding::UTF8)?;
-    let links = session.links()?;
-    let mut text = lines_of(alloc, &links)?;
+    session.module(MODULE, world, StringEncoding::UTF8)
+}
+
+/// Adds the verdict on the component that is built of the input.
+fn push_verdict(alloc: Global, session: &Session, text: &mut String) -> Result<(), Fault> {
     let component = session.build()?;
-    let verdict = audit(&session, &component)?;
+    let verdict = audit(session, &component)?;
     let line = verdict.to_text(alloc)?;
     text.push_str(line.as_str())?;
     text.push('\n')?;
+    Ok(())
+}
+
+/// The links of the input, and the verdict.
+fn linked(alloc: Global, session: &Session) -> Result<String, Fault> {
+    let links = session.links()?;
+    let mut text = lines_of(alloc, &links)?;
+    push_verdict(alloc, session, &mut text)?;
     Ok(text)
+}
+
+/// The links of the example, and the verdict on the component that is built of it.
+fn answer(alloc: Global) -> Result<String, Fault> {
+    let mut session = Session::new(alloc);
+    hand_over(&mut session)?;
+    linked(alloc, &session)
 }
 
 /// Writes the links of a small example and the verdict on its component, and answers the exit status: 0, or 1 where

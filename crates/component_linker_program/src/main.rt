@@ -108,6 +108,45 @@ fn run_to_file<R: Files + AllocGlobal, E: Write>(
     status
 }
 
+/// The words, lent.
+fn texts_of(alloc: Global, words: &[String]) -> io::Result<Vec<&str>> {
+    let mut texts: Vec<&str> = Vec::new(alloc);
+    for word in words {
+        texts.push(word.as_str())?;
+    }
+    Ok(texts)
+}
+
+/// Does what a line asks for with these files, and answers the exit status.
+fn run_on<R: Files + AllocGlobal, O: Write, E: Write>(
+    rt: &R,
+    line: &Result<Line, LineFault>,
+    named: &Line,
+    files: &[(&str, &[u8])],
+    out: &mut O,
+    err: &mut E,
+) -> u8 {
+    match &named.out {
+        Some(path) => run_to_file(rt, line, files, path.as_str(), err),
+        None => run(rt.alloc(), line, files, out, err),
+    }
+}
+
+/// Does what a line asks for, or says what is wrong with it, and answers the exit status.
+fn run_line<R: Files + AllocGlobal, O: Write, E: Write>(
+    rt: &R,
+    line: &Result<Line, LineFault>,
+    out: &mut O,
+    err: &mut E,
+) -> io::Result<u8> {
+    let Ok(named) = line else {
+        return Ok(run(rt.alloc(), line, &[], out, err));
+    };
+    let found = read_files(rt, &named.inputs)?;
+    let files = lent(rt.alloc(), &found)?;
+    Ok(run_on(rt, line, named, &files, out, err))
+}
+
 /// Runs the program on words, and answers the exit status.
 fn run_words<R: Files + AllocGlobal, O: Write, E: Write>(
     rt: &R,
@@ -115,21 +154,8 @@ fn run_words<R: Files + AllocGlobal, O: Write, E: Write>(
     out: &mut O,
     err: &mut E,
 ) -> io::Result<u8> {
-    let alloc = rt.alloc();
-    let mut texts: Vec<&str> = Vec::new(alloc);
-    for word in words {
-        texts.push(word.as_str())?;
-    }
-    let line = read_line(alloc, &texts);
-    let Ok(named) = &line else {
-        return Ok(run(alloc, &line, &[], out, err));
-    };
-    let found = read_files(rt, &named.inputs)?;
-    let files = lent(alloc, &found)?;
-    match &named.out {
-        Some(path) => Ok(run_to_file(rt, &line, &files, path.as_str(), err)),
-        None => Ok(run(alloc, &line, &files, out, err)),
-    }
+    let texts = texts_of(rt.alloc(), words)?;
+    run_line(rt, &read_line(rt.alloc(), &texts), out, err)
 }
 
 /// Runs the example without words, and the program with some; answers the exit status.

@@ -65,15 +65,38 @@ fn rows_of<'t>(alloc: Global, lines: &'t [String]) -> Result<Vec<Row<'t>>, Alloc
     Ok(rows)
 }
 
+/// Adds a line, and the answer of its row behind it.
+fn push_answered<'r>(
+    alloc: Global,
+    making: &mut Making<'r>,
+    line: &str,
+    row: &'r Row<'_>,
+    out: &mut String,
+) -> Result<(), AllocError> {
+    out.push_str(line)?;
+    out.push('\n')?;
+    answer(alloc, making, row, out)
+}
+
+/// Adds the lines, each with the answer of its row behind it.
+fn push_answers<'r>(
+    alloc: Global,
+    making: &mut Making<'r>,
+    lines: &[String],
+    rows: &'r [Row<'_>],
+    out: &mut String,
+) -> Result<(), AllocError> {
+    for (line, row) in lines.iter().zip(rows) {
+        push_answered(alloc, making, line, row, out)?;
+    }
+    Ok(())
+}
+
 /// The lines, each with the answer of its row behind it.
 fn answers<'r>(alloc: Global, lines: &[String], rows: &'r [Row<'_>]) -> Result<String, AllocError> {
     let mut making: Making<'r> = Making::new(alloc);
     let mut out = String::new(alloc);
-    for (line, row) in lines.iter().zip(rows) {
-        out.push_str(line)?;
-        out.push('\n')?;
-        answer(alloc, &mut making, row, &mut out)?;
-    }
+    push_answers(alloc, &mut making, lines, rows, &mut out)?;
     Ok(out)
 }
 

@@ -68,10 +68,19 @@ fn core_export(alloc: Global, row: &str) -> Result<Option<String>, AllocError> {
         Some(interface)
     };
     let function = function_of(alloc, name, FunctionKind::Freestanding)?;
+    Ok(Some(names_text(alloc, &function, interface)?))
+}
+
+/// The names of a function's core export.
+fn names_text(
+    alloc: Global,
+    function: &Function,
+    interface: Option<&str>,
+) -> Result<String, AllocError> {
     let standard = function.standard32_core_export_name(alloc, interface)?;
     let legacy = function.legacy_core_export_name(alloc, interface)?;
-    let agrees = agrees(alloc, &function, interface, &standard, &legacy)?;
-    Ok(Some(format!(in alloc; "{standard} or {legacy}{agrees}")?))
+    let agrees = agrees(alloc, function, interface, &standard, &legacy)?;
+    format!(in alloc; "{standard} or {legacy}{agrees}")
 }
 
 /// Nothing, where the call that is told the mangling answers the same.
@@ -159,23 +168,42 @@ fn params_of(alloc: Global, words: &str) -> Result<Vec<Param>, AllocError> {
     Ok(params)
 }
 
+/// The function of those parameters and that result.
+fn function_by(alloc: Global, params: &str, word: &str) -> Result<Function, AllocError> {
+    let params = params_of(alloc, params)?;
+    let mut function = function_of(alloc, "f", FunctionKind::Freestanding)?;
+    function.params = params;
+    function.result = type_by(word);
+    Ok(function)
+}
+
+/// Adds the word of a type behind others.
+fn push_word(out: &mut String, ty: Type) -> Result<(), AllocError> {
+    if !out.is_empty() {
+        out.push_str(", ")?;
+    }
+    out.push_str(word_of(ty))
+}
+
+/// The words of the types of a function.
+fn words_text(alloc: Global, function: &Function) -> Result<String, AllocError> {
+    let mut out = String::new(alloc);
+    for ty in function.parameter_and_result_types() {
+        push_word(&mut out, ty)?;
+    }
+    if out.is_empty() {
+        out.push_str("nothing")?;
+    }
+    Ok(out)
+}
+
 /// What the types of a function give one by one.
 fn types(alloc: Global, row: &str) -> Result<Option<String>, AllocError> {
     let Some((params, result)) = row.split_once("-> ") else {
         return Ok(None);
     };
-    let mut function = function_of(alloc, "f", FunctionKind::Freestanding)?;
-    function.params = params_of(alloc, params)?;
-    function.result = type_by(result);
-    let mut out = String::new(alloc);
-    for ty in function.parameter_and_result_types() {
-        out.push_str(if out.is_empty() { "" } else { ", " })?;
-        out.push_str(word_of(ty))?;
-    }
-    if out.is_empty() {
-        out.push_str("nothing")?;
-    }
-    Ok(Some(out))
+    let function = function_by(alloc, params, result)?;
+    Ok(Some(words_text(alloc, &function)?))
 }
 
 /// The answer to a row.

@@ -101,14 +101,23 @@ fn item_text(
     stability: Stability,
 ) -> Result<Option<String>, AllocError> {
     let (item, types) = item_by(alloc, word, stability)?;
+    described(alloc, &item, &types)
+}
+
+/// What is said of an item.
+fn described(
+    alloc: Global,
+    item: &WorldItem,
+    types: &Arena<TypeDef>,
+) -> Result<Option<String>, AllocError> {
     let span = item.span();
     let start = span.start;
     let end = span.end;
-    if let WorldItem::TypeItem { id, .. } = &item {
+    if let WorldItem::TypeItem { id, .. } = item {
         if id.index() >= types.len() {
             return Ok(None);
         }
     }
-    let text = stability_text(item.stability(&types));
+    let text = stability_text(item.stability(types));
     Ok(Some(format!(in alloc; "{text}, at {start}..{end}")?))
 }

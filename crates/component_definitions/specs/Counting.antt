@@ -1,0 +1,50 @@
+-- What there is of each sort behind a definition (Component Model, Explainer, Index Spaces).
+use Rattle.std.specs.Prelude.{suc, Some}
+use Rattle.wasm_types.specs.declared.types.ExportKind.{ExportKind}
+use Rattle.wasm_types.specs.declared.types.ExportKind.TheVariants as kinds
+use Rattle.component_value_types.specs.declared.scope.Scope.{Scope}
+use Rattle.component_definitions.specs.declared.sorts.ComponentSort.{ComponentSort}
+use Rattle.component_definitions.specs.declared.sorts.ComponentSort.TheVariants as components
+use Rattle.component_definitions.specs.declared.sorts.Sort.{Sort}
+use Rattle.component_definitions.specs.declared.sorts.Sort.TheVariants as sorts
+use Rattle.component_definitions.specs.declared.externs.Description.{Description}
+use Rattle.component_definitions.specs.declared.externs.Description.TheVariants as descriptions
+
+abbrev pub with_core : Scope → ExportKind → Scope
+with_core there kinds.Func = record there { core_functions = suc there.core_functions }
+with_core there kinds.Table = record there { core_tables = suc there.core_tables }
+with_core there kinds.Memory = record there { core_memories = suc there.core_memories }
+with_core there kinds.Global = record there { core_globals = suc there.core_globals }
+
+abbrev pub with_sort : Scope → ComponentSort → Scope
+with_sort there components.Function = record there { functions = suc there.functions }
+with_sort there components.Type_ = record there { types = suc there.types }
+with_sort there components.Instance = record there { instances = suc there.instances }
+
+abbrev pub with_one : Scope → Sort → Scope
+with_one there (sorts.Core k) = with_core there k
+with_one there (sorts.Component s) = with_sort there s
+
+-- the sort of what is described so
+abbrev pub described_sort : Description → ComponentSort
+described_sort (descriptions.Function t) = components.Function
+described_sort (descriptions.Equal t) = components.Type_
+described_sort descriptions.Resource = components.Type_
+described_sort (descriptions.Instance t) = components.Instance
+
+-- within an instance type or a nested component nothing is there yet, and the types around can be named
+abbrev pub inside : Scope → Scope
+inside there = record {
+  core_functions = 0;
+  core_tables = 0;
+  core_memories = 0;
+  core_globals = 0;
+  core_modules = 0;
+  core_instances = 0;
+  components = 0;
+  instances = 0;
+  functions = 0;
+  types = 0;
+  outer = Some there.types;
+  outermost = there.outer;
+}

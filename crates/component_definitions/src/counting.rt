@@ -1,0 +1,81 @@
+//! What there is of each sort behind a definition.
+
+ghost use Rattle.std.specs.Prelude.{◌≡◌, ◌+◌, ◌<◌, ◌^◌, IfSome, IsSome};
+ghost use Rattle.component_definitions.specs.Counting as spec;
+ghost use Rattle.component_definitions.specs.Sorts.{core_count, component_count, count};
+
+use crate::externs::Description;
+use crate::sorts::{ComponentSort, Sort};
+use component_value_types::Scope;
+use wasm_types::ExportKind;
+
+/// One more of a core sort, unless 64 bits can't count it.
+fn with_core(there: Scope, kind: ExportKind) -> Option<Scope>
+    ensures value { IfSome result (λ s. s ≡ spec.with_core there kind) }
+    ensures fits { core_count there kind + 1 < 2 ^ 64 → IsSome result }
+{
+    let mut scope = there;
+    match kind {
+        ExportKind::Func => scope.core_functions = there.core_functions.checked_add(1)?,
+        ExportKind::Table => scope.core_tables = there.core_tables.checked_add(1)?,
+        ExportKind::Memory => scope.core_memories = there.core_memories.checked_add(1)?,
+        ExportKind::Global => scope.core_globals = there.core_globals.checked_add(1)?,
+    }
+    Some(scope)
+}
+
+/// One more of a sort of a component, unless 64 bits can't count it.
+fn with_sort(there: Scope, sort: ComponentSort) -> Option<Scope>
+    ensures value { IfSome result (λ s. s ≡ spec.with_sort there sort) }
+    ensures fits { component_count there sort + 1 < 2 ^ 64 → IsSome result }
+{
+    let mut scope = there;
+    match sort {
+        ComponentSort::Function => scope.functions = there.functions.checked_add(1)?,
+        ComponentSort::Type_ => scope.types = there.types.checked_add(1)?,
+        ComponentSort::Instance => scope.instances = there.instances.checked_add(1)?,
+    }
+    Some(scope)
+}
+
+/// One more of a sort, unless 64 bits can't count it.
+pub fn with_one(there: Scope, sort: Sort) -> Option<Scope>
+    ensures value { IfSome result (λ s. s ≡ spec.with_one there sort) }
+    ensures fits { count there sort + 1 < 2 ^ 64 → IsSome result }
+{
+    match sort {
+        Sort::Core(kind) => with_core(there, kind),
+        Sort::Component(sort) => with_sort(there, sort),
+    }
+}
+
+/// The sort of what is described so.
+pub fn described_sort(description: Description) -> ComponentSort
+    ensures { result ≡ spec.described_sort description }
+{
+    match description {
+        Description::Function(_) => ComponentSort::Function,
+        Description::Equal(_) | Description::Resource => ComponentSort::Type_,
+        Description::Instance(_) => ComponentSort::Instance,
+    }
+}
+
+/// What is there within an instance type or a nested component.
+pub fn inside(there: Scope) -> Scope
+    ensures { result ≡ spec.inside there }
+{
+    Scope {
+        core_functions: 0,
+        core_tables: 0,
+        core_memories: 0,
+        core_globals: 0,
+        core_modules: 0,
+        core_instances: 0,
+        components: 0,
+        instances: 0,
+        functions: 0,
+        types: 0,
+        outer: Some(there.types),
+        outermost: there.outer,
+    }
+}

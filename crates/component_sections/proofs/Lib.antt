@@ -1,0 +1,3 @@
+pub mod EntrySorts
+pub mod DefinitionSorts
+pub mod Reading

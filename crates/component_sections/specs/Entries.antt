@@ -1,0 +1,114 @@
+-- What a whole component and a nested one both may have, each where what is before it is known (Component Model Binary,
+-- Component Definitions).
+use Rattle.std.specs.Prelude.{ℕ, List, [], ◌∷◌, ◌++◌, Bool, true, false, not, ◌&&◌, None, if◌then◌else◌}
+use Rattle.binary_grammar.specs.declared.fault.Rule.TheVariants as rules
+use Rattle.binary_grammar.specs.Syntax.{Syntax, unbounded, ◌◂◌, ◌>>=◌, gives, refuses, tested, where_known}
+use Rattle.wasm_types.specs.declared.types.ExportKind.TheVariants as kinds
+use Rattle.distinct_names.specs.Names.{is_new}
+use Rattle.component_value_types.specs.declared.scope.Scope.{Scope}
+use Rattle.component_definitions.specs.declared.sorts.ComponentSort.TheVariants as components
+use Rattle.component_definitions.specs.declared.sorts.Sort.{Sort}
+use Rattle.component_definitions.specs.declared.sorts.Sort.TheVariants as sorts
+use Rattle.component_definitions.specs.declared.externs.Description.TheVariants as descriptions
+use Rattle.component_definitions.specs.Aliases.{AliasValue, alias_value, alias_sort, alias, outer}
+use Rattle.component_definitions.specs.Canonical.{CanonicalValue, canonical_value, canonical, lift, lower, resource_new, resource_drop, resource_rep}
+use Rattle.component_definitions.specs.Externs.{ImportValue, ExportValue, import_value, export_value, extern_name, import_behind, export_behind}
+use Rattle.component_definitions.specs.Counting.{with_one, described_sort}
+use Rattle.component_instances.specs.Instances.{CoreInstanceValue, InstanceValue, core_instance_value, instance_value, core_instance, instance, core_inline, inline}
+use Rattle.component_instances.specs.TypeDefinitions.{TypeDefinitionValue, type_definition_value, type_definition, defined, resource, of_instance}
+use Rattle.component_sections.specs.declared.entry.Entry.{Entry}
+use Rattle.component_sections.specs.declared.entry.Entry.TheVariants as entries
+use Rattle.component_sections.specs.declared.entry.EntrySort.{EntrySort}
+use Rattle.component_sections.specs.declared.entry.EntrySort.TheVariants as entry_sorts
+
+pub data EntryValue : Type 0 where
+  an_alias : AliasValue → EntryValue
+  a_type : TypeDefinitionValue → EntryValue
+  an_import : ImportValue → EntryValue
+  an_export : ExportValue → EntryValue
+
+abbrev pub entry_value : Entry → EntryValue
+entry_value (entries.Alias a) = an_alias (alias_value a)
+entry_value (entries.Type_ t) = a_type (type_definition_value t)
+entry_value (entries.Import i) = an_import (import_value i)
+entry_value (entries.Export e) = an_export (export_value e)
+
+-- each takes the next index of one sort (Explainer, Index Spaces)
+abbrev pub entry_sort : EntryValue → Sort
+entry_sort (an_alias a) = alias_sort a
+entry_sort (a_type t) = sorts.Component components.Type_
+entry_sort (an_import i) = sorts.Component (described_sort i.description)
+entry_sort (an_export e) = e.sort
+
+-- its parts, and any value where it has another part
+abbrev pub alias_in : EntryValue → AliasValue
+alias_in (an_alias a) = a
+alias_in _ = outer 0 0
+
+abbrev pub type_in : EntryValue → TypeDefinitionValue
+type_in (a_type t) = t
+type_in _ = resource None
+
+abbrev pub import_in : EntryValue → ImportValue
+import_in (an_import i) = i
+import_in _ = record { name = []; description = descriptions.Resource }
+
+abbrev pub export_in : EntryValue → ExportValue
+export_in (an_export e) = e
+export_in _ = record { name = []; sort = sorts.Component components.Type_; index = 0; ascribed = None }
+
+-- ---- what is known where a definition stands
+
+-- whether a nested component is around, how many of each sort there are, and the names that are imported and exported
+pub record DefinedValue : Type 0 where
+  pub nested : Bool
+  pub scope : Scope
+  pub imports : List (List ℕ)
+  pub exports : List (List ℕ)
+
+-- names are a set
+abbrev pub with_name : List (List ℕ) → List ℕ → List (List ℕ)
+with_name names name = if is_new names name then names ++ name ∷ [] else names
+
+abbrev pub imports_with : List (List ℕ) → EntryValue → List (List ℕ)
+imports_with names (an_alias a) = names
+imports_with names (a_type t) = names
+imports_with names (an_import i) = with_name names i.name
+imports_with names (an_export e) = names
+
+abbrev pub exports_with : List (List ℕ) → EntryValue → List (List ℕ)
+exports_with names (an_alias a) = names
+exports_with names (a_type t) = names
+exports_with names (an_import i) = names
+exports_with names (an_export e) = with_name names e.name
+
+abbrev pub with_entry : DefinedValue → EntryValue → DefinedValue
+with_entry there e = record { nested = there.nested; scope = with_one there.scope (entry_sort e); imports = imports_with there.imports e; exports = exports_with there.exports e }
+
+abbrev pub with_entries : DefinedValue → List EntryValue → DefinedValue
+with_entries there [] = there
+with_entries there (e ∷ es) = with_entries (with_entry there e) es
+
+-- ---- their grammar
+
+abbrev pub is_resource : TypeDefinitionValue → Bool
+is_resource (defined t) = false
+is_resource (resource f) = true
+is_resource (of_instance ds) = false
+
+-- Entries of a sort; a nested component defines no resource. Names are distinct among imports, and among exports.
+abbrev pub entry_by : EntrySort → Syntax unbounded DefinedValue EntryValue
+entry_by entry_sorts.Alias = do
+  a ← alias_in ◂ where_known (λ k. k.scope) alias
+  gives (an_alias a)
+entry_by entry_sorts.Type_ = do
+  t ← type_in ◂ tested rules.Tag (λ k t. not (k.nested && is_resource t)) (where_known (λ k. k.scope) type_definition)
+  gives (a_type t)
+entry_by entry_sorts.Import = do
+  n ← (λ e. (import_in e).name) ◂ tested rules.Duplicate (λ k name. is_new k.imports name) extern_name
+  i ← import_in ◂ where_known (λ k. k.scope) (import_behind n)
+  gives (an_import i)
+entry_by entry_sorts.Export = do
+  n ← (λ e. (export_in e).name) ◂ tested rules.Duplicate (λ k name. is_new k.exports name) extern_name
+  e ← export_in ◂ where_known (λ k. k.scope) (export_behind n)
+  gives (an_export e)

@@ -1,0 +1,4 @@
+pub mod Entries
+pub mod Nested
+pub mod Component
+pub mod Views
