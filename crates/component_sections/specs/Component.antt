@@ -53,10 +53,10 @@ abbrev pub entry_in : DefinitionValue → EntryValue
 entry_in (an_entry e) = e
 entry_in _ = an_alias (outer 0 0)
 
--- each takes the next index of one sort (Explainer, Index Spaces)
 abbrev pub with_core_instance : Scope → Scope
 with_core_instance there = record there { core_instances = suc there.core_instances }
 
+-- each takes the next index of one sort (Explainer, Index Spaces)
 abbrev pub with_definition : DefinedValue → DefinitionValue → DefinedValue
 with_definition there (a_core_instance i) = record there { scope = with_core_instance there.scope }
 with_definition there (an_instance i) = record there { scope = with_one there.scope (sorts.Component components.Instance) }
@@ -140,9 +140,6 @@ component_in _ = []
 abbrev pub definitions_in : SectionValue → List DefinitionValue
 definitions_in (definitions s ds) = ds
 definitions_in _ = []
-
-abbrev pub one_more : ℕ → ℕ
-one_more n = suc n
 
 abbrev pub with_core_module : Scope → Scope
 with_core_module there = record there { core_modules = suc there.core_modules }

@@ -1,9 +1,8 @@
 -- What a whole component and a nested one both may have, each where what is before it is known (Component Model Binary,
 -- Component Definitions).
-use Rattle.std.specs.Prelude.{ℕ, List, [], ◌∷◌, ◌++◌, Bool, true, false, not, ◌&&◌, None, if◌then◌else◌}
+use Rattle.std.specs.Prelude.{ℕ, List, [], ◌∷◌, Bool, true, false, not, ◌&&◌, None}
 use Rattle.binary_grammar.specs.declared.fault.Rule.TheVariants as rules
-use Rattle.binary_grammar.specs.Syntax.{Syntax, unbounded, ◌◂◌, ◌>>=◌, gives, refuses, tested, where_known}
-use Rattle.wasm_types.specs.declared.types.ExportKind.TheVariants as kinds
+use Rattle.binary_grammar.specs.Syntax.{Syntax, unbounded, ◌◂◌, ◌>>=◌, gives, tested, where_known}
 use Rattle.distinct_names.specs.Names.{is_new}
 use Rattle.component_value_types.specs.declared.scope.Scope.{Scope}
 use Rattle.component_definitions.specs.declared.sorts.ComponentSort.TheVariants as components
@@ -11,10 +10,9 @@ use Rattle.component_definitions.specs.declared.sorts.Sort.{Sort}
 use Rattle.component_definitions.specs.declared.sorts.Sort.TheVariants as sorts
 use Rattle.component_definitions.specs.declared.externs.Description.TheVariants as descriptions
 use Rattle.component_definitions.specs.Aliases.{AliasValue, alias_value, alias_sort, alias, outer}
-use Rattle.component_definitions.specs.Canonical.{CanonicalValue, canonical_value, canonical, lift, lower, resource_new, resource_drop, resource_rep}
 use Rattle.component_definitions.specs.Externs.{ImportValue, ExportValue, import_value, export_value, extern_name, import_behind, export_behind}
 use Rattle.component_definitions.specs.Counting.{with_one, described_sort}
-use Rattle.component_instances.specs.Instances.{CoreInstanceValue, InstanceValue, core_instance_value, instance_value, core_instance, instance, core_inline, inline}
+use Rattle.component_instances.specs.Declarators.{with_name}
 use Rattle.component_instances.specs.TypeDefinitions.{TypeDefinitionValue, type_definition_value, type_definition, defined, resource, of_instance}
 use Rattle.component_sections.specs.declared.entry.Entry.{Entry}
 use Rattle.component_sections.specs.declared.entry.Entry.TheVariants as entries
@@ -65,10 +63,6 @@ pub record DefinedValue : Type 0 where
   pub scope : Scope
   pub imports : List (List ℕ)
   pub exports : List (List ℕ)
-
--- names are a set
-abbrev pub with_name : List (List ℕ) → List ℕ → List (List ℕ)
-with_name names name = if is_new names name then names ++ name ∷ [] else names
 
 abbrev pub imports_with : List (List ℕ) → EntryValue → List (List ℕ)
 imports_with names (an_alias a) = names

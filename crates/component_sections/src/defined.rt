@@ -1,9 +1,8 @@
 //! What is known where a definition stands, and definitions that are read there.
 
-ghost use Rattle.std.specs.Prelude.{◌≡◌, [], false, map, OnOk, IfOk, IfErr};
+ghost use Rattle.std.specs.Prelude.{◌≡◌, ◌+◌, ◌<◌, ◌^◌, [], false, map, IfSome, IsSome, OnOk, IfErr};
 ghost use Rattle.binary_grammar.specs.Fault.{Gives};
 ghost use Rattle.binary_grammar.specs.Syntax.{meaning};
-ghost use Rattle.component_definitions.specs.Counting.{with_one};
 ghost use Rattle.component_instances.specs.TypeDefinitions.{type_definition_value};
 ghost use Rattle.component_sections.specs.Entries as spec;
 ghost use Rattle.component_sections.specs.Component as whole;
@@ -33,28 +32,14 @@ pub struct Defined<'a> {
     pub exports: Names<'a>,
 }
 
-/// One more of a sort.
-fn scope_with(there: Scope, sort: Sort) -> Result<Scope, ReadError>
-    ensures ok { IfOk result (λ s. s ≡ with_one there sort) }
-    ensures memory { IfErr result (λ e. e ≡ ReadError.Memory) }
-{
-    match with_one(there, sort) {
-        Some(scope) => Ok(scope),
-        None => Err(ReadError::Memory),
-    }
-}
-
-/// One more core instance.
-fn with_core_instance(there: Scope) -> Result<Scope, ReadError>
-    ensures ok { IfOk result (λ s. s ≡ whole.with_core_instance there) }
-    ensures memory { IfErr result (λ e. e ≡ ReadError.Memory) }
+/// One more core instance, unless 64 bits can't count it.
+fn with_core_instance(there: Scope) -> Option<Scope>
+    ensures value { IfSome result (λ s. s ≡ whole.with_core_instance there) }
+    ensures fits { there.core_instances + 1 < 2 ^ 64 → IsSome result }
 {
     let mut scope = there;
-    scope.core_instances = there
-        .core_instances
-        .checked_add(1)
-        .ok_or(ReadError::Memory)?;
-    Ok(scope)
+    scope.core_instances = there.core_instances.checked_add(1)?;
+    Some(scope)
 }
 
 impl<'a> Defined<'a> {
@@ -87,7 +72,7 @@ impl<'a> Defined<'a> {
         ensures ok { OnOk result (view.defined_value self.new ≡ spec.with_entry (view.defined_value self.old) (spec.entry_value entry.now)) }
         ensures memory { IfErr result (λ e. e ≡ ReadError.Memory) }
     {
-        let scope = scope_with(self.scope, entry.sort())?;
+        let scope = with_one(self.scope, entry.sort()).ok_or(ReadError::Memory)?;
         match entry {
             Entry::Import(import) => add_name(&mut self.imports, import.name)?,
             Entry::Export(export) => add_name(&mut self.exports, export.name)?,
@@ -114,12 +99,15 @@ impl<'a> Defined<'a> {
         ensures memory { IfErr result (λ e. e ≡ ReadError.Memory) }
     {
         match definition {
-            Definition::CoreInstance(_) => self.scope = with_core_instance(self.scope)?,
+            Definition::CoreInstance(_) => {
+                self.scope = with_core_instance(self.scope).ok_or(ReadError::Memory)?;
+            }
             Definition::Instance(_) => {
-                self.scope = scope_with(self.scope, Sort::Component(ComponentSort::Instance))?;
+                let sort = Sort::Component(ComponentSort::Instance);
+                self.scope = with_one(self.scope, sort).ok_or(ReadError::Memory)?;
             }
             Definition::Canonical(canonical) => {
-                self.scope = scope_with(self.scope, canonical.sort())?;
+                self.scope = with_one(self.scope, canonical.sort()).ok_or(ReadError::Memory)?;
             }
             Definition::Entry(entry) => self.add(entry)?,
         }
@@ -217,7 +205,7 @@ impl<'s, 'a> Growing<'s, 'a> {
         ensures ok { OnOk result (view.growing_value self.new ≡ spec.with_entry (view.growing_value self.old) (spec.entry_value entry.now)) }
         ensures memory { IfErr result (λ e. e ≡ ReadError.Memory) }
     {
-        let scope = scope_with(self.scope, entry.sort())?;
+        let scope = with_one(self.scope, entry.sort()).ok_or(ReadError::Memory)?;
         match entry {
             Entry::Import(import) => self.imports.add(import.name)?,
             Entry::Export(export) => self.exports.add(export.name)?,
@@ -254,12 +242,15 @@ impl<'s, 'a> Growing<'s, 'a> {
         ensures memory { IfErr result (λ e. e ≡ ReadError.Memory) }
     {
         match definition {
-            Definition::CoreInstance(_) => self.scope = with_core_instance(self.scope)?,
+            Definition::CoreInstance(_) => {
+                self.scope = with_core_instance(self.scope).ok_or(ReadError::Memory)?;
+            }
             Definition::Instance(_) => {
-                self.scope = scope_with(self.scope, Sort::Component(ComponentSort::Instance))?;
+                let sort = Sort::Component(ComponentSort::Instance);
+                self.scope = with_one(self.scope, sort).ok_or(ReadError::Memory)?;
             }
             Definition::Canonical(canonical) => {
-                self.scope = scope_with(self.scope, canonical.sort())?;
+                self.scope = with_one(self.scope, canonical.sort()).ok_or(ReadError::Memory)?;
             }
             Definition::Entry(entry) => self.add(entry)?,
         }

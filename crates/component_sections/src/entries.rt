@@ -22,8 +22,7 @@ struct EntriesReader<'s, 'a> {
 impl<'s, 'a> Steps<'a> for EntriesReader<'s, 'a> {
     type Item = Entry<'a>;
 
-    ghost use Rattle.std.specs.Prelude.{◌≡◌, map};
-    ghost use Rattle.component_instances.specs.TypeDefinitions.{type_definition_value};
+    ghost use Rattle.std.specs.Prelude.{map};
     ghost use Rattle.component_sections.specs.Entries as spec;
     ghost use Rattle.component_sections.specs.Nested.{entry_behind, entry_sort_of};
     ghost use Rattle.component_sections.specs.Views as view;

@@ -1,6 +1,6 @@
 //! What a whole component and a nested one both may have.
 
-ghost use Rattle.std.specs.Prelude.{◌≡◌, ◌++◌, OnOk, Err, option_map};
+ghost use Rattle.std.specs.Prelude.{◌≡◌};
 ghost use Rattle.component_sections.specs.Entries as spec;
 ghost use Rattle.component_sections.specs.Nested.{entry_byte, entry_sort_of};
 

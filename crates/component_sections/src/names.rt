@@ -1,8 +1,8 @@
 //! Names behind others that are lent.
 
-ghost use Rattle.std.specs.Prelude.{◌≡◌, ◌++◌, ◌∷◌, [], OnOk, OnErr};
+ghost use Rattle.std.specs.Prelude.{◌≡◌, OnOk, OnErr};
 ghost use Rattle.distinct_names.specs.Names.{is_new};
-ghost use Rattle.component_sections.specs.Entries.{with_name};
+ghost use Rattle.component_instances.specs.Declarators.{with_name};
 
 use distinct_names::Names;
 use std::alloc::{AllocError, Global};

@@ -78,14 +78,6 @@ fn definitions<'a>(
     }
 }
 
-/// One more of a sort that sections define.
-fn one_more(count: usize) -> Result<usize, ReadError>
-    ensures ok { IfOk result (λ n. n ≡ spec.one_more count) }
-    ensures memory { IfErr result (λ e. e ≡ ReadError.Memory) }
-{
-    count.checked_add(1).ok_or(ReadError::Memory)
-}
-
 /// The sections that were read.
 #[derive(Drop)]
 struct SectionsReader<'a> {
@@ -103,10 +95,12 @@ impl<'a> SectionsReader<'a> {
         match section {
             Section::Custom(_) | Section::CoreTypes => {}
             Section::CoreModule(_) => {
-                self.defined.scope.core_modules = one_more(self.defined.scope.core_modules)?;
+                let count = self.defined.scope.core_modules.checked_add(1);
+                self.defined.scope.core_modules = count.ok_or(ReadError::Memory)?;
             }
             Section::Component(_) => {
-                self.defined.scope.components = one_more(self.defined.scope.components)?;
+                let count = self.defined.scope.components.checked_add(1);
+                self.defined.scope.components = count.ok_or(ReadError::Memory)?;
             }
             Section::Definitions(_, definitions) => self.defined.define_all(definitions)?,
         }
