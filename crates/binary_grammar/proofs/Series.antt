@@ -5,9 +5,13 @@ use Rattle.binary_grammar.specs.declared.fault.Fault.{Fault}
 use Rattle.binary_grammar.specs.declared.fault.ReadError.{ReadError}
 use Rattle.binary_grammar.specs.declared.fault.ReadError.TheVariants as errors
 use Rattle.binary_grammar.specs.Format.{Format, onto}
-use Rattle.binary_grammar.specs.Several.{series}
+use Rattle.binary_grammar.specs.Several.{series, grown}
 use Rattle.binary_grammar.specs.Fault.{Fails}
 use Rattle.binary_grammar.proofs.Loops.{regroup}
+
+pub grown_on : {S X : Type 0} (grow : S → X → S) (s : S) (xs : List X) (x : X) → grown grow s (xs ++ x ∷ []) ≡ grow (grown grow s xs) x
+grown_on grow s [] x = refl
+grown_on grow s (y ∷ xs) x = grown_on grow (grow s y) xs x
 
 module _ {S X : Type 0} (f : S → Format X) (grow : S → X → S) (front : List X) (s : S) (count i : ℕ) (bytes : List ℕ) (total : Result (List X × List ℕ) Fault)
     (so_far : onto front ((series f grow (count - i) s).read bytes) ≡ total) where

@@ -6,6 +6,11 @@ use Rattle.binary_grammar.specs.Format.{Format, Whole, Joins, Behind, Each, ◌>
 
 -- ---- so many, each where those before it are known
 
+-- what is known behind all of them
+abbrev pub grown : {S X : Type 0} → (S → X → S) → S → List X → S
+grown grow s [] = s
+grown grow s (x ∷ xs) = grown grow (grow s x) xs
+
 unfoldable pub series : {S X : Type 0} → (S → Format X) → (S → X → S) → ℕ → S → Format (List X)
 series f grow zero s = yield []
 series f grow (suc n) s = do

@@ -20,5 +20,8 @@ pub use law::{
 pub use part::{Part, put_section, put_vec, vec_of};
 pub use reader::{Reader, broken_at};
 pub use signed_number::{put_signed, signed_of};
-pub use steps::{Instruction, Steps, growing_of, put_up_to, steps_of, up_to_of};
+pub use steps::{
+    Instruction, Step, bounded_growing_of, growing_of, put_up_to, steps_of, up_to_of,
+    whole_growing_of,
+};
 pub use writing::{WriteFault, put_name, put_number, put_with_length};

@@ -1,20 +1,20 @@
-//! What is read up to the end, up to a sign, or where what was read before is known.
+//! What is read where those before it are known, up to the end, or up to a sign.
 
-ghost use Rattle.std.specs.Prelude.{◌≡◌, ◌∷◌, [], ◌++◌, ℕ, List, map, OnOk, IfErr, Err};
+ghost use Rattle.std.specs.Prelude.{◌≡◌, ◌∷◌, ◌++◌, ℕ, map, IfOk, OnOk, Err};
 ghost use Rattle.std.specs.List.{flat_map, All};
 ghost use Rattle.binary_grammar.specs.Fault.{Gives};
-ghost use Rattle.binary_grammar.specs.Format.{onto};
-ghost use Rattle.binary_grammar.specs.Several.{onto_all};
-ghost use Rattle.binary_grammar.specs.Syntax.{Syntax, unbounded, times, growing, up_to, steps, meaning, bytes, IsTyped};
+ghost use Rattle.binary_grammar.specs.Several.{grown};
+ghost use Rattle.binary_grammar.specs.Syntax.{Syntax, unbounded, times, growing, exactly, sized, up_to, steps, meaning, bytes, IsTyped};
 
 use crate::fault::ReadError;
 use crate::reader::Reader;
+use crate::reading::moved;
 use crate::writing::WriteFault;
 
-/// What grows by what is read: sections, or definitions of a section, each where those before it are known.
-pub trait Steps<'a> {
-    /// What is read at a time.
-    type Item: Drop;
+/// What stands in a row of which each sees those before it: sections, or definitions of a section.
+pub trait Step<'a>: Sized + Drop {
+    /// What is known where it stands.
+    type State;
 
     ghost Value: { Type 0 };
 
@@ -26,65 +26,100 @@ pub trait Steps<'a> {
 
     ghost next: { ℕ → Syntax unbounded Known Value };
 
-    ghost value: { Self.Item → Value };
+    ghost known: { Self.State → Known };
 
-    ghost known: { Self → Known };
+    ghost value: { Self → Value };
 
-    ghost values: { Self → List Value };
-
-    /// Reads what stands behind the byte that says which one it is.
-    fn read(&self, kind: u8, from: &mut Reader<'a>) -> Result<Self::Item, ReadError>
-        ensures gives { Gives (λ x. (value x, from.new.left)) result ((meaning (next kind) (known self.now)).read from.old.left) }
+    /// Reads what stands behind the byte that says which one it is, and adds it to what is known.
+    fn read_behind(
+        kind: u8,
+        state: &mut Self::State,
+        from: &mut Reader<'a>,
+    ) -> Result<Self, ReadError>
+        ensures gives { Gives (λ x. (value x, from.new.left)) result ((meaning (next kind) (known state.old)).read from.old.left) }
+        ensures grows { IfOk result (λ x. known state.new ≡ grow (known state.old) (value x)) }
         ensures end { from.new.end ≡ from.old.end };
-
-    /// Adds what was read.
-    fn add(&mut self, item: Self::Item) -> Result<(), ReadError>
-        ensures grows { OnOk result (known self.new ≡ grow (known self.old) (value item)) }
-        ensures adds { OnOk result (values self.new ≡ values self.old ++ value item ∷ []) }
-        ensures memory { IfErr result (λ e. e ≡ ReadError.Memory) };
 }
 
 /// So many of this kind.
-fn several_of<'a, S: Steps<'a>>(
+fn several_of<'a, T: Step<'a>>(
     kind: u8,
     count: u32,
-    state: &mut S,
+    state: &mut T::State,
     from: &mut Reader<'a>,
-) -> Result<(), ReadError>
-    ensures gives { Gives (λ _. (S.values state.new, from.new.left)) result (onto (S.values state.old) ((meaning (times S.grow (S.next kind) count) (S.known state.old)).read from.old.left)) }
+) -> Result<Vec<T>, ReadError>
+    ensures gives { Gives (λ x. (map T.value x.items, from.new.left)) result ((meaning (times T.grow (T.next kind) count) (T.known state.old)).read from.old.left) }
+    ensures grows { IfOk result (λ x. T.known state.new ≡ grown T.grow (T.known state.old) (map T.value x.items)) }
     ensures end { from.new.end ≡ from.old.end }
 {
+    let mut items = Vec::new(from.allocator());
     for _ in 0..count {
-        let item = state.read(kind, from)?;
-        state.add(item)?;
+        let item = T::read_behind(kind, state, from)?;
+        items.push(item)?;
     }
-    Ok(())
+    Ok(items)
 }
 
-/// A count, and so many of this kind, each added where those before it are known.
-pub fn growing_of<'a, S: Steps<'a>>(
+/// A count, and so many of this kind, of which each sees those before it.
+pub fn growing_of<'a, T: Step<'a>>(
     kind: u8,
-    state: &mut S,
+    state: &mut T::State,
     from: &mut Reader<'a>,
-) -> Result<(), ReadError>
-    ensures gives { Gives (λ _. (S.values state.new, from.new.left)) result (onto (S.values state.old) ((meaning (growing S.grow (S.next kind)) (S.known state.old)).read from.old.left)) }
+) -> Result<Vec<T>, ReadError>
+    ensures gives { Gives (λ x. (map T.value x.items, from.new.left)) result ((meaning (growing T.grow (T.next kind)) (T.known state.old)).read from.old.left) }
+    ensures grows { IfOk result (λ x. T.known state.new ≡ grown T.grow (T.known state.old) (map T.value x.items)) }
     ensures end { from.new.end ≡ from.old.end }
 {
     let count = from.number()?;
-    several_of(kind, count, state, from)?;
-    Ok(())
+    several_of(kind, count, state, from)
 }
 
-/// Steps up to the end, each behind a byte that says which it is, and added where those before it are known.
-pub fn steps_of<'a, S: Steps<'a>>(state: &mut S, from: &mut Reader<'a>) -> Result<(), ReadError>
-    ensures { Gives (λ _. S.values state.new) result (onto_all (S.values state.old) ((meaning (steps S.grow S.which S.next) (S.known state.old)).read from.old.left)) }
+/// The same, which is all that is left.
+pub fn whole_growing_of<'a, T: Step<'a>>(
+    kind: u8,
+    state: &mut T::State,
+    from: Reader<'a>,
+) -> Result<Vec<T>, ReadError>
+    ensures gives { Gives (λ x. map T.value x.items) result ((meaning (exactly (growing T.grow (T.next kind))) (T.known state.old)).read from.entry.left) }
+    ensures grows { IfOk result (λ x. T.known state.new ≡ grown T.grow (T.known state.old) (map T.value x.items)) }
 {
+    let mut from = from;
+    let items = growing_of(kind, state, &mut from)?;
+    from.ended()?;
+    Ok(items)
+}
+
+/// A size, and so many bytes, which are such a count and so many.
+pub fn bounded_growing_of<'a, T: Step<'a>>(
+    kind: u8,
+    state: &mut T::State,
+    from: &mut Reader<'a>,
+) -> Result<Vec<T>, ReadError>
+    ensures gives { Gives (λ x. (map T.value x.items, from.new.left)) result ((meaning (sized (exactly (growing T.grow (T.next kind)))) (T.known state.old)).read from.old.left) }
+    ensures grows { IfOk result (λ x. T.known state.new ≡ grown T.grow (T.known state.old) (map T.value x.items)) }
+    ensures end { from.new.end ≡ from.old.end }
+{
+    let inside = from.inside()?;
+    match whole_growing_of(kind, state, inside) {
+        Ok(items) => Ok(items),
+        Err(e) => Err(moved(e, from.left())),
+    }
+}
+
+/// All up to the end, each behind a byte that says which it is.
+pub fn steps_of<'a, T: Step<'a>>(
+    state: &mut T::State,
+    from: &mut Reader<'a>,
+) -> Result<Vec<T>, ReadError>
+    ensures { Gives (λ x. map T.value x.items) result ((meaning (steps T.grow T.which T.next) (T.known state.old)).read from.old.left) }
+{
+    let mut items = Vec::new(from.allocator());
     while !from.is_done() {
         let kind = from.byte()?;
-        let item = state.read(kind, from)?;
-        state.add(item)?;
+        let item = T::read_behind(kind, state, from)?;
+        items.push(item)?;
     }
-    Ok(())
+    Ok(items)
 }
 
 /// What stands behind a byte that says which it is, in a list that ends with a byte of its own: an expression's

@@ -1,5 +1,5 @@
 -- What there is of each sort behind a definition (Component Model, Explainer, Index Spaces).
-use Rattle.std.specs.Prelude.{suc, Some}
+use Rattle.std.specs.Prelude.{ℕ, suc, Some}
 use Rattle.wasm_types.specs.declared.types.ExportKind.{ExportKind}
 use Rattle.wasm_types.specs.declared.types.ExportKind.TheVariants as kinds
 use Rattle.component_value_types.specs.declared.scope.Scope.{Scope}
@@ -7,6 +7,9 @@ use Rattle.component_definitions.specs.declared.sorts.ComponentSort.{ComponentSo
 use Rattle.component_definitions.specs.declared.sorts.ComponentSort.TheVariants as components
 use Rattle.component_definitions.specs.declared.sorts.Sort.{Sort}
 use Rattle.component_definitions.specs.declared.sorts.Sort.TheVariants as sorts
+use Rattle.component_definitions.specs.Sorts.{count}
+use Rattle.component_definitions.specs.declared.counting.IndexSpace.{IndexSpace}
+use Rattle.component_definitions.specs.declared.counting.IndexSpace.TheVariants as spaces
 use Rattle.component_definitions.specs.declared.externs.Description.{Description}
 use Rattle.component_definitions.specs.declared.externs.Description.TheVariants as descriptions
 
@@ -21,9 +24,19 @@ with_sort there components.Function = record there { functions = suc there.funct
 with_sort there components.Type_ = record there { types = suc there.types }
 with_sort there components.Instance = record there { instances = suc there.instances }
 
-abbrev pub with_one : Scope → Sort → Scope
-with_one there (sorts.Core k) = with_core there k
-with_one there (sorts.Component s) = with_sort there s
+-- what has a sort has its index space; modules, core instances and components have theirs
+abbrev pub with_one : Scope → IndexSpace → Scope
+with_one there (spaces.Of (sorts.Core k)) = with_core there k
+with_one there (spaces.Of (sorts.Component s)) = with_sort there s
+with_one there spaces.CoreModules = record there { core_modules = suc there.core_modules }
+with_one there spaces.CoreInstances = record there { core_instances = suc there.core_instances }
+with_one there spaces.Components = record there { components = suc there.components }
+
+abbrev pub count_in : Scope → IndexSpace → ℕ
+count_in there (spaces.Of s) = count there s
+count_in there spaces.CoreModules = there.core_modules
+count_in there spaces.CoreInstances = there.core_instances
+count_in there spaces.Components = there.components
 
 -- the sort of what is described so
 abbrev pub described_sort : Description → ComponentSort

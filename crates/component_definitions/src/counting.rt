@@ -2,12 +2,25 @@
 
 ghost use Rattle.std.specs.Prelude.{◌≡◌, ◌+◌, ◌<◌, ◌^◌, IfSome, IsSome};
 ghost use Rattle.component_definitions.specs.Counting as spec;
-ghost use Rattle.component_definitions.specs.Sorts.{core_count, component_count, count};
+ghost use Rattle.component_definitions.specs.Sorts.{core_count, component_count};
 
 use crate::externs::Description;
 use crate::sorts::{ComponentSort, Sort};
 use component_value_types::Scope;
 use wasm_types::ExportKind;
+
+/// An index space of a component (Component Model, Explainer, Index Spaces).
+#[derive(Clone, Copy, Debug, PartialEq, Eq)]
+pub enum IndexSpace {
+    /// That of what has a sort.
+    Of(Sort),
+    /// Core modules.
+    CoreModules,
+    /// Core instances.
+    CoreInstances,
+    /// Components.
+    Components,
+}
 
 /// One more of a core sort, unless 64 bits can't count it.
 fn with_core(there: Scope, kind: ExportKind) -> Option<Scope>
@@ -38,15 +51,20 @@ fn with_sort(there: Scope, sort: ComponentSort) -> Option<Scope>
     Some(scope)
 }
 
-/// One more of a sort, unless 64 bits can't count it.
-pub fn with_one(there: Scope, sort: Sort) -> Option<Scope>
-    ensures value { IfSome result (λ s. s ≡ spec.with_one there sort) }
-    ensures fits { count there sort + 1 < 2 ^ 64 → IsSome result }
+/// One more in an index space, unless 64 bits can't count it.
+pub fn with_one(there: Scope, space: IndexSpace) -> Option<Scope>
+    ensures value { IfSome result (λ s. s ≡ spec.with_one there space) }
+    ensures fits { spec.count_in there space + 1 < 2 ^ 64 → IsSome result }
 {
-    match sort {
-        Sort::Core(kind) => with_core(there, kind),
-        Sort::Component(sort) => with_sort(there, sort),
+    let mut scope = there;
+    match space {
+        IndexSpace::Of(Sort::Core(kind)) => return with_core(there, kind),
+        IndexSpace::Of(Sort::Component(sort)) => return with_sort(there, sort),
+        IndexSpace::CoreModules => scope.core_modules = there.core_modules.checked_add(1)?,
+        IndexSpace::CoreInstances => scope.core_instances = there.core_instances.checked_add(1)?,
+        IndexSpace::Components => scope.components = there.components.checked_add(1)?,
     }
+    Some(scope)
 }
 
 /// The sort of what is described so.

@@ -2,7 +2,7 @@
 use Rattle.std.specs.Prelude.{ℕ, List, [], ◌∷◌, ◌++◌, map, Bool, true, false, ◌==◌, if◌then◌else◌}
 use Rattle.binary_grammar.specs.declared.fault.Rule.TheVariants as rules
 use Rattle.binary_grammar.specs.Syntax.{Syntax, unbounded, ◌◂◌, ◌>>=◌, one_byte, gives, refuses, tested, growing, where_known}
-use Rattle.distinct_names.specs.Names.{is_new}
+use Rattle.distinct_names.specs.Names.{is_new, with_name}
 use Rattle.component_value_types.specs.declared.scope.Scope.{Scope}
 use Rattle.component_value_types.specs.declared.values.PrimitiveValueType.TheVariants as primitives
 use Rattle.component_value_types.specs.Scope.{Grammar}
@@ -12,11 +12,13 @@ use Rattle.component_definitions.specs.declared.sorts.Sort.{Sort}
 use Rattle.component_definitions.specs.declared.sorts.Sort.TheVariants as sorts
 use Rattle.component_definitions.specs.declared.externs.Description.{Description}
 use Rattle.component_definitions.specs.declared.externs.Description.TheVariants as descriptions
+use Rattle.component_definitions.specs.declared.counting.IndexSpace.TheVariants as spaces
 use Rattle.component_definitions.specs.Aliases.{AliasValue, alias_value, alias_sort, alias, outer}
 use Rattle.component_definitions.specs.Externs.{extern_name, description}
 use Rattle.component_definitions.specs.Counting.{with_one, described_sort, inside}
 use Rattle.component_instances.specs.declared.declarators.Declarator.{Declarator}
 use Rattle.component_instances.specs.declared.declarators.Declarator.TheVariants as code
+use Rattle.component_instances.specs.declared.declarators.Declared.{Declared}
 use Rattle.component_instances.specs.declared.declarators.InstanceType.{InstanceType}
 
 -- ---- declarators
@@ -54,13 +56,12 @@ description_in (declared_export name d) = d
 description_in _ = descriptions.Resource
 
 -- what is known where a declarator stands: how many of each sort there are, and the names that are exported
-pub record Declared : Type 0 where
+pub record DeclaredValue : Type 0 where
   pub scope : Scope
   pub names : List (List ℕ)
 
--- names are a set
-abbrev pub with_name : List (List ℕ) → List ℕ → List (List ℕ)
-with_name names name = if is_new names name then names ++ name ∷ [] else names
+abbrev pub declared : Declared → DeclaredValue
+declared d = record { scope = d.scope; names = d.names }
 
 -- each declarator takes the next index of one sort
 abbrev pub declared_sort : DeclaratorValue → Sort
@@ -73,8 +74,8 @@ declared_names names (declared_type t) = names
 declared_names names (declared_alias a) = names
 declared_names names (declared_export name d) = with_name names name
 
-abbrev pub declared_with : Declared → DeclaratorValue → Declared
-declared_with k d = record { scope = with_one k.scope (declared_sort d); names = declared_names k.names d }
+abbrev pub declared_with : DeclaredValue → DeclaratorValue → DeclaredValue
+declared_with k d = record { scope = with_one k.scope (spaces.Of (declared_sort d)); names = declared_names k.names d }
 
 pub data DeclaratorForm : Type 0 where
   a_type : DeclaratorForm
@@ -90,7 +91,7 @@ abbrev pub is_exported : Description → Bool
 is_exported (descriptions.Instance t) = false
 is_exported _ = true
 
-abbrev pub declarator_behind : DeclaratorForm → Syntax unbounded Declared DeclaratorValue
+abbrev pub declarator_behind : DeclaratorForm → Syntax unbounded DeclaredValue DeclaratorValue
 declarator_behind a_type = do
   t ← type_in ◂ where_known (λ k. k.scope) defined_type
   gives (declared_type t)
@@ -103,7 +104,7 @@ declarator_behind an_export = do
   gives (declared_export n d)
 declarator_behind other = refuses rules.Tag
 
-unfoldable pub declarator : Syntax unbounded Declared DeclaratorValue
+unfoldable pub declarator : Syntax unbounded DeclaredValue DeclaratorValue
 declarator = do
   b ← declarator_byte ◂ one_byte
   declarator_behind (declarator_form_of b)

@@ -1,17 +1,17 @@
 //! Types of instances.
 
-ghost use Rattle.std.specs.Prelude.{◌≡◌, ◌++◌, map, OnOk, Err};
+ghost use Rattle.std.specs.Prelude.{◌≡◌, ◌++◌, map, OnOk, IfErr, Err};
 ghost use Rattle.std.specs.List.{flat_map, All};
 ghost use Rattle.binary_grammar.specs.Fault.{Gives};
 ghost use Rattle.binary_grammar.specs.Syntax.{meaning, bytes, IsTyped};
 ghost use Rattle.component_instances.specs.Declarators as spec;
 
 use binary_grammar::{
-    Part, ReadError, Reader, Rule, Steps, WriteFault, broken_at, growing_of, put_number,
+    Part, ReadError, Reader, Rule, Step, WriteFault, broken_at, growing_of, put_number,
 };
 use component_definitions::{
-    Alias, ComponentSort, Description, Sort, described_sort, extern_name, inside, put_extern_name,
-    with_one,
+    Alias, ComponentSort, Description, IndexSpace, Sort, described_sort, extern_name, inside,
+    put_extern_name, with_one,
 };
 use component_value_types::{DefinedType, Scope};
 use distinct_names::Names;
@@ -49,18 +49,17 @@ fn is_exported(description: Description) -> bool
     }
 }
 
-/// The declarators that were read.
+/// What is known where a declarator stands.
 #[derive(Drop)]
-struct DeclaratorsReader<'a> {
+pub struct Declared<'a> {
     scope: Scope,
     names: Names<'a>,
-    declarators: Vec<Declarator<'a>>,
 }
 
-impl<'a> DeclaratorsReader<'a> {
+impl<'a> Declared<'a> {
     /// An export, under a new name.
     fn export(&self, from: &mut Reader<'a>) -> Result<Declarator<'a>, ReadError>
-        ensures gives { Gives (λ x. (spec.declarator_value x, from.new.left)) result ((meaning (spec.declarator_behind spec.an_export) (record { scope = self.now.scope; names = self.now.names })).read from.old.left) }
+        ensures gives { Gives (λ x. (spec.declarator_value x, from.new.left)) result ((meaning (spec.declarator_behind spec.an_export) (spec.declared self.now)).read from.old.left) }
         ensures end { from.new.end ≡ from.old.end }
     {
         let at = from.left();
@@ -75,32 +74,13 @@ impl<'a> DeclaratorsReader<'a> {
         }
         Ok(Declarator::Export { name, description })
     }
-}
 
-impl<'a> Steps<'a> for DeclaratorsReader<'a> {
-    type Item = Declarator<'a>;
-
-    ghost use Rattle.std.specs.Prelude.{map};
-    ghost use Rattle.component_instances.specs.Declarators as spec;
-
-    ghost Value = { spec.DeclaratorValue };
-
-    ghost Known = { spec.Declared };
-
-    ghost grow = { spec.declared_with };
-
-    ghost which = { λ _. 0 };
-
-    ghost next = { λ _. spec.declarator };
-
-    ghost value = { spec.declarator_value };
-
-    ghost known = { λ r. record { scope = r.scope; names = r.names } };
-
-    ghost values = { λ r. map spec.declarator_value r.declarators.items };
-
+    /// A declarator.
     #[tactic(auto, unfolding(crate::specs::Declarators::declarator, crate::specs::Declarators::declarator_form_of))]
-    fn read(&self, _kind: u8, from: &mut Reader<'a>) -> Result<Declarator<'a>, ReadError> {
+    fn declarator(&self, from: &mut Reader<'a>) -> Result<Declarator<'a>, ReadError>
+        ensures gives { Gives (λ x. (spec.declarator_value x, from.new.left)) result ((meaning spec.declarator (spec.declared self.now)).read from.old.left) }
+        ensures end { from.new.end ≡ from.old.end }
+    {
         match from.byte()? {
             1 => Ok(Declarator::Type_(DefinedType::read(self.scope, from)?)),
             2 => Ok(Declarator::Alias(Alias::read(self.scope, from)?)),
@@ -109,18 +89,47 @@ impl<'a> Steps<'a> for DeclaratorsReader<'a> {
         }
     }
 
-    fn add(&mut self, item: Declarator<'a>) -> Result<(), ReadError> {
-        let Some(scope) = with_one(self.scope, item.sort()) else {
-            return Err(ReadError::Memory);
-        };
-        if let Declarator::Export { name, .. } = &item {
-            if self.names.is_new(name) {
-                self.names.add(name)?;
-            }
+    /// Adds a declarator.
+    fn add(&mut self, item: &Declarator<'a>) -> Result<(), ReadError>
+        ensures ok { OnOk result (spec.declared self.new ≡ spec.declared_with (spec.declared self.old) (spec.declarator_value item.now)) }
+        ensures memory { IfErr result (λ e. e ≡ ReadError.Memory) }
+    {
+        let space = IndexSpace::Of(item.sort());
+        self.scope = with_one(self.scope, space).ok_or(ReadError::Memory)?;
+        if let Declarator::Export { name, .. } = item {
+            self.names.insert(name)?;
         }
-        self.declarators.push(item)?;
-        self.scope = scope;
         Ok(())
+    }
+}
+
+impl<'a> Step<'a> for Declarator<'a> {
+    type State = Declared<'a>;
+
+    ghost use Rattle.component_instances.specs.Declarators as spec;
+
+    ghost Value = { spec.DeclaratorValue };
+
+    ghost Known = { spec.DeclaredValue };
+
+    ghost grow = { spec.declared_with };
+
+    ghost which = { λ _. 0 };
+
+    ghost next = { λ _. spec.declarator };
+
+    ghost known = { spec.declared };
+
+    ghost value = { spec.declarator_value };
+
+    fn read_behind(
+        _kind: u8,
+        state: &mut Declared<'a>,
+        from: &mut Reader<'a>,
+    ) -> Result<Declarator<'a>, ReadError> {
+        let item = state.declarator(from)?;
+        state.add(&item)?;
+        Ok(item)
     }
 }
 
@@ -194,14 +203,11 @@ impl<'a> Part<'a> for InstanceType<'a> {
 
     #[tactic(auto, unfolding(crate::specs::Declarators::instance_type))]
     fn read(there: Scope, from: &mut Reader<'a>) -> Result<InstanceType<'a>, ReadError> {
-        let alloc = from.allocator();
-        let mut state = DeclaratorsReader {
+        let mut state = Declared {
             scope: inside(there),
-            names: Names::new(alloc),
-            declarators: Vec::new(alloc),
+            names: Names::new(from.allocator()),
         };
-        growing_of(0, &mut state, from)?;
-        let DeclaratorsReader { declarators, .. } = state;
+        let declarators = growing_of(0, &mut state, from)?;
         Ok(InstanceType { declarators })
     }
 

@@ -1,3 +1,2 @@
-pub mod EntrySorts
-pub mod DefinitionSorts
+pub mod SectionBytes
 pub mod Reading

@@ -1,45 +1,69 @@
 -- Components as bytes (Component Model Binary, Component Definitions).
-use Rattle.std.specs.Prelude.{ℕ, suc, List, [], ◌∷◌, map, Result, Ok, Err, false, ◌==◌, if◌then◌else◌, bytes_eq, None}
+use Rattle.std.specs.Prelude.{ℕ, List, [], ◌∷◌, ◌++◌, map, Result, Ok, Err, Bool, true, false, ◌==◌, ◌&&◌, not, if◌then◌else◌, bytes_eq, None}
+use Rattle.std.specs.List.{flat_map}
 use Rattle.binary_grammar.specs.declared.fault.ReadError.{ReadError}
 use Rattle.binary_grammar.specs.declared.fault.ReadError.TheVariants as errors
 use Rattle.binary_grammar.specs.declared.fault.Rule.{Rule}
 use Rattle.binary_grammar.specs.declared.fault.Rule.TheVariants as rules
-use Rattle.binary_grammar.specs.Syntax.{Syntax, unbounded, bounded, ◌◂◌, ◌>>=◌, some_name, some_bytes, gives, refuses, tested, growing, sized, where_known, exactly, begins, everything, keeping, steps, meaning, number}
+use Rattle.binary_grammar.specs.Several.{grown}
+use Rattle.binary_grammar.specs.Syntax.{Syntax, unbounded, bounded, ◌◂◌, ◌>>=◌, some_name, some_bytes, gives, refuses, tested, growing, sized, where_known, exactly, begins, everything, seen, steps, meaning, number}
 use Rattle.component_value_types.specs.declared.scope.Scope.{Scope}
 use Rattle.component_definitions.specs.declared.sorts.ComponentSort.TheVariants as components
 use Rattle.component_definitions.specs.declared.sorts.Sort.TheVariants as sorts
+use Rattle.component_definitions.specs.declared.counting.IndexSpace.{IndexSpace}
+use Rattle.component_definitions.specs.declared.counting.IndexSpace.TheVariants as spaces
 use Rattle.component_definitions.specs.Canonical.{CanonicalValue, canonical_value, canonical_sort, canonical, resource_new}
 use Rattle.component_definitions.specs.Counting.{with_one}
 use Rattle.component_definitions.specs.Aliases.{outer}
 use Rattle.component_instances.specs.Instances.{CoreInstanceValue, InstanceValue, core_instance_value, instance_value, core_instance, instance, core_inline, inline}
-use Rattle.component_sections.specs.declared.entry.EntrySort.{EntrySort}
-use Rattle.component_sections.specs.declared.component.Definition.{Definition}
-use Rattle.component_sections.specs.declared.component.Definition.TheVariants as code
-use Rattle.component_sections.specs.declared.component.DefinitionSort.{DefinitionSort}
-use Rattle.component_sections.specs.declared.component.DefinitionSort.TheVariants as kinds
-use Rattle.component_sections.specs.declared.component.Section.{Section}
-use Rattle.component_sections.specs.declared.component.Section.TheVariants as section_code
-use Rattle.component_sections.specs.Entries.{EntryValue, entry_value, an_alias, DefinedValue, with_entry, entry_by}
-use Rattle.component_sections.specs.Nested.{header, entry_byte, entry_sort_of, NestedSectionValue, nested_section_value, nested_component}
+use Rattle.component_sections.specs.declared.entry.EntryKind.{EntryKind}
+use Rattle.component_sections.specs.declared.section.SectionId.{SectionId}
+use Rattle.component_sections.specs.declared.section.SectionId.TheVariants as ids
+use Rattle.component_sections.specs.declared.section.Definition.{Definition}
+use Rattle.component_sections.specs.declared.section.Definition.TheVariants as code
+use Rattle.component_sections.specs.declared.section.Section.{Section}
+use Rattle.component_sections.specs.Entries.{EntryValue, entry_value, entry_sort, entry_kind, an_alias, DefinedValue, imports_with, exports_with, entry_by, kind_byte, kind_of}
+use Rattle.component_sections.specs.Nested.{header, nested_component, nested_component_value}
 
--- ---- definitions that stand in vectors
+-- ---- definitions
 
 pub data DefinitionValue : Type 0 where
+  a_core_module : List ℕ → DefinitionValue
   a_core_instance : CoreInstanceValue → DefinitionValue
+  a_component : List EntryValue → DefinitionValue
   an_instance : InstanceValue → DefinitionValue
   a_canonical : CanonicalValue → DefinitionValue
   an_entry : EntryValue → DefinitionValue
 
 abbrev pub definition_value : Definition → DefinitionValue
+definition_value (code.CoreModule bytes) = a_core_module bytes.now
 definition_value (code.CoreInstance i) = a_core_instance (core_instance_value i)
+definition_value (code.Component c) = a_component (nested_component_value c)
 definition_value (code.Instance i) = an_instance (instance_value i)
 definition_value (code.Canonical c) = a_canonical (canonical_value c)
 definition_value (code.Entry e) = an_entry (entry_value e)
 
+-- each takes the next index of one index space (Explainer, Index Spaces)
+abbrev pub space_of : DefinitionValue → IndexSpace
+space_of (a_core_module bytes) = spaces.CoreModules
+space_of (a_core_instance i) = spaces.CoreInstances
+space_of (a_component c) = spaces.Components
+space_of (an_instance i) = spaces.Of (sorts.Component components.Instance)
+space_of (a_canonical c) = spaces.Of (canonical_sort c)
+space_of (an_entry e) = spaces.Of (entry_sort e)
+
 -- its parts, and any value where it has another part
+abbrev pub module_in : DefinitionValue → List ℕ
+module_in (a_core_module bytes) = bytes
+module_in _ = []
+
 abbrev pub core_instance_in : DefinitionValue → CoreInstanceValue
 core_instance_in (a_core_instance i) = i
 core_instance_in _ = core_inline []
+
+abbrev pub component_in : DefinitionValue → List EntryValue
+component_in (a_component c) = c
+component_in _ = []
 
 abbrev pub instance_in : DefinitionValue → InstanceValue
 instance_in (an_instance i) = i
@@ -53,147 +77,168 @@ abbrev pub entry_in : DefinitionValue → EntryValue
 entry_in (an_entry e) = e
 entry_in _ = an_alias (outer 0 0)
 
-abbrev pub with_core_instance : Scope → Scope
-with_core_instance there = record there { core_instances = suc there.core_instances }
+-- ---- what is known behind a definition
 
--- each takes the next index of one sort (Explainer, Index Spaces)
+abbrev pub imports_behind : List (List ℕ) → DefinitionValue → List (List ℕ)
+imports_behind names (an_entry e) = imports_with names e
+imports_behind names _ = names
+
+abbrev pub exports_behind : List (List ℕ) → DefinitionValue → List (List ℕ)
+exports_behind names (an_entry e) = exports_with names e
+exports_behind names _ = names
+
 abbrev pub with_definition : DefinedValue → DefinitionValue → DefinedValue
-with_definition there (a_core_instance i) = record there { scope = with_core_instance there.scope }
-with_definition there (an_instance i) = record there { scope = with_one there.scope (sorts.Component components.Instance) }
-with_definition there (a_canonical c) = record there { scope = with_one there.scope (canonical_sort c) }
-with_definition there (an_entry e) = with_entry there e
-
-abbrev pub with_definitions : DefinedValue → List DefinitionValue → DefinedValue
-with_definitions there [] = there
-with_definitions there (d ∷ ds) = with_definitions (with_definition there d) ds
-
-abbrev pub definition_by : DefinitionSort → Syntax unbounded DefinedValue DefinitionValue
-definition_by kinds.CoreInstance = do
-  i ← core_instance_in ◂ where_known (λ k. k.scope) core_instance
-  gives (a_core_instance i)
-definition_by kinds.Instance = do
-  i ← instance_in ◂ where_known (λ k. k.scope) instance
-  gives (an_instance i)
-definition_by kinds.Canonical = do
-  c ← canonical_in ◂ where_known (λ k. k.scope) canonical
-  gives (a_canonical c)
-definition_by (kinds.Entry s) = do
-  e ← entry_in ◂ entry_by s
-  gives (an_entry e)
-
-abbrev pub definition_byte : DefinitionSort → ℕ
-definition_byte kinds.CoreInstance = 2
-definition_byte kinds.Instance = 5
-definition_byte kinds.Canonical = 8
-definition_byte (kinds.Entry s) = entry_byte s
-
-abbrev pub of_entries : Result EntrySort Rule → Result DefinitionSort Rule
-of_entries (Ok s) = Ok (kinds.Entry s)
-of_entries (Err rule) = Err rule
-
-unfoldable pub definition_sort_of : ℕ → Result DefinitionSort Rule
-definition_sort_of b =
-    if b == 2 then Ok kinds.CoreInstance else
-    if b == 5 then Ok kinds.Instance else
-    if b == 8 then Ok kinds.Canonical else of_entries (entry_sort_of b)
-
--- a definition of the sort of a section's byte
-abbrev pub definition_behind : Result DefinitionSort Rule → Syntax unbounded DefinedValue DefinitionValue
-definition_behind (Ok s) = definition_by s
-definition_behind (Err rule) = refuses rule
+with_definition there d = record { nested = there.nested; scope = with_one there.scope (space_of d); imports = imports_behind there.imports d; exports = exports_behind there.exports d }
 
 -- ---- sections
 
-pub data SectionValue : Type 0 where
-  custom : List ℕ → List ℕ → SectionValue
-  core_module : List ℕ → SectionValue
-  core_types : SectionValue
-  component : List NestedSectionValue → SectionValue
-  definitions : DefinitionSort → List DefinitionValue → SectionValue
+abbrev pub section_byte : SectionId → ℕ
+section_byte ids.Custom = 0
+section_byte ids.CoreModule = 1
+section_byte ids.CoreInstance = 2
+section_byte ids.CoreType = 3
+section_byte ids.Component = 4
+section_byte ids.Instance = 5
+section_byte ids.Canonical = 8
+section_byte (ids.Entry k) = kind_byte k
+
+abbrev pub of_entries : Result EntryKind Rule → Result SectionId Rule
+of_entries (Ok k) = Ok (ids.Entry k)
+of_entries (Err rule) = Err rule
+
+unfoldable pub section_id_of : ℕ → Result SectionId Rule
+section_id_of b =
+    if b == 0 then Ok ids.Custom else
+    if b == 1 then Ok ids.CoreModule else
+    if b == 2 then Ok ids.CoreInstance else
+    if b == 3 then Ok ids.CoreType else
+    if b == 4 then Ok ids.Component else
+    if b == 5 then Ok ids.Instance else
+    if b == 8 then Ok ids.Canonical else of_entries (kind_of b)
+
+-- the section that a definition stands in
+abbrev pub section_id : DefinitionValue → SectionId
+section_id (a_core_module bytes) = ids.CoreModule
+section_id (a_core_instance i) = ids.CoreInstance
+section_id (a_component c) = ids.Component
+section_id (an_instance i) = ids.Instance
+section_id (a_canonical c) = ids.Canonical
+section_id (an_entry e) = ids.Entry (entry_kind e)
+
+-- a definition as it stands in a section: core modules and components behind their size
+abbrev pub definition_in : SectionId → Syntax unbounded DefinedValue DefinitionValue
+definition_in ids.Custom = refuses rules.Tag
+definition_in ids.CoreModule = do
+  xs ← module_in ◂ sized everything
+  gives (a_core_module xs)
+definition_in ids.CoreInstance = do
+  i ← core_instance_in ◂ where_known (λ k. k.scope) core_instance
+  gives (a_core_instance i)
+definition_in ids.CoreType = refuses rules.Tag
+definition_in ids.Component = do
+  c ← component_in ◂ where_known (λ k. k.scope) (sized nested_component)
+  gives (a_component c)
+definition_in ids.Instance = do
+  i ← instance_in ◂ where_known (λ k. k.scope) instance
+  gives (an_instance i)
+definition_in ids.Canonical = do
+  c ← canonical_in ◂ where_known (λ k. k.scope) canonical
+  gives (a_canonical c)
+definition_in (ids.Entry k) = do
+  e ← entry_in ◂ entry_by k
+  gives (an_entry e)
+
+-- a definition in a section of this byte
+abbrev pub definition_behind : Result SectionId Rule → Syntax unbounded DefinedValue DefinitionValue
+definition_behind (Ok i) = definition_in i
+definition_behind (Err rule) = refuses rule
+
+-- the definitions of a section; of a custom one nothing is kept
+pub record SectionValue : Type 0 where
+  pub id : SectionId
+  pub definitions : List DefinitionValue
 
 abbrev pub section_value : Section → SectionValue
-section_value (section_code.Custom c) = custom c.name.now c.content.now
-section_value (section_code.CoreModule bytes) = core_module bytes.now
-section_value section_code.CoreTypes = core_types
-section_value (section_code.Component c) = component (map nested_section_value c.sections.items)
-section_value (section_code.Definitions s ds) = definitions s (map definition_value ds.items)
+section_value s = record { id = s.id; definitions = map definition_value s.definitions.items }
 
-abbrev pub section_byte : SectionValue → ℕ
-section_byte (custom name content) = 0
-section_byte (core_module bytes) = 1
-section_byte core_types = 3
-section_byte (component c) = 4
-section_byte (definitions s ds) = definition_byte s
-
-abbrev pub content_in : SectionValue → List ℕ
-content_in (core_module bytes) = bytes
-content_in _ = []
-
-abbrev pub custom_in : SectionValue → List ℕ × List ℕ
-custom_in (custom name content) = (name, content)
-custom_in _ = ([], [])
-
-abbrev pub component_in : SectionValue → List NestedSectionValue
-component_in (component c) = c
-component_in _ = []
-
-abbrev pub definitions_in : SectionValue → List DefinitionValue
-definitions_in (definitions s ds) = ds
-definitions_in _ = []
-
-abbrev pub with_core_module : Scope → Scope
-with_core_module there = record there { core_modules = suc there.core_modules }
-
-abbrev pub with_component : Scope → Scope
-with_component there = record there { components = suc there.components }
+abbrev pub byte_of : SectionValue → ℕ
+byte_of s = section_byte s.id
 
 abbrev pub section_with : DefinedValue → SectionValue → DefinedValue
-section_with there (custom name content) = there
-section_with there (core_module bytes) = record there { scope = with_core_module there.scope }
-section_with there core_types = there
-section_with there (component c) = record there { scope = with_component there.scope }
-section_with there (definitions s ds) = with_definitions there ds
+section_with there s = grown with_definition there s.definitions
 
+-- what a section holds: a name and anything, no core type, one core module or component, or a vector
 pub data SectionForm : Type 0 where
-  custom_form : SectionForm
-  module_form : SectionForm
-  types_form : SectionForm
-  component_form : SectionForm
-  definitions_form : Result DefinitionSort Rule → SectionForm
+  a_name : SectionForm
+  no_types : SectionForm
+  one : SectionForm
+  a_vector : SectionForm
 
-unfoldable pub section_form_of : ℕ → SectionForm
-section_form_of b =
-    if b == 0 then custom_form else
-    if b == 1 then module_form else
-    if b == 3 then types_form else
-    if b == 4 then component_form else definitions_form (definition_sort_of b)
+abbrev pub form_of : SectionId → SectionForm
+form_of ids.Custom = a_name
+form_of ids.CoreType = no_types
+form_of ids.CoreModule = one
+form_of ids.Component = one
+form_of _ = a_vector
 
--- what stands behind a section's byte; a vector of core types is empty
-abbrev pub section_behind : SectionForm → Syntax unbounded DefinedValue SectionValue
-section_behind custom_form = do
-  x ← custom_in ◂ sized (keeping (begins some_name))
-  gives (custom x.0 x.1)
-section_behind module_form = do
-  xs ← content_in ◂ sized everything
-  gives (core_module xs)
-section_behind types_form = do
+abbrev pub first_of : List DefinitionValue → DefinitionValue
+first_of [] = a_core_module []
+first_of (d ∷ ds) = d
+
+abbrev pub first_in : SectionValue → DefinitionValue
+first_in s = first_of s.definitions
+
+abbrev pub section_by : SectionForm → SectionId → Syntax unbounded DefinedValue SectionValue
+section_by a_name i = do
+  name ← (λ _. []) ◂ sized (begins some_name)
+  gives (record { id = i; definitions = [] })
+section_by no_types i = do
   n ← (λ _. 0) ◂ sized (exactly (tested rules.Unsupported (λ _ n. n == 0) number))
-  gives core_types
-section_behind component_form = do
-  c ← component_in ◂ where_known (λ k. k.scope) (sized nested_component)
-  gives (component c)
-section_behind (definitions_form (Ok s)) = do
-  ds ← definitions_in ◂ sized (exactly (growing with_definition (definition_by s)))
-  gives (definitions s ds)
-section_behind (definitions_form (Err rule)) = refuses rule
+  gives (record { id = i; definitions = [] })
+section_by one i = do
+  d ← first_in ◂ definition_in i
+  gives (record { id = i; definitions = d ∷ [] })
+section_by a_vector i = do
+  ds ← (λ s. s.definitions) ◂ sized (exactly (growing with_definition (definition_in i)))
+  gives (record { id = i; definitions = ds })
+
+-- what stands behind a section's byte
+abbrev pub section_behind : Result SectionId Rule → Syntax unbounded DefinedValue SectionValue
+section_behind (Ok i) = section_by (form_of i) i
+section_behind (Err rule) = refuses rule
 
 unfoldable pub section_next : ℕ → Syntax unbounded DefinedValue SectionValue
-section_next b = section_behind (section_form_of b)
+section_next b = section_behind (section_id_of b)
 
-unfoldable pub whole_component : Syntax bounded DefinedValue (List SectionValue)
-whole_component = do
+unfoldable pub whole_sections : Syntax bounded DefinedValue (List SectionValue)
+whole_sections = do
   h ← (λ _. header) ◂ tested rules.Header (λ _ xs. bytes_eq xs header) (some_bytes 8)
-  steps section_with section_byte section_next
+  steps section_with byte_of section_next
+
+-- ---- the definitions of a component, whatever sections they stand in
+
+abbrev pub definitions_in : List SectionValue → List DefinitionValue
+definitions_in ss = flat_map (λ s. s.definitions) ss
+
+abbrev pub section_of : DefinitionValue → SectionValue
+section_of d = record { id = section_id d; definitions = d ∷ [] }
+
+-- core modules and components have a section each
+abbrev pub stands_alone : SectionForm → Bool
+stands_alone one = true
+stands_alone _ = false
+
+-- other neighbours of one section share it
+abbrev pub in_front : SectionValue → List SectionValue → List SectionValue
+in_front s [] = s ∷ []
+in_front s (t ∷ ts) = if byte_of s == byte_of t && not (stands_alone (form_of s.id)) then record { id = t.id; definitions = s.definitions ++ t.definitions } ∷ ts else s ∷ t ∷ ts
+
+abbrev pub sections_of : List DefinitionValue → List SectionValue
+sections_of [] = []
+sections_of (d ∷ ds) = in_front (section_of d) (sections_of ds)
+
+unfoldable pub component : Syntax bounded DefinedValue (List DefinitionValue)
+component = seen definitions_in sections_of whole_sections
 
 -- where no section stands yet
 abbrev pub no_scope : Scope
@@ -215,11 +260,11 @@ no_scope = record {
 abbrev pub nothing : DefinedValue
 nothing = record { nested = false; scope = no_scope; imports = []; exports = [] }
 
--- the bytes are a component of these sections
-abbrev pub AreSections : List ℕ → List SectionValue → Type 0
-AreSections bytes ss = (meaning whole_component nothing).form bytes ss
+-- the bytes are a component of these definitions
+abbrev pub IsComponent : List ℕ → List DefinitionValue → Type 0
+IsComponent bytes ds = (meaning component nothing).form bytes ds
 
 -- why bytes aren't read: want of memory, or the parts of a component stand in them up to where they break this rule
-abbrev pub IsSectionsFault : List ℕ → ReadError → Type 0
-IsSectionsFault bytes errors.Memory = Unit {0}
-IsSectionsFault bytes (errors.Malformed f) = (meaning whole_component nothing).breaks bytes f
+abbrev pub IsComponentFault : List ℕ → ReadError → Type 0
+IsComponentFault bytes errors.Memory = Unit {0}
+IsComponentFault bytes (errors.Malformed f) = (meaning component nothing).breaks bytes f

@@ -1,4 +1,4 @@
 pub mod Entries
+pub mod Views
 pub mod Nested
 pub mod Component
-pub mod Views

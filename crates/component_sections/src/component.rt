@@ -1,82 +1,65 @@
-//! What a component has.
+//! Components.
 
-ghost use Rattle.std.specs.Prelude.{◌≡◌};
+ghost use Rattle.std.specs.Prelude.{◌≡◌, List, map, IfOk, IfErr, MatchResult};
+ghost use Rattle.binary_grammar.specs.Fault.{Gives};
+ghost use Rattle.binary_grammar.specs.Syntax.{meaning};
 ghost use Rattle.component_sections.specs.Component as spec;
+ghost use Rattle.component_sections.specs.Component.{IsComponent, IsComponentFault};
 
-use crate::custom::Custom;
-use crate::entry::{Entry, EntrySort, sort_by};
-use crate::nested::NestedComponent;
-use binary_grammar::Rule;
-use component_definitions::CanonicalDefinition;
-use component_instances::{CoreInstance, Instance};
+use crate::defined::Defined;
+use crate::nested::HEADER;
+use crate::section::{Definition, Section};
+use binary_grammar::{ReadError, Reader, Rule, broken_at, steps_of};
+use std::alloc::{AllocError, Global};
 
-/// The sort of what a section's vector holds.
-#[derive(Clone, Copy, Debug, PartialEq, Eq)]
-pub enum DefinitionSort {
-    /// 2
-    CoreInstance,
-    /// 5
-    Instance,
-    /// 8
-    Canonical,
-    /// 6, 7, 10 or 11
-    Entry(EntrySort),
-}
-
-/// What stands in the vector of a section (Component Model Binary, Component Definitions).
-#[derive(Debug, Drop)]
-pub enum Definition<'a> {
-    /// An instance of a core module, or one that is made of exports.
-    CoreInstance(CoreInstance<'a>),
-    /// An instance of a component, or one that is made of exports.
-    Instance(Instance<'a>),
-    /// What joins core functions and functions.
-    Canonical(CanonicalDefinition),
-    /// What a nested component may have too.
-    Entry(Entry<'a>),
-}
-
-/// A section of a component.
-#[derive(Debug, Drop)]
-pub enum Section<'a> {
-    /// A name and anything behind it.
-    Custom(Custom<'a>),
-    /// A core module: its bytes.
-    CoreModule(&'a [u8]),
-    /// Core types, of which there are none.
-    CoreTypes,
-    /// A component within this one.
-    Component(NestedComponent<'a>),
-    /// Definitions of one sort.
-    Definitions(DefinitionSort, Vec<Definition<'a>>),
-}
-
-impl DefinitionSort {
-    /// The byte of its section.
-    pub fn byte(self) -> u8
-        ensures { result ≡ spec.definition_byte self }
-    {
-        match self {
-            DefinitionSort::CoreInstance => 2,
-            DefinitionSort::Instance => 5,
-            DefinitionSort::Canonical => 8,
-            DefinitionSort::Entry(sort) => sort.byte(),
-        }
-    }
-}
-
-/// The sort whose section has this byte.
-#[tactic(auto, unfolding(crate::specs::Component::definition_sort_of))]
-pub fn definition_sort(byte: u8) -> Result<DefinitionSort, Rule>
-    ensures { result ≡ spec.definition_sort_of byte }
+/// All sections of a component.
+#[tactic(auto, unfolding(crate::specs::Component::whole_sections))]
+fn sections_of<'a>(from: &mut Reader<'a>) -> Result<Vec<Section<'a>>, ReadError>
+    ensures { Gives (λ x. map spec.section_value x.items) result ((meaning spec.whole_sections spec.nothing).read from.old.left) }
 {
-    match byte {
-        2 => Ok(DefinitionSort::CoreInstance),
-        5 => Ok(DefinitionSort::Instance),
-        8 => Ok(DefinitionSort::Canonical),
-        _ => match sort_by(byte) {
-            Ok(sort) => Ok(DefinitionSort::Entry(sort)),
-            Err(rule) => Err(rule),
-        },
+    let at = from.left();
+    if from.bytes(8)? != HEADER.as_slice() {
+        return Err(broken_at(Rule::Header, at));
     }
+    let mut state = Defined::nothing(from.allocator());
+    steps_of(&mut state, from)
+}
+
+/// The definitions of sections, one behind the other.
+fn definitions_of<'a>(
+    alloc: Global,
+    sections: Vec<Section<'a>>,
+) -> Result<Vec<Definition<'a>>, AllocError>
+    ensures { IfOk result (λ x. map spec.definition_value x.items ≡ spec.definitions_in (map spec.section_value sections.entry.items)) }
+{
+    let mut definitions = Vec::new(alloc);
+    for section in sections {
+        let Section {
+            definitions: mut more,
+            ..
+        } = section;
+        definitions.append(&mut more)?;
+    }
+    Ok(definitions)
+}
+
+#[tactic(auto, unfolding(crate::specs::Component::component))]
+fn all_of(alloc: Global, bytes: &[u8]) -> Result<Vec<Definition<'_>>, ReadError>
+    ensures { Gives (λ x. map spec.definition_value x.items) result ((meaning spec.component spec.nothing).read bytes.now) }
+{
+    let mut from = Reader::new(alloc, bytes);
+    let sections = sections_of(&mut from)?;
+    let definitions = definitions_of(alloc, sections)?;
+    Ok(definitions)
+}
+
+/// The definitions of the component that the bytes are, in their order (Component Model Binary, Component Definitions).
+/// Bytes that are no component break a rule, and are refused by the first that they break, and its place.
+#[tactic(auto, using(crate::proofs::Reading::answers_found, crate::proofs::Reading::answers_only, crate::proofs::Reading::answers_fault))]
+pub fn read_definitions(alloc: Global, bytes: &[u8]) -> Result<Vec<Definition<'_>>, ReadError>
+    ensures found { IfOk result (λ v. IsComponent bytes.now (map spec.definition_value v.items)) }
+    ensures only { (ds : List spec.DefinitionValue) → IsComponent bytes.now ds → MatchResult result (λ v. map spec.definition_value v.items ≡ ds) (λ e. e ≡ ReadError.Memory) }
+    ensures fault { IfErr result (IsComponentFault bytes.now) }
+{
+    all_of(alloc, bytes)
 }

@@ -1,16 +1,19 @@
 //! What a whole component and a nested one both may have.
 
-ghost use Rattle.std.specs.Prelude.{◌≡◌};
+ghost use Rattle.std.specs.Prelude.{◌≡◌, ◌++◌, IfOk, OnOk, Err};
+ghost use Rattle.binary_grammar.specs.Fault.{Gives};
+ghost use Rattle.binary_grammar.specs.Syntax.{meaning, bytes, IsTyped};
+ghost use Rattle.component_instances.specs.TypeDefinitions.{type_definition_value};
 ghost use Rattle.component_sections.specs.Entries as spec;
-ghost use Rattle.component_sections.specs.Nested.{entry_byte, entry_sort_of};
 
-use binary_grammar::Rule;
+use crate::defined::Defined;
+use binary_grammar::{Part, ReadError, Reader, Rule, Step, WriteFault};
 use component_definitions::{Alias, ComponentSort, Export, Import, Sort, described_sort};
 use component_instances::TypeDefinition;
 
-/// The sort of an entry.
+/// Which section an entry stands in.
 #[derive(Clone, Copy, Debug, PartialEq, Eq)]
-pub enum EntrySort {
+pub enum EntryKind {
     /// 6
     Alias,
     /// 7
@@ -21,7 +24,7 @@ pub enum EntrySort {
     Export,
 }
 
-/// A definition that a whole component and a nested one both may have.
+/// A definition that a whole component and a nested one both may have (Component Model Binary, Component Definitions).
 #[derive(Debug, Drop)]
 pub enum Entry<'a> {
     /// Another name for what is there already.
@@ -34,35 +37,57 @@ pub enum Entry<'a> {
     Export(Export<'a>),
 }
 
-impl EntrySort {
+impl EntryKind {
     /// The byte of its section.
     pub fn byte(self) -> u8
-        ensures { result ≡ entry_byte self }
+        ensures { result ≡ spec.kind_byte self }
     {
         match self {
-            EntrySort::Alias => 6,
-            EntrySort::Type_ => 7,
-            EntrySort::Import => 10,
-            EntrySort::Export => 11,
+            EntryKind::Alias => 6,
+            EntryKind::Type_ => 7,
+            EntryKind::Import => 10,
+            EntryKind::Export => 11,
         }
     }
 }
 
-/// The sort whose section has this byte.
-#[tactic(auto, unfolding(crate::specs::Nested::entry_sort_of))]
-pub fn sort_by(byte: u8) -> Result<EntrySort, Rule>
-    ensures { result ≡ entry_sort_of byte }
+/// The kind whose section has this byte.
+#[tactic(auto, unfolding(crate::specs::Entries::kind_of))]
+pub fn kind_of(byte: u8) -> Result<EntryKind, Rule>
+    ensures { result ≡ spec.kind_of byte }
 {
     match byte {
-        6 => Ok(EntrySort::Alias),
-        7 => Ok(EntrySort::Type_),
-        10 => Ok(EntrySort::Import),
-        11 => Ok(EntrySort::Export),
+        6 => Ok(EntryKind::Alias),
+        7 => Ok(EntryKind::Type_),
+        10 => Ok(EntryKind::Import),
+        11 => Ok(EntryKind::Export),
         _ => Err(Rule::Tag),
     }
 }
 
+/// Whether it defines a resource.
+pub fn is_resource(ty: &TypeDefinition) -> bool
+    ensures { result ≡ spec.is_resource (type_definition_value ty.now) }
+{
+    match ty {
+        TypeDefinition::Resource(_) => true,
+        TypeDefinition::Defined(_) | TypeDefinition::Instance(_) => false,
+    }
+}
+
 impl Entry<'_> {
+    /// The section that it stands in.
+    pub fn kind(&self) -> EntryKind
+        ensures { result ≡ spec.entry_kind (spec.entry_value self.now) }
+    {
+        match self {
+            Entry::Alias(_) => EntryKind::Alias,
+            Entry::Type_(_) => EntryKind::Type_,
+            Entry::Import(_) => EntryKind::Import,
+            Entry::Export(_) => EntryKind::Export,
+        }
+    }
+
     /// The sort of which it takes the next index (Component Model, Explainer, Index Spaces).
     pub fn sort(&self) -> Sort
         ensures { result ≡ spec.entry_sort (spec.entry_value self.now) }
@@ -72,6 +97,57 @@ impl Entry<'_> {
             Entry::Type_(_) => Sort::Component(ComponentSort::Type_),
             Entry::Import(import) => Sort::Component(described_sort(import.description)),
             Entry::Export(export) => export.sort,
+        }
+    }
+
+    /// Adds the shortest bytes of the entry. Answers `TooLarge` only where its names, lengths and counts don't all fit.
+    #[tactic(auto, unfolding(component_definitions::specs::Externs::import_entry, component_definitions::specs::Externs::export_entry))]
+    pub fn put(&self, out: &mut Vec<u8>) -> Result<(), WriteFault>
+        ensures bytes { OnOk result (out.new.items ≡ out.old.items ++ bytes (spec.entry_by (spec.entry_kind (spec.entry_value self.now))) (spec.entry_value self.now)) }
+        ensures typed { OnOk result (IsTyped (spec.entry_by (spec.entry_kind (spec.entry_value self.now))) (spec.entry_value self.now)) }
+        ensures large { result ≡ Err WriteFault.TooLarge → IsTyped (spec.entry_by (spec.entry_kind (spec.entry_value self.now))) (spec.entry_value self.now) → ⊥ }
+    {
+        match self {
+            Entry::Alias(alias) => alias.put(out),
+            Entry::Type_(ty) => ty.put(out),
+            Entry::Import(import) => import.put(out),
+            Entry::Export(export) => export.put(out),
+        }
+    }
+}
+
+impl<'a> Step<'a> for Entry<'a> {
+    type State = Defined<'a>;
+
+    ghost use Rattle.component_sections.specs.Entries as spec;
+    ghost use Rattle.component_sections.specs.Views as view;
+
+    ghost Value = { spec.EntryValue };
+
+    ghost Known = { spec.DefinedValue };
+
+    ghost grow = { spec.with_entry };
+
+    ghost which = { λ e. spec.kind_byte (spec.entry_kind e) };
+
+    ghost next = { λ b. spec.entry_behind (spec.kind_of b) };
+
+    ghost known = { view.defined_value };
+
+    ghost value = { spec.entry_value };
+
+    fn read_behind(
+        kind: u8,
+        state: &mut Defined<'a>,
+        from: &mut Reader<'a>,
+    ) -> Result<Entry<'a>, ReadError> {
+        match kind_of(kind) {
+            Ok(kind) => {
+                let entry = state.entry(kind, from)?;
+                state.add(&entry)?;
+                Ok(entry)
+            }
+            Err(rule) => Err(from.broken(rule)),
         }
     }
 }

@@ -1,18 +1,13 @@
-//! The sections of components, read.
+//! Components, read as the definitions of their sections.
 #![tactic(auto)]
 
 mod component;
-mod custom;
 mod defined;
-mod definitions;
-mod entries;
 mod entry;
-mod names;
 mod nested;
-mod sections;
+mod section;
 
-pub use component::{Definition, DefinitionSort, Section};
-pub use custom::Custom;
-pub use entry::{Entry, EntrySort};
-pub use nested::{NestedComponent, NestedSection};
-pub use sections::read_sections;
+pub use component::read_definitions;
+pub use entry::{Entry, EntryKind};
+pub use nested::NestedComponent;
+pub use section::{Definition, SectionId};

@@ -1,48 +1,60 @@
 //! Components within a component.
 
-ghost use Rattle.std.specs.Prelude.{◌≡◌, map};
+ghost use Rattle.std.specs.Prelude.{◌≡◌, map, IfOk};
 ghost use Rattle.binary_grammar.specs.Fault.{Gives};
-ghost use Rattle.binary_grammar.specs.Syntax.{meaning};
+ghost use Rattle.binary_grammar.specs.Syntax.{meaning, sized, begins, some_name};
+ghost use Rattle.component_value_types.specs.declared.scope.Scope.{Scope};
+ghost use Rattle.component_sections.specs.Entries.{entry_value};
+ghost use Rattle.component_sections.specs.Component.{no_scope};
 ghost use Rattle.component_sections.specs.Nested as spec;
-ghost use Rattle.component_sections.specs.Views as view;
 
-use crate::custom::Custom;
 use crate::defined::Defined;
-use crate::entries::entries_of;
-use crate::entry::{Entry, EntrySort, sort_by};
-use binary_grammar::{ReadError, Reader, Rule, Steps, bounded_of, broken_at, steps_of};
+use crate::entry::{Entry, EntryKind, kind_of};
+use binary_grammar::reading::moved;
+use binary_grammar::{ReadError, Reader, Rule, Step, bounded_growing_of, broken_at, steps_of};
 use component_value_types::Scope;
-
-/// A section of a nested component (Component Model Binary, Component Definitions).
-#[derive(Debug, Drop)]
-pub enum NestedSection<'a> {
-    /// A name and anything behind it.
-    Custom(Custom<'a>),
-    /// Entries of one sort.
-    Entries(EntrySort, Vec<Entry<'a>>),
-}
+use std::alloc::{AllocError, Global};
 
 /// A component within a component, which has aliases, types, imports and exports alone, and defines no resource.
 #[derive(Debug, Drop)]
 pub struct NestedComponent<'a> {
-    /// Its sections, in order.
-    pub sections: Vec<NestedSection<'a>>,
+    /// What it has, in order.
+    pub entries: Vec<Entry<'a>>,
+}
+
+/// A section of a nested component: the entries of a kind, or none of a custom one.
+#[derive(Drop)]
+pub struct NestedSection<'a> {
+    pub kind: Option<EntryKind>,
+    pub entries: Vec<Entry<'a>>,
 }
 
 /// The first eight bytes of a component.
 pub const HEADER: [u8; 8] = [0, 0x61, 0x73, 0x6d, 0x0d, 0, 1, 0];
 
-/// Sections of a nested component that were read.
-#[derive(Drop)]
-struct NestedReader<'a> {
-    defined: Defined<'a>,
-    sections: Vec<NestedSection<'a>>,
+/// The name that begins all that is left.
+fn name_of<'a>(from: Reader<'a>) -> Result<&'a str, ReadError>
+    ensures { Gives (λ x. x.now) result ((meaning (begins (some_name {C = Scope})) no_scope).read from.entry.left) }
+{
+    let mut from = from;
+    from.name()
 }
 
-impl<'a> Steps<'a> for NestedReader<'a> {
-    type Item = NestedSection<'a>;
+/// The name of a custom section, whose content is passed over.
+pub fn custom_name<'a>(from: &mut Reader<'a>) -> Result<&'a str, ReadError>
+    ensures gives { Gives (λ x. (x.now, from.new.left)) result ((meaning (sized (begins (some_name {C = Scope}))) no_scope).read from.old.left) }
+    ensures end { from.new.end ≡ from.old.end }
+{
+    let inside = from.inside()?;
+    match name_of(inside) {
+        Ok(name) => Ok(name),
+        Err(e) => Err(moved(e, from.left())),
+    }
+}
 
-    ghost use Rattle.std.specs.Prelude.{map};
+impl<'a> Step<'a> for NestedSection<'a> {
+    type State = Defined<'a>;
+
     ghost use Rattle.component_sections.specs.Entries.{DefinedValue};
     ghost use Rattle.component_sections.specs.Nested as spec;
     ghost use Rattle.component_sections.specs.Views as view;
@@ -57,31 +69,63 @@ impl<'a> Steps<'a> for NestedReader<'a> {
 
     ghost next = { spec.nested_next };
 
+    ghost known = { view.defined_value };
+
     ghost value = { spec.nested_section_value };
 
-    ghost known = { λ r. view.defined_value r.defined };
-
-    ghost values = { λ r. map spec.nested_section_value r.sections.items };
-
-    #[tactic(auto, unfolding(crate::specs::Nested::nested_next, crate::specs::Nested::nested_form_of))]
-    fn read(&self, kind: u8, from: &mut Reader<'a>) -> Result<NestedSection<'a>, ReadError> {
+    #[tactic(auto, using(crate::proofs::SectionBytes::kind_again), unfolding(crate::specs::Nested::nested_next, crate::specs::Nested::nested_form_of))]
+    fn read_behind(
+        kind: u8,
+        state: &mut Defined<'a>,
+        from: &mut Reader<'a>,
+    ) -> Result<NestedSection<'a>, ReadError> {
         if kind == 0 {
-            return Ok(NestedSection::Custom(bounded_of(self.defined.scope, from)?));
+            custom_name(from)?;
+            let entries = Vec::new(from.allocator());
+            return Ok(NestedSection {
+                kind: None,
+                entries,
+            });
         }
-        match sort_by(kind) {
-            Ok(sort) => Ok(NestedSection::Entries(sort, entries_of(sort, &self.defined, from)?)),
+        match kind_of(kind) {
+            Ok(kind) => Ok(NestedSection {
+                kind: Some(kind),
+                entries: bounded_growing_of(kind.byte(), state, from)?,
+            }),
             Err(rule) => Err(from.broken(rule)),
         }
     }
+}
 
-    fn add(&mut self, item: NestedSection<'a>) -> Result<(), ReadError> {
-        match &item {
-            NestedSection::Custom(_) => {}
-            NestedSection::Entries(_, entries) => self.defined.add_all(entries)?,
-        }
-        self.sections.push(item)?;
-        Ok(())
+/// All sections of a nested component, where this is there.
+#[tactic(auto, unfolding(crate::specs::Nested::nested_sections))]
+fn sections_of<'a>(there: Scope, from: &mut Reader<'a>) -> Result<Vec<NestedSection<'a>>, ReadError>
+    ensures { Gives (λ x. map spec.nested_section_value x.items) result ((meaning spec.nested_sections there).read from.old.left) }
+{
+    let at = from.left();
+    if from.bytes(8)? != HEADER.as_slice() {
+        return Err(broken_at(Rule::Header, at));
     }
+    let mut state = Defined::within(from.allocator(), there);
+    steps_of(&mut state, from)
+}
+
+/// The entries of sections, one behind the other.
+fn entries_of<'a>(
+    alloc: Global,
+    sections: Vec<NestedSection<'a>>,
+) -> Result<Vec<Entry<'a>>, AllocError>
+    ensures { IfOk result (λ x. map entry_value x.items ≡ spec.entries_in (map spec.nested_section_value sections.entry.items)) }
+{
+    let mut entries = Vec::new(alloc);
+    for section in sections {
+        let NestedSection {
+            entries: mut more,
+            ..
+        } = section;
+        entries.append(&mut more)?;
+    }
+    Ok(entries)
 }
 
 /// The nested component that all of the bytes are, where this is there.
@@ -90,19 +134,10 @@ pub fn nested_component_of<'a>(
     there: Scope,
     from: Reader<'a>,
 ) -> Result<NestedComponent<'a>, ReadError>
-    ensures { Gives (λ c. map spec.nested_section_value c.sections.items) result ((meaning spec.nested_component there).read from.entry.left) }
+    ensures { Gives spec.nested_component_value result ((meaning spec.nested_component there).read from.entry.left) }
 {
     let mut from = from;
-    let alloc = from.allocator();
-    let at = from.left();
-    if from.bytes(8)? != HEADER.as_slice() {
-        return Err(broken_at(Rule::Header, at));
-    }
-    let mut state = NestedReader {
-        defined: Defined::within(alloc, there),
-        sections: Vec::new(alloc),
-    };
-    steps_of(&mut state, &mut from)?;
-    let NestedReader { sections, .. } = state;
-    Ok(NestedComponent { sections })
+    let sections = sections_of(there, &mut from)?;
+    let entries = entries_of(from.allocator(), sections)?;
+    Ok(NestedComponent { entries })
 }

@@ -2,7 +2,7 @@
 
 ghost use Rattle.std.specs.Prelude.{◌≡◌, ◌∷◌, ◌++◌, [], true, not, if◌then◌else◌, IfOk, OnErr, IfErr, OnOk, bytes_eq};
 ghost use Rattle.std.specs.List.{list_any};
-ghost use Rattle.distinct_names.specs.Names.{is_new};
+ghost use Rattle.distinct_names.specs.Names.{is_new, with_name};
 
 use indexmap::IndexSet;
 use std::alloc::{AllocError, Global};
@@ -46,6 +46,17 @@ impl<'a> Names<'a> {
         ensures err { OnErr result (self.new ≡ self.old) }
     {
         self.inner.insert(name)?;
+        Ok(())
+    }
+
+    /// Adds a name, where it isn't there yet; it goes last.
+    pub fn insert(&mut self, name: &'a str) -> Result<(), AllocError>
+        ensures ok { OnOk result (self.new ≡ with_name self.old name.entry.now) }
+        ensures err { OnErr result (self.new ≡ self.old) }
+    {
+        if self.is_new(name) {
+            self.add(name)?;
+        }
         Ok(())
     }
 }

@@ -1,5 +1,5 @@
 -- Core modules as bytes (WebAssembly Core, Binary Format, Modules).
-use Rattle.std.specs.Prelude.{ℕ, suc, ◌+◌, max, List, [], ◌∷◌, map, length, filter, Result, Ok, Err, Bool, true, false, nat_lt, ◌==◌, ◌||◌, if◌then◌else◌, bytes_eq, ◌<◌, ◌^◌}
+use Rattle.std.specs.Prelude.{ℕ, ◌+◌, max, List, [], ◌∷◌, map, length, filter, Result, Ok, Err, Bool, true, false, nat_lt, ◌==◌, ◌||◌, if◌then◌else◌, bytes_eq, ◌<◌, ◌^◌}
 use Rattle.binary_grammar.specs.declared.fault.ReadError.{ReadError}
 use Rattle.binary_grammar.specs.declared.fault.ReadError.TheVariants as errors
 use Rattle.binary_grammar.specs.declared.fault.Rule.{Rule}
@@ -11,12 +11,12 @@ use Rattle.wasm_types.specs.declared.types.Limits.{Limits}
 use Rattle.wasm_types.specs.declared.types.ExportKind.{ExportKind}
 use Rattle.wasm_types.specs.declared.types.ExportKind.TheVariants as kinds
 use Rattle.wasm_types.specs.Types.{kind_byte, kind_of_entity, FuncTypeValue, func_type_value, func_type, table_type, limits}
-use Rattle.wasm_types.specs.Entries.{ImportValue, ExportValue, GlobalValue, import_value, export_value, global_value, type_index_value, import_entry, export_entry, global_entry, type_index}
+use Rattle.wasm_types.specs.Entries.{ImportValue, ExportValue, GlobalValue, import_value, export_value, global_value, type_index_value, import_entry, export_entry, global_entry, one_more_global, type_index}
 use Rattle.wasm_sections.specs.declared.section.Holding.{Holding as Held}
 use Rattle.wasm_sections.specs.declared.section.Holding.TheVariants as code
 use Rattle.wasm_sections.specs.declared.section.Section.{Section}
 use Rattle.wasm_sections.specs.declared.section.SectionId.{SectionId}
-use Rattle.wasm_sections.specs.declared.sections.SectionsReader.{SectionsReader}
+use Rattle.wasm_sections.specs.declared.sections.Progress.{Progress}
 use Rattle.wasm_sections.specs.declared.section.SectionId.TheVariants as id
 
 -- what a section holds, where that is read; the others are framed alone
@@ -34,11 +34,6 @@ pub record SectionValue : Type 0 where
   pub id : SectionId
   pub content : List ℕ
   pub holds : Holding
-
--- what is known where a section stands: how many of each sort there are, and how far in the order of sections it is
-pub record Progress : Type 0 where
-  pub spaces : Spaces
-  pub rank : ℕ
 
 unfoldable pub section_id_of : ℕ → Result SectionId Rule
 section_id_of b =
@@ -134,10 +129,6 @@ abbrev pub exports_in : Holding → List ExportValue
 exports_in (exports es) = es
 exports_in _ = []
 
--- a global sees those before it
-abbrev pub one_more_global : Spaces → GlobalValue → Spaces
-one_more_global there g = record there { globals = suc there.globals }
-
 abbrev pub section_of : SectionId → Holding → List ℕ → SectionValue
 section_of i holds content = record { id = i; content = content; holds = holds }
 
@@ -218,9 +209,6 @@ holding_value (code.Memories ms) = memories (map (λ m. m) ms.items)
 holding_value (code.Globals gs) = globals (map global_value gs.items)
 holding_value (code.Exports es) = exports (map export_value es.items)
 holding_value code.Framed = framed
-
-abbrev pub progress_of : SectionsReader → Progress
-progress_of r = record { spaces = r.spaces; rank = r.rank }
 
 abbrev pub section_value : Section → SectionValue
 section_value s = record { id = s.id; content = s.content.now; holds = holding_value s.holds }

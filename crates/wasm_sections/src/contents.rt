@@ -1,7 +1,7 @@
 //! What sections hold.
 
 use binary_grammar::{
-    Content, Part, ReadError, Reader, Steps, WriteFault, growing_of, put_name, put_number, put_vec,
+    Content, Part, ReadError, Reader, WriteFault, put_name, put_number, put_vec, whole_growing_of,
     whole_vec_of,
 };
 use wasm_types::{Global, Spaces};
@@ -46,75 +46,27 @@ pub struct Globals<'a> {
     pub items: Vec<Global<'a>>,
 }
 
-/// Globals that are read one after the other.
-#[derive(Drop)]
-struct GlobalsReader<'a> {
-    there: Spaces,
-    items: Vec<Global<'a>>,
-}
-
-impl<'a> Steps<'a> for GlobalsReader<'a> {
-    type Item = Global<'a>;
-
-    ghost use Rattle.std.specs.Prelude.{map};
-    ghost use Rattle.wasm_types.specs.declared.spaces.Spaces.{Spaces};
-    ghost use Rattle.wasm_types.specs.Entries.{GlobalValue, global_value, global_entry};
-    ghost use Rattle.wasm_sections.specs.Module as spec;
-
-    ghost Value = { GlobalValue };
-
-    ghost Known = { Spaces };
-
-    ghost grow = { spec.one_more_global };
-
-    ghost which = { λ _. 0 };
-
-    ghost next = { λ _. global_entry };
-
-    ghost value = { global_value };
-
-    ghost known = { λ r. r.there };
-
-    ghost values = { λ r. map global_value r.items.items };
-
-    fn read(&self, _kind: u8, from: &mut Reader<'a>) -> Result<Global<'a>, ReadError> {
-        Global::read(self.there, from)
-    }
-
-    fn add(&mut self, item: Global<'a>) -> Result<(), ReadError> {
-        let globals = self.there.globals.checked_add(1).ok_or(ReadError::Memory)?;
-        self.items.push(item)?;
-        self.there.globals = globals;
-        Ok(())
-    }
-}
-
 impl<'a> Content<'a> for Globals<'a> {
     type Context = Spaces;
 
     ghost use Rattle.std.specs.Prelude.{List, map};
     ghost use Rattle.binary_grammar.specs.Syntax.{exactly, growing};
     ghost use Rattle.wasm_types.specs.declared.spaces.Spaces.{Spaces};
-    ghost use Rattle.wasm_types.specs.Entries.{GlobalValue, global_value, global_entry};
-    ghost use Rattle.wasm_sections.specs.Module as spec;
+    ghost use Rattle.wasm_types.specs.Entries.{GlobalValue, global_value, global_entry, one_more_global};
 
     ghost Value = { List GlobalValue };
 
     ghost Known = { Spaces };
 
-    ghost content = { exactly (growing spec.one_more_global global_entry) };
+    ghost content = { exactly (growing one_more_global global_entry) };
 
     ghost known = { λ s. s };
 
     ghost value = { λ k. map global_value k.items.items };
 
     fn read_all(there: Spaces, from: Reader<'a>) -> Result<Globals<'a>, ReadError> {
-        let mut from = from;
-        let items = Vec::new(from.allocator());
-        let mut state = GlobalsReader { there, items };
-        growing_of(0, &mut state, &mut from)?;
-        from.ended()?;
-        let GlobalsReader { items, .. } = state;
+        let mut spaces = there;
+        let items = whole_growing_of(0, &mut spaces, from)?;
         Ok(Globals { items })
     }
 

@@ -9,7 +9,7 @@ ghost use Rattle.wasm_sections.specs.Module as spec;
 ghost use Rattle.wasm_sections.specs.Module.{AreSections, IsSectionsFault};
 
 use crate::section::{Holding, Section, SectionId, rank_of, section_behind, section_id_of};
-use binary_grammar::{ReadError, Reader, Rule, Steps, broken_at, steps_of};
+use binary_grammar::{ReadError, Reader, Rule, Step, broken_at, steps_of};
 use std::alloc::Global;
 use wasm_types::{Code, EntityType, ExportKind, Import, Spaces};
 
@@ -77,32 +77,48 @@ fn spaces_with_imports(there: Spaces, imports: &[Import<'_>]) -> Option<Spaces>
     })
 }
 
-/// The sections that were read.
-#[derive(Drop)]
-pub struct SectionsReader<'a> {
-    spaces: Spaces,
-    rank: u8,
-    sections: Vec<Section<'a>>,
+/// What is known where a section stands.
+#[derive(Clone, Copy, Debug, PartialEq, Eq)]
+pub struct Progress {
+    /// How many of each sort there are.
+    pub spaces: Spaces,
+    /// How far in the order of sections it is.
+    pub rank: u8,
 }
 
-impl<'a> SectionsReader<'a> {
-    /// Whether a section of this sort may stand next.
-    fn is_in_order(&self, id: SectionId) -> bool
-        ensures { result ≡ spec.is_in_order id (spec.progress_of self.now) }
-    {
-        rank_of(id) == 0 || self.rank < rank_of(id)
+/// Whether a section of this sort may stand here.
+fn is_in_order(id: SectionId, there: Progress) -> bool
+    ensures { result ≡ spec.is_in_order id there }
+{
+    rank_of(id) == 0 || there.rank < rank_of(id)
+}
+
+/// A section of this sort, where sections before it are known.
+#[tactic(auto, unfolding(crate::specs::Module::next))]
+fn section_of<'a>(
+    kind: u8,
+    there: Progress,
+    from: &mut Reader<'a>,
+) -> Result<Section<'a>, ReadError>
+    ensures gives { Gives (λ x. (spec.section_value x, from.new.left)) result ((meaning (spec.next kind) there).read from.old.left) }
+    ensures end { from.new.end ≡ from.old.end }
+{
+    match section_id_of(kind) {
+        Ok(id) if is_in_order(id, there) => section_behind(id, there.spaces, from),
+        Ok(_) => Err(from.broken(Rule::Order)),
+        Err(rule) => Err(from.broken(rule)),
     }
 }
 
-impl<'a> Steps<'a> for SectionsReader<'a> {
-    type Item = Section<'a>;
+impl<'a> Step<'a> for Section<'a> {
+    type State = Progress;
 
-    ghost use Rattle.std.specs.Prelude.{map};
+    ghost use Rattle.wasm_sections.specs.declared.sections.Progress.{Progress};
     ghost use Rattle.wasm_sections.specs.Module as spec;
 
     ghost Value = { spec.SectionValue };
 
-    ghost Known = { spec.Progress };
+    ghost Known = { Progress };
 
     ghost grow = { spec.progress_with };
 
@@ -110,30 +126,20 @@ impl<'a> Steps<'a> for SectionsReader<'a> {
 
     ghost next = { spec.next };
 
+    ghost known = { λ p. p };
+
     ghost value = { spec.section_value };
 
-    ghost known = { spec.progress_of };
-
-    ghost values = { λ r. map spec.section_value r.sections.items };
-
-    #[tactic(auto, unfolding(crate::specs::Module::next))]
-    fn read(&self, kind: u8, from: &mut Reader<'a>) -> Result<Section<'a>, ReadError> {
-        match section_id_of(kind) {
-            Ok(id) if self.is_in_order(id) => section_behind(id, self.spaces, from),
-            Ok(_) => Err(from.broken(Rule::Order)),
-            Err(rule) => Err(from.broken(rule)),
-        }
-    }
-
-    fn add(&mut self, item: Section<'a>) -> Result<(), ReadError> {
-        let Some(spaces) = spaces_with(self.spaces, &item.holds) else {
-            return Err(ReadError::Memory);
-        };
-        let rank = self.rank.max(rank_of(item.id));
-        self.sections.push(item)?;
-        self.spaces = spaces;
-        self.rank = rank;
-        Ok(())
+    fn read_behind(
+        kind: u8,
+        state: &mut Progress,
+        from: &mut Reader<'a>,
+    ) -> Result<Section<'a>, ReadError> {
+        let section = section_of(kind, *state, from)?;
+        let spaces = spaces_with(state.spaces, &section.holds);
+        state.spaces = spaces.ok_or(ReadError::Memory)?;
+        state.rank = state.rank.max(rank_of(section.id));
+        Ok(section)
     }
 }
 
@@ -156,14 +162,11 @@ fn sections_of(alloc: Global, bytes: &[u8]) -> Result<Vec<Section<'_>>, ReadErro
     if from.bytes(8)? != HEADER.as_slice() {
         return Err(broken_at(Rule::Header, at));
     }
-    let mut state = SectionsReader {
+    let mut progress = Progress {
         spaces: NO_SPACES,
         rank: 0,
-        sections: Vec::new(alloc),
     };
-    steps_of(&mut state, &mut from)?;
-    let SectionsReader { sections, .. } = state;
-    Ok(sections)
+    steps_of(&mut progress, &mut from)
 }
 
 /// The sections of the core module that the bytes are, in their order, each with what it holds (WebAssembly Core, Binary

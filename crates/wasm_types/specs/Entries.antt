@@ -1,5 +1,5 @@
 -- Entries of sections (WebAssembly Core, Binary Format, Modules).
-use Rattle.std.specs.Prelude.{ℕ, List}
+use Rattle.std.specs.Prelude.{ℕ, suc, List}
 use Rattle.binary_grammar.specs.Syntax.{◌◂◌, ◌>>=◌, some_name, gives}
 use Rattle.wasm_types.specs.declared.entries.Import.{Import}
 use Rattle.wasm_types.specs.declared.entries.Export.{Export}
@@ -7,6 +7,7 @@ use Rattle.wasm_types.specs.declared.entries.TypeIndex.{TypeIndex}
 use Rattle.wasm_types.specs.declared.types.EntityType.{EntityType}
 use Rattle.wasm_types.specs.declared.types.ExportKind.{ExportKind}
 use Rattle.wasm_types.specs.Code.{coded}
+use Rattle.wasm_types.specs.declared.spaces.Spaces.{Spaces}
 use Rattle.wasm_types.specs.Spaces.{count}
 use Rattle.wasm_types.specs.declared.entries.Global.{Global}
 use Rattle.wasm_types.specs.declared.types.GlobalType.{GlobalType}
@@ -61,3 +62,7 @@ global_entry = do
   t ← (λ g. g.ty) ◂ global_type
   e ← (λ g. g.init) ◂ expression
   gives (record { ty = t; init = e })
+
+-- a global sees those before it
+abbrev pub one_more_global : Spaces → GlobalValue → Spaces
+one_more_global there g = record there { globals = suc there.globals }

@@ -7,7 +7,7 @@ use crate::code::{Code, coded_of};
 use crate::expression::Expression;
 use crate::spaces::Spaces;
 use crate::types::{EntityType, ExportKind, GlobalType};
-use binary_grammar::{Part, ReadError, Reader, WriteFault, put_name, put_number};
+use binary_grammar::{Part, ReadError, Reader, Step, WriteFault, put_name, put_number};
 
 /// An import: two names, and what is asked for (WebAssembly Core, Binary Format, Modules, Import Section).
 #[derive(Clone, Copy, Debug, PartialEq, Eq)]
@@ -171,5 +171,38 @@ impl<'a> Part<'a> for Global<'a> {
         self.ty.put(out)?;
         self.init.put(out)?;
         Ok(())
+    }
+}
+
+/// Globals of a section, of which each sees those before it.
+impl<'a> Step<'a> for Global<'a> {
+    type State = Spaces;
+
+    ghost use Rattle.wasm_types.specs.declared.spaces.Spaces.{Spaces};
+    ghost use Rattle.wasm_types.specs.Entries as spec;
+    ghost use Rattle.wasm_types.specs.Entries.{GlobalValue};
+
+    ghost Value = { GlobalValue };
+
+    ghost Known = { Spaces };
+
+    ghost grow = { spec.one_more_global };
+
+    ghost which = { λ _. 0 };
+
+    ghost next = { λ _. spec.global_entry };
+
+    ghost known = { λ s. s };
+
+    ghost value = { spec.global_value };
+
+    fn read_behind(
+        _kind: u8,
+        state: &mut Spaces,
+        from: &mut Reader<'a>,
+    ) -> Result<Global<'a>, ReadError> {
+        let global = Global::read(*state, from)?;
+        state.globals = state.globals.checked_add(1).ok_or(ReadError::Memory)?;
+        Ok(global)
     }
 }

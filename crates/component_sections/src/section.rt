@@ -1,0 +1,316 @@
+//! Definitions, and the sections that they stand in.
+
+ghost use Rattle.std.specs.Prelude.{◌≡◌, ◌==◌, map, IfOk};
+ghost use Rattle.binary_grammar.specs.declared.fault.Rule.TheVariants as rules;
+ghost use Rattle.binary_grammar.specs.Fault.{Gives};
+ghost use Rattle.binary_grammar.specs.Several.{grown};
+ghost use Rattle.binary_grammar.specs.Syntax.{meaning, exactly, sized, tested, number};
+ghost use Rattle.component_sections.specs.declared.section.SectionId.TheVariants as ids;
+ghost use Rattle.component_sections.specs.Entries.{DefinedValue};
+ghost use Rattle.component_sections.specs.Nested.{nested_component, nested_component_value};
+ghost use Rattle.component_sections.specs.Component as spec;
+ghost use Rattle.component_sections.specs.Views as view;
+
+use crate::defined::Defined;
+use crate::entry::{Entry, EntryKind, kind_of};
+use crate::nested::{NestedComponent, custom_name, nested_component_of};
+use binary_grammar::reading::moved;
+use binary_grammar::{Part, ReadError, Reader, Rule, Step, bounded_growing_of, broken_at};
+use component_definitions::{CanonicalDefinition, ComponentSort, IndexSpace, Sort};
+use component_instances::{CoreInstance, Instance};
+use component_value_types::Scope;
+
+/// What a section holds (Component Model Binary, Component Definitions).
+#[derive(Clone, Copy, Debug, PartialEq, Eq)]
+pub enum SectionId {
+    /// 0: a name and anything behind it.
+    Custom,
+    /// 1: a core module.
+    CoreModule,
+    /// 2: core instances.
+    CoreInstance,
+    /// 3: core types, of which there are none.
+    CoreType,
+    /// 4: a component.
+    Component,
+    /// 5: instances.
+    Instance,
+    /// 8: what joins core functions and functions.
+    Canonical,
+    /// 6, 7, 10 or 11: what a nested component may have too.
+    Entry(EntryKind),
+}
+
+/// A definition of a component (Component Model Binary, Component Definitions).
+#[derive(Debug, Drop)]
+pub enum Definition<'a> {
+    /// A core module: its bytes.
+    CoreModule(&'a [u8]),
+    /// An instance of a core module, or one that is made of exports.
+    CoreInstance(CoreInstance<'a>),
+    /// A component within this one.
+    Component(NestedComponent<'a>),
+    /// An instance of a component, or one that is made of exports.
+    Instance(Instance<'a>),
+    /// What joins core functions and functions.
+    Canonical(CanonicalDefinition),
+    /// What a nested component may have too.
+    Entry(Entry<'a>),
+}
+
+/// A section: its definitions.
+#[derive(Drop)]
+pub struct Section<'a> {
+    pub id: SectionId,
+    pub definitions: Vec<Definition<'a>>,
+}
+
+impl SectionId {
+    /// Its byte.
+    pub fn byte(self) -> u8
+        ensures { result ≡ spec.section_byte self }
+    {
+        match self {
+            SectionId::Custom => 0,
+            SectionId::CoreModule => 1,
+            SectionId::CoreInstance => 2,
+            SectionId::CoreType => 3,
+            SectionId::Component => 4,
+            SectionId::Instance => 5,
+            SectionId::Canonical => 8,
+            SectionId::Entry(kind) => kind.byte(),
+        }
+    }
+}
+
+/// What a section with this byte holds.
+#[tactic(auto, unfolding(crate::specs::Component::section_id_of))]
+pub fn section_id_of(byte: u8) -> Result<SectionId, Rule>
+    ensures { result ≡ spec.section_id_of byte }
+{
+    match byte {
+        0 => Ok(SectionId::Custom),
+        1 => Ok(SectionId::CoreModule),
+        2 => Ok(SectionId::CoreInstance),
+        3 => Ok(SectionId::CoreType),
+        4 => Ok(SectionId::Component),
+        5 => Ok(SectionId::Instance),
+        8 => Ok(SectionId::Canonical),
+        _ => match kind_of(byte) {
+            Ok(kind) => Ok(SectionId::Entry(kind)),
+            Err(rule) => Err(rule),
+        },
+    }
+}
+
+impl Definition<'_> {
+    /// The index space of which it takes the next index (Component Model, Explainer, Index Spaces).
+    pub fn space(&self) -> IndexSpace
+        ensures { result ≡ spec.space_of (spec.definition_value self.now) }
+    {
+        match self {
+            Definition::CoreModule(_) => IndexSpace::CoreModules,
+            Definition::CoreInstance(_) => IndexSpace::CoreInstances,
+            Definition::Component(_) => IndexSpace::Components,
+            Definition::Instance(_) => IndexSpace::Of(Sort::Component(ComponentSort::Instance)),
+            Definition::Canonical(canonical) => IndexSpace::Of(canonical.sort()),
+            Definition::Entry(entry) => IndexSpace::Of(entry.sort()),
+        }
+    }
+
+    /// The section that it stands in.
+    pub fn section(&self) -> SectionId
+        ensures { result ≡ spec.section_id (spec.definition_value self.now) }
+    {
+        match self {
+            Definition::CoreModule(_) => SectionId::CoreModule,
+            Definition::CoreInstance(_) => SectionId::CoreInstance,
+            Definition::Component(_) => SectionId::Component,
+            Definition::Instance(_) => SectionId::Instance,
+            Definition::Canonical(_) => SectionId::Canonical,
+            Definition::Entry(entry) => SectionId::Entry(entry.kind()),
+        }
+    }
+}
+
+fn core_module<'a>(there: &Defined<'a>, from: &mut Reader<'a>) -> Result<Definition<'a>, ReadError>
+    ensures gives { Gives (λ x. (spec.definition_value x, from.new.left)) result ((meaning (spec.definition_in ids.CoreModule) (view.defined_value there.now)).read from.old.left) }
+    ensures end { from.new.end ≡ from.old.end }
+{
+    let inside = from.inside()?;
+    Ok(Definition::CoreModule(inside.rest()))
+}
+
+fn component<'a>(there: Scope, from: &mut Reader<'a>) -> Result<NestedComponent<'a>, ReadError>
+    ensures gives { Gives (λ x. (nested_component_value x, from.new.left)) result ((meaning (sized nested_component) there).read from.old.left) }
+    ensures end { from.new.end ≡ from.old.end }
+{
+    let inside = from.inside()?;
+    match nested_component_of(there, inside) {
+        Ok(component) => Ok(component),
+        Err(e) => Err(moved(e, from.left())),
+    }
+}
+
+/// A definition as it stands in this section.
+fn definition_in<'a>(
+    id: SectionId,
+    there: &Defined<'a>,
+    from: &mut Reader<'a>,
+) -> Result<Definition<'a>, ReadError>
+    ensures gives { Gives (λ x. (spec.definition_value x, from.new.left)) result ((meaning (spec.definition_in id) (view.defined_value there.now)).read from.old.left) }
+    ensures end { from.new.end ≡ from.old.end }
+{
+    let scope = there.scope;
+    match id {
+        SectionId::CoreModule => core_module(there, from),
+        SectionId::CoreInstance => Ok(Definition::CoreInstance(CoreInstance::read(scope, from)?)),
+        SectionId::Component => Ok(Definition::Component(component(scope, from)?)),
+        SectionId::Instance => Ok(Definition::Instance(Instance::read(scope, from)?)),
+        SectionId::Canonical => Ok(Definition::Canonical(CanonicalDefinition::read(scope, from)?)),
+        SectionId::Entry(kind) => Ok(Definition::Entry(there.entry(kind, from)?)),
+        SectionId::Custom | SectionId::CoreType => Err(from.broken(Rule::Tag)),
+    }
+}
+
+impl<'a> Step<'a> for Definition<'a> {
+    type State = Defined<'a>;
+
+    ghost use Rattle.component_sections.specs.Entries.{DefinedValue};
+    ghost use Rattle.component_sections.specs.Component as spec;
+    ghost use Rattle.component_sections.specs.Views as view;
+
+    ghost Value = { spec.DefinitionValue };
+
+    ghost Known = { DefinedValue };
+
+    ghost grow = { spec.with_definition };
+
+    ghost which = { λ d. spec.section_byte (spec.section_id d) };
+
+    ghost next = { λ b. spec.definition_behind (spec.section_id_of b) };
+
+    ghost known = { view.defined_value };
+
+    ghost value = { spec.definition_value };
+
+    fn read_behind(
+        kind: u8,
+        state: &mut Defined<'a>,
+        from: &mut Reader<'a>,
+    ) -> Result<Definition<'a>, ReadError> {
+        match section_id_of(kind) {
+            Ok(id) => {
+                let definition = definition_in(id, state, from)?;
+                state.define(&definition)?;
+                Ok(definition)
+            }
+            Err(rule) => Err(from.broken(rule)),
+        }
+    }
+}
+
+/// The count of no core types, which is all that is left.
+fn no_types(from: Reader<'_>) -> Result<u32, ReadError>
+    ensures { Gives (λ n. n) result ((meaning (exactly (tested rules.Unsupported (λ _ n. n == 0) (number {C = DefinedValue}))) spec.nothing).read from.entry.left) }
+{
+    let mut from = from;
+    let at = from.left();
+    let count = from.number()?;
+    if count != 0 {
+        return Err(broken_at(Rule::Unsupported, at));
+    }
+    from.ended()?;
+    Ok(count)
+}
+
+/// A section of core types, which has none.
+fn core_types(from: &mut Reader<'_>) -> Result<u32, ReadError>
+    ensures gives { Gives (λ n. (n, from.new.left)) result ((meaning (sized (exactly (tested rules.Unsupported (λ _ n. n == 0) (number {C = DefinedValue})))) spec.nothing).read from.old.left) }
+    ensures end { from.new.end ≡ from.old.end }
+{
+    let inside = from.inside()?;
+    match no_types(inside) {
+        Ok(count) => Ok(count),
+        Err(e) => Err(moved(e, from.left())),
+    }
+}
+
+/// The one definition of a section that has no vector.
+#[tactic(auto, using(crate::proofs::SectionBytes::id_again))]
+fn one<'a>(
+    id: SectionId,
+    state: &mut Defined<'a>,
+    from: &mut Reader<'a>,
+) -> Result<Vec<Definition<'a>>, ReadError>
+    ensures gives { Gives (λ x. (record { id = id; definitions = map spec.definition_value x.items }, from.new.left)) result ((meaning (spec.section_by spec.one id) (view.defined_value state.old)).read from.old.left) }
+    ensures grows { IfOk result (λ x. view.defined_value state.new ≡ grown spec.with_definition (view.defined_value state.old) (map spec.definition_value x.items)) }
+    ensures end { from.new.end ≡ from.old.end }
+{
+    let definition = Definition::read_behind(id.byte(), state, from)?;
+    let mut definitions = Vec::new(from.allocator());
+    definitions.push(definition)?;
+    Ok(definitions)
+}
+
+/// The definitions of a section, behind its byte.
+#[tactic(auto, using(crate::proofs::SectionBytes::id_again))]
+fn definitions_of<'a>(
+    id: SectionId,
+    state: &mut Defined<'a>,
+    from: &mut Reader<'a>,
+) -> Result<Vec<Definition<'a>>, ReadError>
+    ensures gives { Gives (λ x. (record { id = id; definitions = map spec.definition_value x.items }, from.new.left)) result ((meaning (spec.section_by (spec.form_of id) id) (view.defined_value state.old)).read from.old.left) }
+    ensures grows { IfOk result (λ x. view.defined_value state.new ≡ grown spec.with_definition (view.defined_value state.old) (map spec.definition_value x.items)) }
+    ensures end { from.new.end ≡ from.old.end }
+{
+    match id {
+        SectionId::Custom => {
+            custom_name(from)?;
+            Ok(Vec::new(from.allocator()))
+        }
+        SectionId::CoreType => {
+            core_types(from)?;
+            Ok(Vec::new(from.allocator()))
+        }
+        SectionId::CoreModule | SectionId::Component => one(id, state, from),
+        _ => bounded_growing_of(id.byte(), state, from),
+    }
+}
+
+impl<'a> Step<'a> for Section<'a> {
+    type State = Defined<'a>;
+
+    ghost use Rattle.component_sections.specs.Entries.{DefinedValue};
+    ghost use Rattle.component_sections.specs.Component as spec;
+    ghost use Rattle.component_sections.specs.Views as view;
+
+    ghost Value = { spec.SectionValue };
+
+    ghost Known = { DefinedValue };
+
+    ghost grow = { spec.section_with };
+
+    ghost which = { spec.byte_of };
+
+    ghost next = { spec.section_next };
+
+    ghost known = { view.defined_value };
+
+    ghost value = { spec.section_value };
+
+    #[tactic(auto, unfolding(crate::specs::Component::section_next))]
+    fn read_behind(
+        kind: u8,
+        state: &mut Defined<'a>,
+        from: &mut Reader<'a>,
+    ) -> Result<Section<'a>, ReadError> {
+        match section_id_of(kind) {
+            Ok(id) => {
+                let definitions = definitions_of(id, state, from)?;
+                Ok(Section { id, definitions })
+            }
+            Err(rule) => Err(from.broken(rule)),
+        }
+    }
+}
