@@ -1,12 +1,13 @@
 -- Components as bytes (Component Model Binary, Component Definitions).
-use Rattle.std.specs.Prelude.{ℕ, List, [], ◌∷◌, ◌++◌, map, Result, Ok, Err, Bool, true, false, ◌==◌, ◌&&◌, not, if◌then◌else◌, bytes_eq, None}
+use Rattle.std.specs.Prelude.{ℕ, List, [], ◌∷◌, map, Result, Ok, Err, Bool, true, false, ◌==◌, ◌||◌, if◌then◌else◌, bytes_eq, None}
 use Rattle.std.specs.List.{flat_map}
+use Rattle.binary_grammar.specs.declared.fault.Fault.{Fault}
 use Rattle.binary_grammar.specs.declared.fault.ReadError.{ReadError}
 use Rattle.binary_grammar.specs.declared.fault.ReadError.TheVariants as errors
 use Rattle.binary_grammar.specs.declared.fault.Rule.{Rule}
 use Rattle.binary_grammar.specs.declared.fault.Rule.TheVariants as rules
 use Rattle.binary_grammar.specs.Several.{grown}
-use Rattle.binary_grammar.specs.Syntax.{Syntax, unbounded, bounded, ◌◂◌, ◌>>=◌, some_name, some_bytes, gives, refuses, tested, growing, sized, where_known, exactly, begins, everything, seen, steps, meaning, number}
+use Rattle.binary_grammar.specs.Syntax.{Syntax, unbounded, bounded, ◌◂◌, ◌>>=◌, some_name, some_bytes, gives, refuses, tested, growing, sized, where_known, exactly, begins, everything, seen, steps, meaning, bytes, IsTyped, Meets, EachWhere, number}
 use Rattle.component_value_types.specs.declared.scope.Scope.{Scope}
 use Rattle.component_definitions.specs.declared.sorts.ComponentSort.TheVariants as components
 use Rattle.component_definitions.specs.declared.sorts.Sort.TheVariants as sorts
@@ -22,6 +23,7 @@ use Rattle.component_sections.specs.declared.section.SectionId.TheVariants as id
 use Rattle.component_sections.specs.declared.section.Definition.{Definition}
 use Rattle.component_sections.specs.declared.section.Definition.TheVariants as code
 use Rattle.component_sections.specs.declared.section.Section.{Section}
+use Rattle.component_sections.specs.Runs.{runs, front}
 use Rattle.component_sections.specs.Entries.{EntryValue, entry_value, entry_sort, entry_kind, an_alias, DefinedValue, imports_with, exports_with, entry_by, kind_byte, kind_of}
 use Rattle.component_sections.specs.Nested.{header, nested_component, nested_component_value}
 
@@ -220,22 +222,31 @@ whole_sections = do
 abbrev pub definitions_in : List SectionValue → List DefinitionValue
 definitions_in ss = flat_map (λ s. s.definitions) ss
 
-abbrev pub section_of : DefinitionValue → SectionValue
-section_of d = record { id = section_id d; definitions = d ∷ [] }
+abbrev pub definition_byte : DefinitionValue → ℕ
+definition_byte d = section_byte (section_id d)
 
 -- core modules and components have a section each
-abbrev pub stands_alone : SectionForm → Bool
-stands_alone one = true
-stands_alone _ = false
+abbrev pub alone : ℕ → Bool
+alone b = b == 1 || b == 4
 
--- other neighbours of one section share it
-abbrev pub in_front : SectionValue → List SectionValue → List SectionValue
-in_front s [] = s ∷ []
-in_front s (t ∷ ts) = if byte_of s == byte_of t && not (stands_alone (form_of s.id)) then record { id = t.id; definitions = s.definitions ++ t.definitions } ∷ ts else s ∷ t ∷ ts
+abbrev pub section_of : List DefinitionValue → SectionValue
+section_of [] = record { id = ids.Custom; definitions = [] }
+section_of (d ∷ ds) = record { id = section_id d; definitions = d ∷ ds }
 
+-- as they are written: other neighbours of one section share it
 abbrev pub sections_of : List DefinitionValue → List SectionValue
-sections_of [] = []
-sections_of (d ∷ ds) = in_front (section_of d) (sections_of ds)
+sections_of ds = map section_of (runs definition_byte alone ds)
+
+-- those of the first section
+abbrev pub first_section : List DefinitionValue → List DefinitionValue
+first_section ds = front definition_byte alone ds
+
+-- a section's bytes with its own
+abbrev pub section_bytes : SectionValue → List ℕ
+section_bytes s = byte_of s ∷ bytes (section_next (byte_of s)) s
+
+abbrev pub IsSection : SectionValue → Type 0
+IsSection s = IsTyped (section_next (byte_of s)) s
 
 unfoldable pub component : Syntax bounded DefinedValue (List DefinitionValue)
 component = seen definitions_in sections_of whole_sections
@@ -264,7 +275,19 @@ nothing = record { nested = false; scope = no_scope; imports = []; exports = [] 
 abbrev pub IsComponent : List ℕ → List DefinitionValue → Type 0
 IsComponent bytes ds = (meaning component nothing).form bytes ds
 
+-- the parts of a component stand in the bytes up to where they break this rule
+abbrev pub BreaksComponent : List ℕ → Fault → Type 0
+BreaksComponent bytes e = (meaning component nothing).breaks bytes e
+
 -- why bytes aren't read: want of memory, or the parts of a component stand in them up to where they break this rule
 abbrev pub IsComponentFault : List ℕ → ReadError → Type 0
 IsComponentFault bytes errors.Memory = Unit {0}
-IsComponentFault bytes (errors.Malformed f) = (meaning component nothing).breaks bytes f
+IsComponentFault bytes (errors.Malformed f) = BreaksComponent bytes f
+
+-- the definition may stand there: it is of its section's grammar, its indices speak of what is there, and its names are new
+abbrev pub Follows : DefinedValue → DefinitionValue → Type 0
+Follows there d = Meets (definition_in (section_id d)) there d
+
+-- each may stand behind those before it
+abbrev pub Follow : DefinedValue → List DefinitionValue → Type 0
+Follow there ds = EachWhere Follows with_definition there ds

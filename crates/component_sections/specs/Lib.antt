@@ -1,4 +1,5 @@
 pub mod Entries
 pub mod Views
+pub mod Runs
 pub mod Nested
 pub mod Component

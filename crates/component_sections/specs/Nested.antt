@@ -1,15 +1,16 @@
 -- Components within a component (Component Model Binary, Component Definitions).
-use Rattle.std.specs.Prelude.{ℕ, List, [], ◌∷◌, ◌++◌, map, Result, Ok, Err, Option, Some, None, true, ◌==◌, if◌then◌else◌, bytes_eq}
+use Rattle.std.specs.Prelude.{ℕ, List, [], ◌∷◌, map, Result, Ok, Err, Option, Some, None, Bool, true, false, ◌==◌, if◌then◌else◌, bytes_eq}
 use Rattle.std.specs.List.{flat_map}
 use Rattle.binary_grammar.specs.declared.fault.Rule.{Rule}
 use Rattle.binary_grammar.specs.declared.fault.Rule.TheVariants as rules
 use Rattle.binary_grammar.specs.Several.{grown}
-use Rattle.binary_grammar.specs.Syntax.{Syntax, unbounded, bounded, ◌◂◌, ◌>>=◌, some_name, some_bytes, gives, refuses, tested, growing, sized, where_known, exactly, begins, seen, steps}
+use Rattle.binary_grammar.specs.Syntax.{Syntax, unbounded, bounded, ◌◂◌, ◌>>=◌, some_name, some_bytes, gives, refuses, tested, growing, sized, where_known, exactly, begins, seen, steps, bytes, IsTyped}
 use Rattle.component_value_types.specs.declared.scope.Scope.{Scope}
 use Rattle.component_definitions.specs.Counting.{inside}
 use Rattle.component_sections.specs.declared.entry.EntryKind.{EntryKind}
 use Rattle.component_sections.specs.declared.nested.NestedSection.{NestedSection}
 use Rattle.component_sections.specs.declared.nested.NestedComponent.{NestedComponent}
+use Rattle.component_sections.specs.Runs.{runs}
 use Rattle.component_sections.specs.Entries.{EntryValue, entry_value, entry_kind, DefinedValue, with_entry, entry_by, kind_byte, kind_of}
 
 -- `00 61 73 6d`, the version and the layer
@@ -69,21 +70,31 @@ nested_sections = where_known nothing_in (do
 abbrev pub entries_in : List NestedSectionValue → List EntryValue
 entries_in ss = flat_map (λ s. s.entries) ss
 
-abbrev pub section_of : EntryValue → NestedSectionValue
-section_of e = record { kind = Some (entry_kind e); entries = e ∷ [] }
+abbrev pub entry_byte : EntryValue → ℕ
+entry_byte e = kind_byte (entry_kind e)
 
--- neighbours of one kind share a section
-abbrev pub in_front : NestedSectionValue → List NestedSectionValue → List NestedSectionValue
-in_front s [] = s ∷ []
-in_front s (t ∷ ts) = if nested_byte s == nested_byte t then record { kind = t.kind; entries = s.entries ++ t.entries } ∷ ts else s ∷ t ∷ ts
+-- no entry has a section for itself
+abbrev pub alone : ℕ → Bool
+alone b = false
 
+abbrev pub section_of : List EntryValue → NestedSectionValue
+section_of [] = record { kind = None; entries = [] }
+section_of (e ∷ es) = record { kind = Some (entry_kind e); entries = e ∷ es }
+
+-- as they are written: neighbours of one kind share a section
 abbrev pub sections_of : List EntryValue → List NestedSectionValue
-sections_of [] = []
-sections_of (e ∷ es) = in_front (section_of e) (sections_of es)
+sections_of es = map section_of (runs entry_byte alone es)
 
 -- a whole component of its own, which sees the types around
 unfoldable pub nested_component : Syntax bounded Scope (List EntryValue)
 nested_component = seen entries_in sections_of nested_sections
+
+-- a section's bytes with its own
+abbrev pub section_bytes : NestedSectionValue → List ℕ
+section_bytes s = nested_byte s ∷ bytes (nested_next (nested_byte s)) s
+
+abbrev pub IsSection : NestedSectionValue → Type 0
+IsSection s = IsTyped (nested_next (nested_byte s)) s
 
 abbrev pub nested_component_value : NestedComponent → List EntryValue
 nested_component_value c = map entry_value c.entries.items

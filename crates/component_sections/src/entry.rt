@@ -1,12 +1,12 @@
 //! What a whole component and a nested one both may have.
 
-ghost use Rattle.std.specs.Prelude.{◌≡◌, ◌++◌, IfOk, OnOk, Err};
-ghost use Rattle.binary_grammar.specs.Fault.{Gives};
-ghost use Rattle.binary_grammar.specs.Syntax.{meaning, bytes, IsTyped};
+ghost use Rattle.std.specs.Prelude.{◌≡◌};
 ghost use Rattle.component_instances.specs.TypeDefinitions.{type_definition_value};
 ghost use Rattle.component_sections.specs.Entries as spec;
+ghost use Rattle.component_sections.specs.Nested.{alone};
 
 use crate::defined::Defined;
+use crate::runs::Grouped;
 use binary_grammar::{Part, ReadError, Reader, Rule, Step, WriteFault};
 use component_definitions::{Alias, ComponentSort, Export, Import, Sort, described_sort};
 use component_instances::TypeDefinition;
@@ -99,14 +99,37 @@ impl Entry<'_> {
             Entry::Export(export) => export.sort,
         }
     }
+}
 
-    /// Adds the shortest bytes of the entry. Answers `TooLarge` only where its names, lengths and counts don't all fit.
-    #[tactic(auto, unfolding(component_definitions::specs::Externs::import_entry, component_definitions::specs::Externs::export_entry))]
-    pub fn put(&self, out: &mut Vec<u8>) -> Result<(), WriteFault>
-        ensures bytes { OnOk result (out.new.items ≡ out.old.items ++ bytes (spec.entry_by (spec.entry_kind (spec.entry_value self.now))) (spec.entry_value self.now)) }
-        ensures typed { OnOk result (IsTyped (spec.entry_by (spec.entry_kind (spec.entry_value self.now))) (spec.entry_value self.now)) }
-        ensures large { result ≡ Err WriteFault.TooLarge → IsTyped (spec.entry_by (spec.entry_kind (spec.entry_value self.now))) (spec.entry_value self.now) → ⊥ }
+impl<'a> Grouped for Entry<'a> {
+    ghost use Rattle.component_sections.specs.Entries as spec;
+    ghost use Rattle.component_sections.specs.Nested.{entry_byte, alone};
+
+    ghost Value = { spec.EntryValue };
+
+    ghost Known = { spec.DefinedValue };
+
+    ghost section = { entry_byte };
+
+    ghost alone = { alone };
+
+    ghost item = { λ b. spec.entry_behind (spec.kind_of b) };
+
+    ghost value = { spec.entry_value };
+
+    fn section_byte(&self) -> u8 {
+        self.kind().byte()
+    }
+
+    fn has_its_own(byte: u8) -> bool
+        ensures { result ≡ alone byte }
     {
+        let _byte = byte;
+        false
+    }
+
+    #[tactic(auto, unfolding(crate::specs::Entries::kind_of, component_definitions::specs::Externs::import_entry, component_definitions::specs::Externs::export_entry))]
+    fn put(&self, out: &mut Vec<u8>) -> Result<(), WriteFault> {
         match self {
             Entry::Alias(alias) => alias.put(out),
             Entry::Type_(ty) => ty.put(out),

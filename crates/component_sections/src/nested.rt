@@ -1,6 +1,7 @@
 //! Components within a component.
 
-ghost use Rattle.std.specs.Prelude.{◌≡◌, map, IfOk};
+ghost use Rattle.std.specs.Prelude.{◌≡◌, ◌++◌, map, IfOk, OnOk, Err};
+ghost use Rattle.std.specs.List.{flat_map, All};
 ghost use Rattle.binary_grammar.specs.Fault.{Gives};
 ghost use Rattle.binary_grammar.specs.Syntax.{meaning, sized, begins, some_name};
 ghost use Rattle.component_value_types.specs.declared.scope.Scope.{Scope};
@@ -10,8 +11,11 @@ ghost use Rattle.component_sections.specs.Nested as spec;
 
 use crate::defined::Defined;
 use crate::entry::{Entry, EntryKind, kind_of};
+use crate::runs::put_vector;
 use binary_grammar::reading::moved;
-use binary_grammar::{ReadError, Reader, Rule, Step, bounded_growing_of, broken_at, steps_of};
+use binary_grammar::{
+    Content, ReadError, Reader, Rule, Step, WriteFault, bounded_growing_of, broken_at, steps_of,
+};
 use component_value_types::Scope;
 use std::alloc::{AllocError, Global};
 
@@ -128,16 +132,55 @@ fn entries_of<'a>(
     Ok(entries)
 }
 
-/// The nested component that all of the bytes are, where this is there.
-#[tactic(auto, unfolding(crate::specs::Nested::nested_component))]
-pub fn nested_component_of<'a>(
-    there: Scope,
-    from: Reader<'a>,
-) -> Result<NestedComponent<'a>, ReadError>
-    ensures { Gives spec.nested_component_value result ((meaning spec.nested_component there).read from.entry.left) }
+/// Adds the sections of entries, neighbours of one kind in one; `room` is emptied and then holds the content of the last.
+/// Answers `TooLarge` only where 32 bits can't say a count or a size, or an entry doesn't fit.
+fn put_sections(
+    entries: &[Entry<'_>],
+    room: &mut Vec<u8>,
+    out: &mut Vec<u8>,
+) -> Result<(), WriteFault>
+    ensures bytes { OnOk result (out.new.items ≡ out.old.items ++ flat_map spec.section_bytes (spec.sections_of (map entry_value entries.now))) }
+    ensures typed { OnOk result (All spec.IsSection (spec.sections_of (map entry_value entries.now))) }
+    ensures large { result ≡ Err WriteFault.TooLarge → All spec.IsSection (spec.sections_of (map entry_value entries.now)) → ⊥ }
 {
-    let mut from = from;
-    let sections = sections_of(there, &mut from)?;
-    let entries = entries_of(from.allocator(), sections)?;
-    Ok(NestedComponent { entries })
+    let mut at = 0;
+    while at < entries.len() {
+        at += put_vector(&entries[at..], room, out)?;
+    }
+    Ok(())
+}
+
+impl<'a> Content<'a> for NestedComponent<'a> {
+    type Context = Scope;
+
+    ghost use Rattle.std.specs.Prelude.{List};
+    ghost use Rattle.component_value_types.specs.declared.scope.Scope.{Scope};
+    ghost use Rattle.component_sections.specs.Entries.{EntryValue};
+    ghost use Rattle.component_sections.specs.Nested as spec;
+
+    ghost Value = { List EntryValue };
+
+    ghost Known = { Scope };
+
+    ghost content = { spec.nested_component };
+
+    ghost known = { λ s. s };
+
+    ghost value = { spec.nested_component_value };
+
+    #[tactic(auto, unfolding(crate::specs::Nested::nested_component))]
+    fn read_all(there: Scope, from: Reader<'a>) -> Result<NestedComponent<'a>, ReadError> {
+        let mut from = from;
+        let sections = sections_of(there, &mut from)?;
+        let entries = entries_of(from.allocator(), sections)?;
+        Ok(NestedComponent { entries })
+    }
+
+    #[tactic(auto, unfolding(crate::specs::Nested::nested_component, crate::specs::Nested::nested_sections))]
+    fn put_all(&self, out: &mut Vec<u8>) -> Result<(), WriteFault> {
+        let mut room = Vec::new(*out.allocator());
+        out.extend_from_slice(&HEADER)?;
+        put_sections(&self.entries, &mut room, out)?;
+        Ok(())
+    }
 }

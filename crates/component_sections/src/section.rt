@@ -1,10 +1,10 @@
 //! Definitions, and the sections that they stand in.
 
-ghost use Rattle.std.specs.Prelude.{◌≡◌, ◌==◌, map, IfOk};
+ghost use Rattle.std.specs.Prelude.{◌≡◌, ◌+◌, ◌≤◌, ◌==◌, ◌++◌, ◌∷◌, [], true, map, length, IfOk, OnOk, Err};
 ghost use Rattle.binary_grammar.specs.declared.fault.Rule.TheVariants as rules;
 ghost use Rattle.binary_grammar.specs.Fault.{Gives};
 ghost use Rattle.binary_grammar.specs.Several.{grown};
-ghost use Rattle.binary_grammar.specs.Syntax.{meaning, exactly, sized, tested, number};
+ghost use Rattle.binary_grammar.specs.Syntax.{meaning, bytes, IsTyped, exactly, sized, tested, number};
 ghost use Rattle.component_sections.specs.declared.section.SectionId.TheVariants as ids;
 ghost use Rattle.component_sections.specs.Entries.{DefinedValue};
 ghost use Rattle.component_sections.specs.Nested.{nested_component, nested_component_value};
@@ -13,12 +13,15 @@ ghost use Rattle.component_sections.specs.Views as view;
 
 use crate::defined::Defined;
 use crate::entry::{Entry, EntryKind, kind_of};
-use crate::nested::{NestedComponent, custom_name, nested_component_of};
+use crate::nested::{NestedComponent, custom_name};
+use crate::runs::{Grouped, put_first};
 use binary_grammar::reading::moved;
-use binary_grammar::{Part, ReadError, Reader, Rule, Step, bounded_growing_of, broken_at};
+use binary_grammar::{
+    Content, Part, ReadError, Reader, Rule, Step, WriteFault, bounded_growing_of, bounded_of,
+    broken_at, put_with_length,
+};
 use component_definitions::{CanonicalDefinition, ComponentSort, IndexSpace, Sort};
 use component_instances::{CoreInstance, Instance};
-use component_value_types::Scope;
 
 /// What a section holds (Component Model Binary, Component Definitions).
 #[derive(Clone, Copy, Debug, PartialEq, Eq)]
@@ -118,6 +121,13 @@ impl Definition<'_> {
         }
     }
 
+    /// Whether it has its section for itself.
+    pub fn stands_alone(&self) -> bool
+        ensures { result ≡ spec.alone (spec.definition_byte (spec.definition_value self.now)) }
+    {
+        matches!(self, Definition::CoreModule(_) | Definition::Component(_))
+    }
+
     /// The section that it stands in.
     pub fn section(&self) -> SectionId
         ensures { result ≡ spec.section_id (spec.definition_value self.now) }
@@ -133,23 +143,98 @@ impl Definition<'_> {
     }
 }
 
+/// Adds a nested component behind its size.
+fn put_component(component: &NestedComponent<'_>, out: &mut Vec<u8>) -> Result<(), WriteFault>
+    ensures bytes { OnOk result (out.new.items ≡ out.old.items ++ bytes (sized nested_component) (nested_component_value component.now)) }
+    ensures typed { OnOk result (IsTyped (sized nested_component) (nested_component_value component.now)) }
+    ensures large { result ≡ Err WriteFault.TooLarge → IsTyped (sized nested_component) (nested_component_value component.now) → ⊥ }
+{
+    let mut content = Vec::new(*out.allocator());
+    component.put_all(&mut content)?;
+    put_with_length(out, &content)
+}
+
+impl<'a> Grouped for Definition<'a> {
+    ghost use Rattle.component_sections.specs.Entries.{DefinedValue};
+    ghost use Rattle.component_sections.specs.Component as spec;
+
+    ghost Value = { spec.DefinitionValue };
+
+    ghost Known = { DefinedValue };
+
+    ghost section = { spec.definition_byte };
+
+    ghost alone = { spec.alone };
+
+    ghost item = { λ b. spec.definition_behind (spec.section_id_of b) };
+
+    ghost value = { spec.definition_value };
+
+    fn section_byte(&self) -> u8 {
+        self.section().byte()
+    }
+
+    fn has_its_own(byte: u8) -> bool
+        ensures { result ≡ spec.alone byte }
+    {
+        byte == 1 || byte == 4
+    }
+
+    #[tactic(auto, unfolding(crate::specs::Component::section_id_of, crate::specs::Entries::kind_of))]
+    fn put(&self, out: &mut Vec<u8>) -> Result<(), WriteFault> {
+        match self {
+            Definition::CoreModule(bytes) => put_with_length(out, bytes),
+            Definition::CoreInstance(instance) => instance.put(out),
+            Definition::Component(component) => put_component(component, out),
+            Definition::Instance(instance) => instance.put(out),
+            Definition::Canonical(canonical) => canonical.put(out),
+            Definition::Entry(entry) => entry.put(out),
+        }
+    }
+}
+
+/// Adds the section of a definition that has one for itself.
+#[tactic(auto, using(crate::proofs::WholeSections::own_spelled, crate::proofs::WholeSections::own_typed, crate::proofs::WholeSections::typed_own))]
+fn put_own_section(definition: &Definition<'_>, out: &mut Vec<u8>) -> Result<(), WriteFault>
+    requires { spec.alone (spec.definition_byte (spec.definition_value definition.now)) ≡ true }
+    ensures bytes { OnOk result (out.new.items ≡ out.old.items ++ spec.section_bytes (spec.section_of (spec.definition_value definition.now ∷ []))) }
+    ensures typed { OnOk result (spec.IsSection (spec.section_of (spec.definition_value definition.now ∷ []))) }
+    ensures large { result ≡ Err WriteFault.TooLarge → spec.IsSection (spec.section_of (spec.definition_value definition.now ∷ [])) → ⊥ }
+{
+    out.push(definition.section_byte())?;
+    definition.put(out)?;
+    Ok(())
+}
+
+/// Adds the section that begins with a definition and has those behind it that share it; answers how many these are in all.
+/// `room` is emptied and then holds the content of a vector. Answers `TooLarge` only where 32 bits can't say the count or the
+/// size, or a definition doesn't fit.
+#[tactic(auto, using(crate::proofs::WholeSections::own_front, crate::proofs::WholeSections::vector_spelled, crate::proofs::WholeSections::vector_typed, crate::proofs::WholeSections::typed_vector))]
+pub fn put_section<'a>(
+    first: &Definition<'a>,
+    more: &[Definition<'a>],
+    room: &mut Vec<u8>,
+    out: &mut Vec<u8>,
+) -> Result<usize, WriteFault>
+    ensures count { IfOk result (λ n. n ≡ length (spec.first_section (spec.definition_value first.now ∷ map spec.definition_value more.now))) }
+    ensures within { IfOk result (λ n. n ≤ 1 + length more.now) }
+    ensures bytes { OnOk result (out.new.items ≡ out.old.items ++ spec.section_bytes (spec.section_of (spec.first_section (spec.definition_value first.now ∷ map spec.definition_value more.now)))) }
+    ensures typed { OnOk result (spec.IsSection (spec.section_of (spec.first_section (spec.definition_value first.now ∷ map spec.definition_value more.now)))) }
+    ensures large { result ≡ Err WriteFault.TooLarge → spec.IsSection (spec.section_of (spec.first_section (spec.definition_value first.now ∷ map spec.definition_value more.now))) → ⊥ }
+{
+    if first.stands_alone() {
+        put_own_section(first, out)?;
+        return Ok(1);
+    }
+    put_first(first, more, room, out)
+}
+
 fn core_module<'a>(there: &Defined<'a>, from: &mut Reader<'a>) -> Result<Definition<'a>, ReadError>
     ensures gives { Gives (λ x. (spec.definition_value x, from.new.left)) result ((meaning (spec.definition_in ids.CoreModule) (view.defined_value there.now)).read from.old.left) }
     ensures end { from.new.end ≡ from.old.end }
 {
     let inside = from.inside()?;
     Ok(Definition::CoreModule(inside.rest()))
-}
-
-fn component<'a>(there: Scope, from: &mut Reader<'a>) -> Result<NestedComponent<'a>, ReadError>
-    ensures gives { Gives (λ x. (nested_component_value x, from.new.left)) result ((meaning (sized nested_component) there).read from.old.left) }
-    ensures end { from.new.end ≡ from.old.end }
-{
-    let inside = from.inside()?;
-    match nested_component_of(there, inside) {
-        Ok(component) => Ok(component),
-        Err(e) => Err(moved(e, from.left())),
-    }
 }
 
 /// A definition as it stands in this section.
@@ -165,7 +250,7 @@ fn definition_in<'a>(
     match id {
         SectionId::CoreModule => core_module(there, from),
         SectionId::CoreInstance => Ok(Definition::CoreInstance(CoreInstance::read(scope, from)?)),
-        SectionId::Component => Ok(Definition::Component(component(scope, from)?)),
+        SectionId::Component => Ok(Definition::Component(bounded_of(scope, from)?)),
         SectionId::Instance => Ok(Definition::Instance(Instance::read(scope, from)?)),
         SectionId::Canonical => Ok(Definition::Canonical(CanonicalDefinition::read(scope, from)?)),
         SectionId::Entry(kind) => Ok(Definition::Entry(there.entry(kind, from)?)),

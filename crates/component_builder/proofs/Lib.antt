@@ -1,0 +1,4 @@
+pub mod Modules
+pub mod Scopes
+pub mod Parts
+pub mod Wholes

@@ -1,0 +1,9 @@
+//! Components that are made, one definition after the other, and written.
+#![tactic(auto)]
+
+mod builder;
+mod output;
+mod pieces;
+
+pub use builder::{ComponentBuilder, WriteToFault};
+pub use output::EmitFault;
