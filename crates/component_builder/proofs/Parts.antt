@@ -34,3 +34,9 @@ module _ {X Y : Type 0} (f : X → List Y) (xs : List X) (end : List Y) (i : ℕ
 -- the end is behind all parts
 pub end_begins : {Y : Type 0} (front end : List Y) (before n : ℕ) → before ≡ length front → before ≤ n → front ++ take (n - before) end ≡ take n (front ++ end)
 end_begins front end before n e le = ap (λ k. front ++ take (n - k) end) e ∙ sym (beyond front end n (omega (arith, e)))
+
+-- a part, those before it and the end are no more than all
+pub so_far_fits : {X Y : Type 0} (f : X → List Y) (xs : List X) (end : List Y) (i : ℕ) (x : X) → i < length xs → x ≡ get_or xs i x → length (flat_map f (take i xs)) + length end + length (f x) ≤ length (flat_map f xs ++ end)
+so_far_fits f xs end i x here is =
+    let fits = part_fits f xs [] i x here is (length (flat_map f (take i xs))) refl in
+    omega (arith, fits, length-append (flat_map f xs) end, length-append (flat_map f xs) [])

@@ -1,6 +1,6 @@
 //! What is written of a component: bytes of its own, and core modules that are lent.
 
-ghost use Rattle.std.specs.Prelude.{◌≡◌, ◌+◌, ◌<◌, ◌≤◌, ◌^◌, ◌++◌, ◌∷◌, [], map, length, take, IfSome, IfOk, IfErr, OnOk, Err};
+ghost use Rattle.std.specs.Prelude.{◌≡◌, ◌+◌, ◌<◌, ◌≤◌, ◌^◌, ◌++◌, ◌∷◌, [], map, length, take, IfSome, IsSome, IfOk, IfErr, OnOk, Err};
 ghost use Rattle.std.specs.Io.KnownBytes.{Appends};
 ghost use Rattle.binary_grammar.specs.Syntax.{bytes, IsTyped};
 ghost use Rattle.component_sections.specs.Component.{definition_value, a_core_module, component, first_section, section_of, section_bytes, IsSection};
@@ -82,7 +82,8 @@ impl<'a> Pieces<'a> {
 
     /// How many bytes they are, where 64 bits can say that.
     pub fn length(&self) -> Option<usize>
-        ensures { IfSome result (λ n. n ≡ length (spec.pieces_bytes self.now)) }
+        ensures value { IfSome result (λ n. n ≡ length (spec.pieces_bytes self.now)) }
+        ensures fits { length (spec.pieces_bytes self.now) < 2 ^ 64 → IsSome result }
     {
         let mut total = self.open.len();
         for piece in &self.done {

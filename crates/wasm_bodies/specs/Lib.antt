@@ -1,0 +1,5 @@
+pub mod Instructions
+pub mod Bodies
+pub mod Segments
+pub mod Names
+pub mod Generated
