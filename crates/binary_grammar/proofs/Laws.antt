@@ -1,11 +1,11 @@
 -- A format whose reading finds what its form says, and nothing else, and stops where its breaks say, and nowhere else.
-use Rattle.std.proofs.Common.{◌≡◌, ℕ, zero, suc, ◌+◌, ◌≤◌, ◌<◌, ◌⊎◌, Bool, true, false, cond, eqb, ltb, List, [], ◌∷◌, ◌++◌, length, take, drop, Result, Ok, Err, refl, sym, ap, subst, ◌∙◌, append_assoc, arith, inl, inr}
+use Rattle.std.proofs.Common.{◌≡◌, ℕ, ◌+◌, ◌≤◌, ◌<◌, ◌⊎◌, Bool, true, false, cond, eqb, ltb, List, [], ◌∷◌, ◌++◌, length, take, drop, Result, Ok, Err, refl, sym, ap, subst, ◌∙◌, append_assoc, arith, inl, inr}
 use Rattle.std.proofs.lemmas.Bool.{ltb-true, ltb-false, lt-ltb, le-ltb, eqb-true}
 use Rattle.std.proofs.lemmas.List.{append-nil, nil_from_length, take_at, drop_at, take-append-drop, length-append, length-take}
 use Rattle.binary_grammar.specs.declared.fault.Fault.{Fault}
 use Rattle.binary_grammar.specs.declared.fault.Rule.{Rule}
 use Rattle.binary_grammar.specs.declared.fault.Rule.TheVariants as rules
-use Rattle.binary_grammar.specs.Format.{Format, Whole, Behind, Each, fault_at, wrong, and_then, ◌>>=◌, yield, refuse, judge, such, byte_at, byte, chunk, repeat_at, repeat, exactly, begins, everything, keeping, outward, beyond, BreaksInside, sized}
+use Rattle.binary_grammar.specs.Format.{Format, Whole, Behind, fault_at, wrong, and_then, ◌>>=◌, yield, refuse, judge, such, byte_at, byte, chunk, exactly, begins, everything, keeping, outward, beyond, BreaksInside, sized}
 
 pub record Found {X : Type 0} (f : Format X) (bytes : List ℕ) (x : X) (rest : List ℕ) : Type 0 where
   pub front : List ℕ
@@ -247,93 +247,6 @@ such_law {X = X} rule test f lf = record {
 
 pub in_three : (bytes a b c d : List ℕ) → bytes ≡ a ++ b → b ≡ c ++ d → bytes ≡ (a ++ c) ++ d
 in_three bytes a b c d e f = e ∙ ap (λ (t : List ℕ). a ++ t) f ∙ sym (append_assoc a c d)
-
-repeat_found : {X : Type 0} (f : Format X) → Law f → (n : ℕ) (bytes : List ℕ) (xs : List X) (rest : List ℕ) → repeat_at f.read n bytes ≡ Ok (xs, rest) → Found (repeat f n) bytes xs rest
-unfolding repeat_at
-repeat_found {X = X} f lf zero bytes xs rest e =
-    subst (λ (y : List X × List ℕ). Found (repeat f zero) bytes y.0 y.1) (ok_is ([], bytes) (xs, rest) e) (record { front = []; parts = refl; formed = (refl, refl) })
-repeat_found {X = X} f lf (suc n) bytes xs rest e =
-    let p = bind_ok (f.read bytes) (λ x. and_then (repeat_at f.read n x.1) (λ xs. Ok (x.0 ∷ xs.0, xs.1))) (xs, rest) e in
-    let q = bind_ok (repeat_at f.read n p.0.1) (λ xs. Ok (p.0.0 ∷ xs.0, xs.1)) (xs, rest) p.2 in
-    let one = lf.found bytes p.0.0 p.0.1 p.1 in
-    let two = repeat_found f lf n p.0.1 q.0.0 q.0.1 q.1 in
-    subst (λ (y : List X × List ℕ). Found (repeat f (suc n)) bytes y.0 y.1) (ok_is (p.0.0 ∷ q.0.0, q.0.1) (xs, rest) q.2)
-    (record {
-      front = one.front ++ two.front;
-      parts = in_three bytes one.front p.0.1 two.front q.0.1 one.parts two.parts;
-      formed = (record { front = one.front; back = two.front; parts = refl; first = one.formed; second = two.formed.0 }, ap suc two.formed.1);
-    })
-
-repeat_again : {X : Type 0} (f : Format X) → Law f → (n : ℕ) (front : List ℕ) (xs : List X) (rest : List ℕ) → (repeat f n).form front xs → repeat_at f.read n (front ++ rest) ≡ Ok (xs, rest)
-unfolding repeat_at
-repeat_again f lf zero front [] rest h = rw h.0 refl
-repeat_again f lf zero front (x ∷ xs) rest h = absurd cc
-repeat_again f lf (suc n) front [] rest h = absurd cc
-repeat_again f lf (suc n) front (x ∷ xs) rest h =
-    let t = h.0 in
-    let regrouped : front ++ rest ≡ t.front ++ (t.back ++ rest) = ap (λ (s : List ℕ). s ++ rest) t.parts ∙ append_assoc t.front t.back rest in
-    let one : f.read (front ++ rest) ≡ Ok (x, t.back ++ rest) = ap f.read regrouped ∙ lf.again t.front x (t.back ++ rest) t.first in
-    let len : length xs ≡ n = cc in
-    rw (one, repeat_again f lf n t.back xs rest (t.second, len)) refl
-
-repeat_within : {X : Type 0} (f : Format X) → Law f → (n : ℕ) (bytes : List ℕ) (d : Fault) → repeat_at f.read n bytes ≡ Err d → d.left ≤ length bytes
-unfolding repeat_at
-repeat_within f lf zero bytes d e = absurd cc
-repeat_within f lf (suc n) bytes d e =
-    elim (bind_err (f.read bytes) (λ x. and_then (repeat_at f.read n x.1) (λ xs. Ok (x.0 ∷ xs.0, xs.1))) d e) [
-      | inl first ↦ lf.within bytes d first
-      | inr p ↦
-          let one = lf.found bytes p.0.0 p.0.1 p.1 in
-          elim (bind_err (repeat_at f.read n p.0.1) (λ xs. Ok (p.0.0 ∷ xs.0, xs.1)) d p.2) [
-            | inl second ↦ let two = repeat_within f lf n p.0.1 d second in omega (arith, ap length one.parts, length-append one.front p.0.1)
-            | inr q ↦ let k = q.2 in absurd cc
-          ]
-    ]
-
-repeat_stops : {X : Type 0} (f : Format X) → Law f → (n : ℕ) (bytes : List ℕ) (e : Fault) → repeat_at f.read n bytes ≡ Err e → (repeat f n).breaks bytes e
-unfolding repeat_at
-repeat_stops f lf zero bytes e h = absurd cc
-repeat_stops f lf (suc n) bytes e h =
-    elim (bind_err (f.read bytes) (λ x. and_then (repeat_at f.read n x.1) (λ xs. Ok (x.0 ∷ xs.0, xs.1))) e h) [
-      | inl first ↦ record { value = []; front = []; back = bytes; parts = refl; first = refl; second = (omega arith, lf.stops bytes e first) }
-      | inr p ↦
-          let one = lf.found bytes p.0.0 p.0.1 p.1 in
-          elim (bind_err (repeat_at f.read n p.0.1) (λ xs. Ok (p.0.0 ∷ xs.0, xs.1)) e p.2) [
-            | inl second ↦
-                let two = repeat_stops f lf n p.0.1 e second in
-                let few = two.second.0 in
-                record {
-                  value = p.0.0 ∷ two.value;
-                  front = one.front ++ two.front;
-                  back = two.back;
-                  parts = in_three bytes one.front p.0.1 two.front two.back one.parts two.parts;
-                  first = record { front = one.front; back = two.front; parts = refl; first = one.formed; second = two.first };
-                  second = (omega arith, two.second.1);
-                }
-            | inr q ↦ let k = q.2 in absurd cc
-          ]
-    ]
-
-repeat_broken : {X : Type 0} (f : Format X) → Law f → (n : ℕ) (front back : List ℕ) (xs : List X) (e : Fault) → Each f.form front xs → length xs < n → f.breaks back e → repeat_at f.read n (front ++ back) ≡ Err e
-unfolding repeat_at
-repeat_broken f lf zero front back xs e h few breaks = absurd (omega arith)
-repeat_broken f lf (suc n) front back [] e h few breaks = rw (h, lf.broken back e breaks) refl
-repeat_broken f lf (suc n) front back (x ∷ xs) e h few breaks =
-    let regrouped : front ++ back ≡ h.front ++ (h.back ++ back) = ap (λ (s : List ℕ). s ++ back) h.parts ∙ append_assoc h.front h.back back in
-    let one : f.read (front ++ back) ≡ Ok (x, h.back ++ back) = ap f.read regrouped ∙ lf.again h.front x (h.back ++ back) h.first in
-    rw (one, repeat_broken f lf n h.back back xs e h.second (omega arith) breaks) refl
-
-pub repeat_law : {X : Type 0} (f : Format X) → Law f → (n : ℕ) → Law (repeat f n)
-repeat_law f lf n = record {
-  found = repeat_found f lf n;
-  again = repeat_again f lf n;
-  within = repeat_within f lf n;
-  stops = repeat_stops f lf n;
-  broken = λ bytes e h. ap (repeat_at f.read n) h.parts ∙ repeat_broken f lf n h.front h.back h.value e h.first h.second.0 h.second.1;
-  stays = λ bytes e more other h.
-      behind_stays (Each f.form) (λ xs back. (length xs < n) × f.breaks back e) (λ xs back. (length xs < n) × f.breaks back (moved e more)) bytes more
-      (λ xs back k. (k.0, lf.stays back e more other k.1)) h;
-}
 
 -- ---- all of the bytes
 

@@ -12,6 +12,7 @@ pub mod Shorter
 pub mod Series
 pub mod Each
 pub mod OneValue
+pub mod Placing
 pub mod Inside
 pub mod Remaining
 pub mod Bits

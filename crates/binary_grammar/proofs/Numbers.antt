@@ -4,8 +4,8 @@ use Rattle.std.proofs.lemmas.Bool.{ltb-true, ltb-false, le-ltb, lt-ltb}
 use Rattle.std.proofs.lemmas.List.{length-append}
 use Rattle.binary_grammar.specs.declared.fault.Fault.{Fault}
 use Rattle.binary_grammar.specs.declared.fault.Rule.TheVariants as rules
-use Rattle.binary_grammar.specs.Format.{Format, fault_at, wrong, and_then, IsLeb, AllGoOn, EndsWithin, GoesOn, BreaksU32, leb_at, u32_at, u32, vec, repeat}
-use Rattle.binary_grammar.proofs.Laws.{Found, Law, moved, bind_ok, bind_err, test_ok, test_err, left_is, rule_is, begins_still, more_behind, ok_is, bind_law, repeat_law}
+use Rattle.binary_grammar.specs.Format.{fault_at, wrong, and_then, IsLeb, AllGoOn, EndsWithin, GoesOn, BreaksU32, leb_at, u32_at, u32}
+use Rattle.binary_grammar.proofs.Laws.{Found, Law, moved, bind_ok, bind_err, test_ok, test_err, left_is, rule_is, begins_still, more_behind, ok_is}
 
 pub record Digits (k : ℕ) (bytes : List ℕ) (n : ℕ) (rest : List ℕ) : Type 0 where
   pub front : List ℕ
@@ -131,6 +131,3 @@ u32_law = record {
   broken = u32_broken;
   stays = u32_stays;
 }
-
-pub vec_law : {X : Type 0} (f : Format X) → Law f → Law (vec f)
-vec_law f lf = bind_law u32 (repeat f) u32_law (repeat_law f lf)

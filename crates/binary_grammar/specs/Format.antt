@@ -92,10 +92,6 @@ byte_at (b ∷ rest) = Ok (b, rest)
 abbrev pub byte : Format ℕ
 byte = record { form = λ bytes b. bytes ≡ b ∷ []; breaks = λ bytes e. (bytes ≡ []) × (e ≡ fault_at rules.Short []); read = byte_at }
 
--- this byte
-abbrev pub tag : ℕ → Format ℕ
-tag n = such rules.Tag (λ b. b == n) byte
-
 -- that many bytes, or there are fewer
 abbrev pub chunk : ℕ → Format (List ℕ)
 chunk n = record {
@@ -194,22 +190,6 @@ pub record Joins (P Q : List ℕ → Type 0) (bytes : List ℕ) : Type 0 where
 abbrev pub Each : {X : Type 0} → (List ℕ → X → Type 0) → List ℕ → List X → Type 0
 Each F bytes [] = bytes ≡ []
 Each F bytes (x ∷ xs) = Joins (λ s. F s x) (λ s. Each F s xs) bytes
-
-unfoldable pub repeat_at : {X : Type 0} → (List ℕ → Result (X × List ℕ) Fault) → ℕ → List ℕ → Result (List X × List ℕ) Fault
-repeat_at read zero bytes = Ok ([], bytes)
-repeat_at read (suc n) bytes = and_then (read bytes) (λ x. and_then (repeat_at read n x.1) (λ xs. Ok (x.0 ∷ xs.0, xs.1)))
-
--- so many of them; in a break some stand there, fewer than that, and the next one breaks
-abbrev pub repeat : {X : Type 0} → Format X → ℕ → Format (List X)
-repeat f n = record {
-  form = λ bytes xs. Each f.form bytes xs × (length xs ≡ n);
-  breaks = λ bytes e. Behind (Each f.form) (λ xs back. (length xs < n) × f.breaks back e) bytes;
-  read = repeat_at f.read n;
-}
-
--- a count, and so many of them (Conventions, Vectors)
-abbrev pub vec : {X : Type 0} → Format X → Format (List X)
-vec f = u32 >>= repeat f
 
 -- ---- all of some bytes
 

@@ -6,7 +6,7 @@ mod fault;
 mod law;
 mod part;
 mod reader;
-pub mod reading;
+mod reading;
 mod signed_number;
 mod steps;
 mod writing;
@@ -19,6 +19,7 @@ pub use law::{
 };
 pub use part::{Part, put_section, put_vec, vec_of};
 pub use reader::{Reader, broken_at};
+pub use reading::moved;
 pub use signed_number::{put_signed, signed_of};
 pub use steps::{
     Instruction, Step, bounded_growing_of, growing_of, put_up_to, steps_of, up_to_of,

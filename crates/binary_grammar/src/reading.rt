@@ -1,13 +1,12 @@
-//! Readers of what binary formats are made of: bytes, numbers, names, vectors.
+//! Readers of what binary formats are made of: bytes, numbers, names.
 //!
 //! Each takes its part from the front of the bytes and answers it with the bytes behind it.
 
-ghost use Rattle.std.specs.Prelude.{◌≡◌, ℕ, List, length, IfOk, Ok, ◌≤◌, ◌<◌, ◌+◌, ◌^◌, map};
-ghost use Rattle.binary_grammar.specs.Format.{Format, vec, leb_at, u32_at, byte_at, chunk, tag, index, name, repeat, exactly, inner_rule, further, CanMove};
+ghost use Rattle.std.specs.Prelude.{◌≡◌, length, IfOk, ◌≤◌, ◌<◌, ◌+◌, ◌^◌};
+ghost use Rattle.binary_grammar.specs.Format.{leb_at, u32_at, byte_at, chunk, index, name, inner_rule, further, CanMove};
 ghost use Rattle.binary_grammar.specs.Fault.{Gives};
 
 use crate::fault::{Fault, ReadError, Rule};
-use std::alloc::Global;
 
 /// A broken rule at the front of these bytes.
 pub fn fault(rule: Rule, bytes: &[u8]) -> ReadError
@@ -52,17 +51,6 @@ pub fn byte_of(bytes: &[u8]) -> Result<(u8, &[u8]), ReadError>
         [] => Err(fault(Rule::Short, bytes)),
         [first, rest @ ..] => Ok((*first, rest)),
     }
-}
-
-/// This byte, or a fault.
-pub fn tag_of(wanted: u8, bytes: &[u8]) -> Result<&[u8], ReadError>
-    ensures { Gives (λ x. (wanted, x.now)) result ((tag wanted).read bytes.now) }
-{
-    let (found, rest) = byte_of(bytes)?;
-    if found != wanted {
-        return Err(fault(Rule::Tag, bytes));
-    }
-    Ok(rest)
 }
 
 /// The digits of a LEB128 number, at most so many.
@@ -129,75 +117,4 @@ pub fn name_of(bytes: &[u8]) -> Result<(&str, &[u8]), ReadError>
         return Err(fault(Rule::Text, rest));
     };
     Ok((text, after))
-}
-
-/// What can stand in a vector, perhaps with an index below a limit in it.
-pub trait VectorItem<'a>: Sized + Drop {
-    ghost Value: { Type 0 };
-
-    ghost format: { ℕ → Format Value };
-
-    ghost value: { Self → Value };
-
-    /// One item.
-    fn read(alloc: Global, limit: usize, bytes: &'a [u8]) -> Result<(Self, &'a [u8]), ReadError>
-        ensures { Gives (λ x. (value x.0, x.1.now)) result ((format limit).read bytes.now) };
-}
-
-impl<'a> VectorItem<'a> for u32 {
-    ghost Value = { ℕ };
-
-    ghost format = { index };
-
-    ghost value = { λ i. i };
-
-    fn read(_alloc: Global, limit: usize, bytes: &'a [u8]) -> Result<(u32, &'a [u8]), ReadError> {
-        index_of(limit, bytes)
-    }
-}
-
-/// So many items.
-fn items_of<'a, T: VectorItem<'a>>(
-    alloc: Global,
-    limit: usize,
-    count: u32,
-    bytes: &'a [u8],
-) -> Result<(Vec<T>, &'a [u8]), ReadError>
-    ensures { Gives (λ x. (map T.value x.0.items, x.1.now)) result ((repeat (T.format limit) count).read bytes.now) }
-{
-    let mut items = Vec::new(alloc);
-    let mut rest = bytes;
-    for _ in 0..count {
-        let (item, after) = T::read(alloc, limit, rest)?;
-        items.push(item)?;
-        rest = after;
-    }
-    Ok((items, rest))
-}
-
-/// A vector: a count, and so many items.
-pub fn vec_of<'a, T: VectorItem<'a>>(
-    alloc: Global,
-    limit: usize,
-    bytes: &'a [u8],
-) -> Result<(Vec<T>, &'a [u8]), ReadError>
-    ensures { Gives (λ x. (map T.value x.0.items, x.1.now)) result ((vec (T.format limit)).read bytes.now) }
-{
-    let (count, rest) = u32_of(bytes)?;
-    items_of(alloc, limit, count, rest)
-}
-
-/// A vector that is all of the bytes.
-pub fn whole_vec_of<'a, T: VectorItem<'a>>(
-    alloc: Global,
-    limit: usize,
-    bytes: &'a [u8],
-) -> Result<Vec<T>, ReadError>
-    ensures { Gives (λ x. map T.value x.items) result ((exactly (vec (T.format limit))).read bytes.now) }
-{
-    let (items, rest) = vec_of(alloc, limit, bytes)?;
-    if !rest.is_empty() {
-        return Err(fault(Rule::Trailing, rest));
-    }
-    Ok(items)
 }

@@ -1,8 +1,9 @@
 //! What is read where those before it are known, up to the end, or up to a sign.
 
-ghost use Rattle.std.specs.Prelude.{◌≡◌, ◌∷◌, ◌++◌, ℕ, map, IfOk, OnOk, Err};
+ghost use Rattle.std.specs.Prelude.{◌≡◌, ◌∷◌, ◌++◌, ℕ, List, map, IfOk, OnOk, Err};
 ghost use Rattle.std.specs.List.{flat_map, All};
 ghost use Rattle.binary_grammar.specs.Fault.{Gives};
+ghost use Rattle.binary_grammar.specs.Place.{Within};
 ghost use Rattle.binary_grammar.specs.Several.{grown};
 ghost use Rattle.binary_grammar.specs.Syntax.{Syntax, unbounded, times, growing, exactly, sized, up_to, steps, meaning, bytes, IsTyped};
 
@@ -30,6 +31,9 @@ pub trait Step<'a>: Sized + Drop {
 
     ghost value: { Self → Value };
 
+    /// What it says of where it stands within these bytes.
+    ghost stands: { List ℕ → Self → Type 0 };
+
     /// Reads what stands behind the byte that says which one it is, and adds it to what is known.
     fn read_behind(
         kind: u8,
@@ -38,6 +42,7 @@ pub trait Step<'a>: Sized + Drop {
     ) -> Result<Self, ReadError>
         ensures gives { Gives (λ x. (value x, from.new.left)) result ((meaning (next kind) (known state.old)).read from.old.left) }
         ensures grows { IfOk result (λ x. known state.new ≡ grow (known state.old) (value x)) }
+        ensures stands { (total : List ℕ) → Within total from.old → IfOk result (stands total) }
         ensures end { from.new.end ≡ from.old.end };
 }
 
@@ -50,6 +55,7 @@ fn several_of<'a, T: Step<'a>>(
 ) -> Result<Vec<T>, ReadError>
     ensures gives { Gives (λ x. (map T.value x.items, from.new.left)) result ((meaning (times T.grow (T.next kind) count) (T.known state.old)).read from.old.left) }
     ensures grows { IfOk result (λ x. T.known state.new ≡ grown T.grow (T.known state.old) (map T.value x.items)) }
+    ensures stands { (total : List ℕ) → Within total from.old → IfOk result (λ x. All (T.stands total) x.items) }
     ensures end { from.new.end ≡ from.old.end }
 {
     let mut items = Vec::new(from.allocator());
@@ -68,6 +74,7 @@ pub fn growing_of<'a, T: Step<'a>>(
 ) -> Result<Vec<T>, ReadError>
     ensures gives { Gives (λ x. (map T.value x.items, from.new.left)) result ((meaning (growing T.grow (T.next kind)) (T.known state.old)).read from.old.left) }
     ensures grows { IfOk result (λ x. T.known state.new ≡ grown T.grow (T.known state.old) (map T.value x.items)) }
+    ensures stands { (total : List ℕ) → Within total from.old → IfOk result (λ x. All (T.stands total) x.items) }
     ensures end { from.new.end ≡ from.old.end }
 {
     let count = from.number()?;
@@ -82,6 +89,7 @@ pub fn whole_growing_of<'a, T: Step<'a>>(
 ) -> Result<Vec<T>, ReadError>
     ensures gives { Gives (λ x. map T.value x.items) result ((meaning (exactly (growing T.grow (T.next kind))) (T.known state.old)).read from.entry.left) }
     ensures grows { IfOk result (λ x. T.known state.new ≡ grown T.grow (T.known state.old) (map T.value x.items)) }
+    ensures stands { (total : List ℕ) → Within total from.entry → IfOk result (λ x. All (T.stands total) x.items) }
 {
     let mut from = from;
     let items = growing_of(kind, state, &mut from)?;
@@ -97,6 +105,7 @@ pub fn bounded_growing_of<'a, T: Step<'a>>(
 ) -> Result<Vec<T>, ReadError>
     ensures gives { Gives (λ x. (map T.value x.items, from.new.left)) result ((meaning (sized (exactly (growing T.grow (T.next kind)))) (T.known state.old)).read from.old.left) }
     ensures grows { IfOk result (λ x. T.known state.new ≡ grown T.grow (T.known state.old) (map T.value x.items)) }
+    ensures stands { (total : List ℕ) → Within total from.old → IfOk result (λ x. All (T.stands total) x.items) }
     ensures end { from.new.end ≡ from.old.end }
 {
     let inside = from.inside()?;
@@ -111,7 +120,8 @@ pub fn steps_of<'a, T: Step<'a>>(
     state: &mut T::State,
     from: &mut Reader<'a>,
 ) -> Result<Vec<T>, ReadError>
-    ensures { Gives (λ x. map T.value x.items) result ((meaning (steps T.grow T.which T.next) (T.known state.old)).read from.old.left) }
+    ensures gives { Gives (λ x. map T.value x.items) result ((meaning (steps T.grow T.which T.next) (T.known state.old)).read from.old.left) }
+    ensures stands { (total : List ℕ) → Within total from.old → IfOk result (λ x. All (T.stands total) x.items) }
 {
     let mut items = Vec::new(from.allocator());
     while !from.is_done() {

@@ -5,8 +5,8 @@ use Rattle.std.specs.Bool.{Decides}
 use Rattle.std.specs.List.{AllByRecursion as Each, list_all}
 use Rattle.std.proofs.lemmas.Bool.{cases_Bool, and_parts, and_from}
 use Rattle.std.proofs.lemmas.Option.{same_Some}
-use Rattle.component_format.specs.Names.{is_new, all_new}
-use Rattle.component_format.specs.Definition.{FunctionTypeValue}
+use Rattle.distinct_names.specs.Names.{is_new, all_new}
+use Rattle.wit_resolve.specs.World.{FunctionTypeValue}
 use Rattle.wit_resolve.specs.declared.world.Function.{Function}
 use Rattle.component_audit.specs.declared.spaces.ImportEntry.{ImportEntry as Imported}
 use Rattle.component_audit.specs.SpacesView.{import_entry}

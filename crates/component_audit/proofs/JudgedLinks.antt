@@ -6,7 +6,7 @@ use Rattle.std.proofs.lemmas.Bool.{and_parts, and_from}
 use Rattle.std.proofs.lemmas.Bool.Decides.{not_from_Decides}
 use Rattle.std.proofs.lemmas.List.{drop_more, drop_all, length-map}
 use Rattle.std.proofs.lemmas.Option.{same_Some, slice_get_within, slice_get_read, slice_get-map, slice_get-get_or, get_or_from_slice_get}
-use Rattle.component_format.specs.Names.{all_new}
+use Rattle.distinct_names.specs.Names.{all_new}
 use Rattle.wasm_types.specs.declared.entries.Import.{Import}
 use Rattle.wasm_types.specs.Types.{FuncTypeValue}
 use Rattle.wasm_types.specs.Entries.{import_value}

@@ -10,9 +10,9 @@ use Rattle.wasm_types.specs.Types.{FuncTypeValue}
 use Rattle.wasm_types.specs.Entries.{import_value, export_value}
 use Rattle.wasm_format.specs.Module.{ModuleValue, exported_type}
 use Rattle.wit_component.specs.Linking.{core_import, core_export}
-use Rattle.component_format.specs.declared.definition.Argument.{Argument}
-use Rattle.component_format.specs.declared.definition.InlineExport.{InlineExport}
-use Rattle.component_format.specs.Definition.{argument_value, inline_export_value}
+use Rattle.known_definitions.specs.declared.definition.Argument.{Argument}
+use Rattle.known_definitions.specs.declared.definition.InlineExport.{InlineExport}
+use Rattle.known_definitions.specs.Definition.{argument_value, inline_export_value}
 use Rattle.wit_component.specs.Meaning.{CoreFunction, CoreEntry, Spaces, exported, item_at, entry_named, argument_named, exports_of, inline_entries, all_match}
 use Rattle.component_audit.specs.SpacesView.{core_entries, entry_item, argument_item}
 use Rattle.wit_component.proofs.Lists.{bytes_eq_is, bytes_eq_refl}

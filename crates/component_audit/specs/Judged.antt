@@ -1,11 +1,11 @@
 -- What the auditor's answers say of bytes.
-use Rattle.std.specs.Prelude.{◌≡◌, ◌≢◌, ℕ, ◌≤◌, ◌⊎◌, List, [], ◌∷◌, length, map, is_some, Option, Some, None, Bool, false, Any, bytes_eq, if◌then◌else◌}
+use Rattle.std.specs.Prelude.{◌≡◌, ◌≢◌, ℕ, ◌≤◌, ◌+◌, ◌⊎◌, List, [], ◌∷◌, length, map, is_some, Option, Some, None, Bool, false, Any, bytes_eq, if◌then◌else◌}
 use Rattle.std.specs.List.{AllByRecursion as Each}
 use Rattle.binary_grammar.specs.declared.fault.Rule.{Rule}
-use Rattle.component_format.specs.declared.fault.FormatFault.TheVariants as formats
-use Rattle.component_format.specs.Definition.{FunctionTypeValue, DefinitionValue}
-use Rattle.component_format.specs.Grammar.{IsComponent}
-use Rattle.component_format.specs.Fault.{IsFormatFault}
+use Rattle.wit_resolve.specs.World.{FunctionTypeValue}
+use Rattle.known_definitions.specs.Definition.{DefinitionValue}
+use Rattle.component_sections.specs.Component.{BreaksComponent}
+use Rattle.known_definitions.specs.Component.{IsComponent, HasUnknown}
 use Rattle.wit_component.specs.declared.fault.Fault.{Fault}
 use Rattle.wit_component.specs.declared.fault.Fault.TheVariants as faults
 use Rattle.component_audit.specs.declared.verdict.FindingKind.{FindingKind}
@@ -40,7 +40,7 @@ SaysOf l s n (Finding kind offset) = (offset ≤ n) × Denies l s kind
 
 -- F1 names the place where the bytes break a rule of the grammar; each other kind a condition that fails
 abbrev pub IsFinding : Linking → List ℕ → FindingKind → ℕ → Type 0
-IsFinding l bytes findings.Format offset = (rule : Rule) × IsFormatFault bytes (formats.Malformed rule offset)
+IsFinding l bytes findings.Format offset = (rule : Rule) × (left : ℕ) × BreaksComponent bytes (record { rule = rule; left = left }) × (offset + left ≡ length bytes)
 IsFinding l bytes kind offset = (ds : List DefinitionValue) × IsComponent bytes ds × Denies l (meaning l.main ds) kind
 
 -- what a verdict says of bytes
@@ -50,10 +50,10 @@ Says l bytes (Finding kind offset) = (offset ≤ length bytes) × IsFinding l by
 
 -- ---- refusals
 
--- the bytes have a section or form that is still to come, or a core module that wasn't handed in
+-- the bytes have a definition that index meaning doesn't know, or a core module that wasn't handed in
 abbrev pub IsBeyond : Linking → List ℕ → Type 0
 IsBeyond l bytes =
-    ((offset : ℕ) × IsFormatFault bytes (formats.NotYet offset))
+    HasUnknown bytes
     ⊎ ((ds : List DefinitionValue) × IsComponent bytes ds × Any (λ m. m ≢ l.main.bytes) (meaning l.main ds).modules)
 
 -- why bytes aren't judged: what links are refused for, or what they have beyond

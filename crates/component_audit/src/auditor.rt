@@ -6,9 +6,11 @@ ghost use Rattle.std.specs.Cmp.Lexicographic.{pointwise};
 ghost use Rattle.std.specs.List.{list_all, AllByRecursion as Each};
 ghost use Rattle.wasm_types.specs.Entries.{import_value, export_value};
 ghost use Rattle.wasm_format.specs.Module.{module_value};
-ghost use Rattle.component_format.specs.Definition.{function_type_value, parameter_value, definition_values};
-ghost use Rattle.component_format.specs.Found.{AreWithin as DefinitionsWithin};
-ghost use Rattle.component_format.specs.Names.{all_new};
+ghost use Rattle.known_definitions.specs.Definition.{function_type_value, parameter_value, definition_values};
+ghost use Rattle.known_definitions.specs.Definition.{AreWithin as DefinitionsWithin};
+ghost use Rattle.distinct_names.specs.Names.{all_new};
+ghost use Rattle.component_sections.specs.Component.{BreaksComponent};
+ghost use Rattle.wit_component.specs.Linking.{Linking as LinkingValue};
 ghost use Rattle.wit_component.specs.Cause.{IsLinkable};
 ghost use Rattle.component_audit.specs.Judged.{Finds, IsOnce, IsOutside, IsJudgeCause, Says, SaysOf, function_named, is_listed, is_there, is_lift_of, is_lowering_of, IsOwnExport};
 ghost use Rattle.wit_component.specs.Linking.{core_import, core_export};
@@ -27,7 +29,9 @@ use crate::spaces::{
 };
 use crate::verdict::{FindingKind, Verdict};
 use crate::walk::{Walk, is_of_type};
-use component_format::{Component, FormatFault, FunctionType, Parameter, read_component};
+use binary_grammar::ReadError;
+use component_sections::read_definitions;
+use known_definitions::{FunctionType, KnownDefinition, Parameter, known_definitions};
 use std::alloc::{AllocError, Global};
 use wasm_format::{Export, Import};
 use wit_component::{Fault, Linking, Table, needed_functions, references, table_of};
@@ -36,7 +40,7 @@ use wit_resolve::{Function, Param};
 /// Judges bytes against what is linked: yes where they meet each condition of being right, and else a finding, a condition
 /// that fails of them, and where.
 ///
-/// Refuses as `table_of` does, and with X1 where the bytes have a section or form that is still to come, or a core module
+/// Refuses as `table_of` does, and with X1 where the bytes have a definition that index meaning doesn't know, or a core module
 /// other than the main one.
 pub fn judge(alloc: Global, linking: &Linking, bytes: &[u8]) -> Result<Verdict, Fault>
     requires { world_fits (view.linking linking.now).world ≡ true }
@@ -45,15 +49,23 @@ pub fn judge(alloc: Global, linking: &Linking, bytes: &[u8]) -> Result<Verdict, 
     ensures cause { IfErr result (IsJudgeCause (view.linking linking.now) bytes.now) }
 {
     let table = table_of(alloc, linking)?;
-    let component = match read_component(alloc, bytes) {
-        Ok(component) => component,
-        Err(FormatFault::OutOfMemory) => return Err(Fault::OutOfMemory),
-        Err(FormatFault::NotYet { .. }) => return Err(Fault::NotYet),
-        Err(FormatFault::Malformed { offset, .. }) => {
-            return Ok(Verdict::Finding(FindingKind::Format, offset));
-        }
+    let definitions = match read_definitions(alloc, bytes) {
+        Ok(definitions) => definitions,
+        Err(ReadError::Memory) => return Err(Fault::OutOfMemory),
+        Err(ReadError::Malformed(fault)) => return Ok(format_finding(bytes, fault)),
     };
-    judge_component(alloc, linking, &table, &component, bytes.len())
+    let Some(known) = known_definitions(alloc, &definitions)? else {
+        return Err(Fault::NotYet);
+    };
+    judge_component(alloc, linking, &table, &known, bytes.len())
+}
+
+/// What is said of bytes that break a rule of the grammar of components: F1, and where.
+fn format_finding(bytes: &[u8], fault: binary_grammar::Fault) -> Verdict
+    requires { BreaksComponent bytes.now fault }
+    ensures { (l : LinkingValue) → Says l bytes.now result }
+{
+    Verdict::Finding(FindingKind::Format, bytes.len() - fault.left)
 }
 
 /// Judges a component of so many bytes.
@@ -61,16 +73,16 @@ fn judge_component<'c>(
     alloc: Global,
     linking: &'c Linking<'c, 'c>,
     table: &Table,
-    component: &'c Component<'c>,
+    definitions: &'c [KnownDefinition<'c>],
     length: usize,
 ) -> Result<Verdict, Fault>
     requires fits { world_fits (view.linking linking.now).world ≡ true }
     requires places { ArePlaces (view.linking linking.now) (view.places table.now) }
-    requires within { DefinitionsWithin length component.now.definitions.items }
-    ensures verdict { IfOk result (SaysOf (view.linking linking.entry.now) (meant.meaning (view.linking linking.entry.now).main (definition_values component.entry.now.definitions.items)) length) }
-    ensures cause { IfErr result (λ e. (e ≡ Fault.OutOfMemory) ⊎ ((e ≡ Fault.NotYet) × Any (λ m. m ≢ (view.linking linking.entry.now).main.bytes) (meant.meaning (view.linking linking.entry.now).main (definition_values component.entry.now.definitions.items)).modules)) }
+    requires within { DefinitionsWithin length definitions.now }
+    ensures verdict { IfOk result (SaysOf (view.linking linking.entry.now) (meant.meaning (view.linking linking.entry.now).main (definition_values definitions.entry.now)) length) }
+    ensures cause { IfErr result (λ e. (e ≡ Fault.OutOfMemory) ⊎ ((e ≡ Fault.NotYet) × Any (λ m. m ≢ (view.linking linking.entry.now).main.bytes) (meant.meaning (view.linking linking.entry.now).main (definition_values definitions.entry.now)).modules)) }
 {
-    let walk = walk_over(alloc, linking, component, length)?;
+    let walk = walk_over(alloc, linking, definitions, length)?;
     judge_spaces(alloc, linking, table, &walk.spaces, length)
 }
 
@@ -78,16 +90,16 @@ fn judge_component<'c>(
 fn walk_over<'c>(
     alloc: Global,
     linking: &'c Linking<'c, 'c>,
-    component: &'c Component<'c>,
+    definitions: &'c [KnownDefinition<'c>],
     length: usize,
 ) -> Result<Walk<'c>, Fault>
-    requires { DefinitionsWithin length component.now.definitions.items }
-    ensures spaces { IfOk result (λ w. seen.spaces (view.linking linking.entry.now).main w.spaces ≡ meant.meaning (view.linking linking.entry.now).main (definition_values component.entry.now.definitions.items)) }
+    requires { DefinitionsWithin length definitions.now }
+    ensures spaces { IfOk result (λ w. seen.spaces (view.linking linking.entry.now).main w.spaces ≡ meant.meaning (view.linking linking.entry.now).main (definition_values definitions.entry.now)) }
     ensures within { IfOk result (λ w. seen.AreWithin length w.spaces) }
     ensures memory { IfErr result (λ e. e ≡ Fault.OutOfMemory) }
 {
     let mut walk = Walk::new(alloc, linking, length)?;
-    for definition in &component.definitions {
+    for definition in definitions {
         walk.step(definition)?;
     }
     Ok(walk)

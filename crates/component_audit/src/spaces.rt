@@ -3,17 +3,18 @@
 ghost use Rattle.std.specs.Prelude.{◌≡◌, ℕ, [], map, option_map};
 ghost use Rattle.std.specs.Cmp.Lexicographic.{pointwise};
 ghost use Rattle.wasm_types.specs.Types.{func_type_value};
-ghost use Rattle.component_format.specs.Definition.{parameter_value, function_type_value};
+ghost use Rattle.known_definitions.specs.Definition.{parameter_value, function_type_value};
 ghost use Rattle.wit_component.specs.Flat.{flat, flat_value, flat_result};
 ghost use Rattle.wit_component.specs.Linking.{MainModule};
 ghost use Rattle.wit_component.specs.Meaning as meant;
 ghost use Rattle.component_audit.specs.SpacesView as view;
 
 use crate::first_places::FirstPlaces;
-use component_format::{FunctionType, Parameter, PrimitiveType};
+use known_definitions::{FunctionType, Parameter};
 use std::alloc::Global;
 use wasm_format::{FuncType, ValType};
 use wit_component::{flat_value, is_flat_result};
+use wit_resolve::PrimitiveType;
 
 /// Where a core function ends.
 #[derive(Clone, Copy)]

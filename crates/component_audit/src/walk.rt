@@ -3,7 +3,7 @@
 ghost use Rattle.std.specs.Prelude.{◌≡◌, ◌≤◌, [], ◌∷◌, ◌++◌, map, slice_get, option_map, option_and_then, IfOk, IfErr, OnOk};
 ghost use Rattle.wasm_types.specs.Entries.{import_value};
 ghost use Rattle.wasm_format.specs.Module.{module_value, imported_type};
-ghost use Rattle.component_format.specs.Definition.{function_type_value, argument_value, inline_export_value, definition_value, core_module_of, instantiation_of, inline_of, alias_of, type_of, lift_of, lower_of, import_of, export_of};
+ghost use Rattle.known_definitions.specs.Definition.{function_type_value, argument_value, inline_export_value, definition_value, core_module_of, instantiation_of, inline_of, alias_of, type_of, lift_of, lower_of, import_of, export_of};
 ghost use Rattle.wit_component.specs.Linking.{core_import};
 ghost use Rattle.wit_component.specs.Meaning as meant;
 ghost use Rattle.component_audit.specs.SpacesView as view;
@@ -15,7 +15,7 @@ use crate::spaces::{
     FunctionEnd, Given, ImportEntry, ModuleEntry, Spaces, TypeEntry, core_at, function_at, lifting,
     lowering, same_type,
 };
-use component_format::{Argument, Definition, DefinitionKind, FunctionType, InlineExport};
+use known_definitions::{Argument, FunctionType, InlineExport, KnownDefinition, KnownKind};
 use std::alloc::{AllocError, Global};
 use wasm_format::Import;
 use wit_component::{Fault, Linking};
@@ -384,7 +384,7 @@ impl<'c> Walk<'c> {
     }
 
     /// Goes over one definition.
-    pub fn step(&mut self, definition: &'c Definition<'c>) -> Result<(), Fault>
+    pub fn step(&mut self, definition: &'c KnownDefinition<'c>) -> Result<(), Fault>
         requires { definition.now.offset ≤ self.old.length }
         ensures ok { OnOk result (spaces_of self.new ≡ meant.after (main_of_walk self.old) (spaces_of self.old) (definition_value definition.entry.now)) }
         ensures linking { self.new.linking ≡ self.old.linking }
@@ -393,17 +393,17 @@ impl<'c> Walk<'c> {
     {
         let offset = definition.offset;
         match &definition.kind {
-            DefinitionKind::CoreModule(bytes) => self.push_module(offset, bytes),
-            DefinitionKind::CoreInstance { module: core, args } => {
+            KnownKind::CoreModule(bytes) => self.push_module(offset, bytes),
+            KnownKind::CoreInstance { module: core, args } => {
                 self.instantiate(offset, *core, args)
             }
-            DefinitionKind::InlineInstance(exports) => self.inline(exports),
-            DefinitionKind::CoreAlias { instance, name } => self.alias(*instance, name),
-            DefinitionKind::FunctionType(ty) => self.push_type(ty),
-            DefinitionKind::Lift { core_func, ty } => self.push_lift(*core_func, *ty),
-            DefinitionKind::Lower { func } => self.push_lower(*func),
-            DefinitionKind::Import { name, ty } => self.import(offset, name, *ty),
-            DefinitionKind::Export { name, func, ty } => self.export(offset, name, *func, *ty),
+            KnownKind::InlineInstance(exports) => self.inline(exports),
+            KnownKind::CoreAlias { instance, name } => self.alias(*instance, name),
+            KnownKind::FunctionType(ty) => self.push_type(ty),
+            KnownKind::Lift { core_func, ty } => self.push_lift(*core_func, *ty),
+            KnownKind::Lower { func } => self.push_lower(*func),
+            KnownKind::Import { name, ty } => self.import(offset, name, *ty),
+            KnownKind::Export { name, func, ty } => self.export(offset, name, *func, *ty),
         }
     }
 }

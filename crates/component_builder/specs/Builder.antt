@@ -3,7 +3,8 @@ use Rattle.std.specs.Prelude.{ℕ, List, map}
 use Rattle.binary_grammar.specs.Several.{grown}
 use Rattle.component_value_types.specs.declared.scope.Scope.{Scope}
 use Rattle.component_definitions.specs.Counting.{with_one, count_in}
-use Rattle.component_sections.specs.Component.{DefinitionValue, space_of, no_scope}
+use Rattle.component_sections.specs.Component.{DefinitionValue, space_of}
+use Rattle.component_value_types.specs.Scope.{no_scope}
 
 abbrev pub with_space : Scope → DefinitionValue → Scope
 with_space there d = with_one there (space_of d)

@@ -1,20 +1,21 @@
 //! Making a component, one definition after the other.
 
-ghost use Rattle.std.specs.Prelude.{◌≡◌, ◌<◌, ◌≤◌, ◌^◌, ◌++◌, ◌∷◌, [], length, take, IfOk, OnOk, OnErr, Err};
+ghost use Rattle.std.specs.Prelude.{◌≡◌, ◌<◌, ◌≤◌, ◌^◌, ◌++◌, ◌∷◌, [], length, map, take, IfOk, OnOk, OnErr, Err};
 ghost use Rattle.std.specs.Io.KnownBytes.{Appends};
 ghost use Rattle.binary_grammar.specs.declared.writing.WriteFault.TheVariants as writes;
 ghost use Rattle.binary_grammar.specs.Syntax.{bytes, IsTyped};
 ghost use Rattle.component_definitions.specs.Counting.{count_in};
-ghost use Rattle.component_sections.specs.Component.{definition_value, component, nothing, Follow, IsComponent};
+ghost use Rattle.component_sections.specs.Component.{definition_value, component, Follow, IsComponent};
+ghost use Rattle.component_entries.specs.Entries.{nothing};
 ghost use Rattle.component_builder.specs.declared.builder.WriteToFault.TheVariants as faults;
 ghost use Rattle.component_builder.specs.Builder as spec;
 
 use crate::output::EmitFault;
 use crate::pieces::pieces_of;
 use binary_grammar::WriteFault;
-use component_definitions::{IndexSpace, count, with_one};
+use component_definitions::{count_in, with_one};
 use component_sections::Definition;
-use component_value_types::Scope;
+use component_value_types::{NO_SCOPE, Scope};
 use std::alloc::Global;
 use std::io::Write;
 use std::marker::Model;
@@ -50,31 +51,19 @@ impl<'a> Model for ComponentBuilder<'a> {
     ghost invariant = { λ b. b.scope ≡ spec.scope_of (map definition_value b.definitions.items) };
 }
 
-const NO_SCOPE: Scope = Scope {
-    core_functions: 0,
-    core_tables: 0,
-    core_memories: 0,
-    core_globals: 0,
-    core_modules: 0,
-    core_instances: 0,
-    components: 0,
-    instances: 0,
-    functions: 0,
-    types: 0,
-    outer: None,
-    outermost: None,
-};
-
-/// How many there are in an index space.
-fn count_in(there: Scope, space: IndexSpace) -> usize
-    ensures { result ≡ count_in there space }
+/// The bytes of the component with these definitions, as `ComponentBuilder::finish` answers them.
+#[tactic(auto, using(component_sections::proofs::Following::written_is_read))]
+pub fn write_definitions(
+    alloc: Global,
+    definitions: &[Definition<'_>],
+) -> Result<Vec<u8>, WriteFault>
+    ensures bytes { IfOk result (λ v. v.items ≡ bytes component (map definition_value definitions.now)) }
+    ensures found { IfOk result (λ v. Follow nothing (map definition_value definitions.now) → IsComponent v.items (map definition_value definitions.now)) }
+    ensures typed { OnOk result (IsTyped component (map definition_value definitions.now)) }
+    ensures large { result ≡ Err WriteFault.TooLarge → IsTyped component (map definition_value definitions.now) → ⊥ }
 {
-    match space {
-        IndexSpace::Of(sort) => count(there, sort),
-        IndexSpace::CoreModules => there.core_modules,
-        IndexSpace::CoreInstances => there.core_instances,
-        IndexSpace::Components => there.components,
-    }
+    let pieces = pieces_of(alloc, definitions)?;
+    Ok(pieces.joined(alloc)?)
 }
 
 impl<'a> ComponentBuilder<'a> {
@@ -112,7 +101,6 @@ impl<'a> ComponentBuilder<'a> {
     /// The bytes of the component: a header, then sections, neighbours of one section in one, and each core module and
     /// component in its own (Component Model Binary, Component Definitions). They stand in a vector that is made for them once.
     /// Answers `TooLarge` only where a definition doesn't fit, or 32 bits can't say a count or a size.
-    #[tactic(auto, using(component_sections::proofs::Following::written_is_read))]
     pub fn finish(&self, alloc: Global) -> Result<Vec<u8>, WriteFault>
         ensures bytes { IfOk result (λ v. v.items ≡ bytes component self.now) }
         // Where each definition may stand behind those before it, the bytes are a component of them, and are read as these.
@@ -120,8 +108,7 @@ impl<'a> ComponentBuilder<'a> {
         ensures typed { OnOk result (IsTyped component self.now) }
         ensures large { result ≡ Err WriteFault.TooLarge → IsTyped component self.now → ⊥ }
     {
-        let pieces = pieces_of(alloc, &self.definitions)?;
-        Ok(pieces.joined(alloc)?)
+        write_definitions(alloc, &self.definitions)
     }
 
     /// Writes the same bytes to a writer, without a copy of what is lent, and answers how many they are. Where it answers

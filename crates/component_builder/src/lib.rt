@@ -5,5 +5,5 @@ mod builder;
 mod output;
 mod pieces;
 
-pub use builder::{ComponentBuilder, WriteToFault};
+pub use builder::{ComponentBuilder, WriteToFault, write_definitions};
 pub use output::EmitFault;

@@ -5,7 +5,7 @@ ghost use Rattle.component_definitions.specs.Counting as spec;
 ghost use Rattle.component_definitions.specs.Sorts.{core_count, component_count};
 
 use crate::externs::Description;
-use crate::sorts::{ComponentSort, Sort};
+use crate::sorts::{ComponentSort, Sort, count};
 use component_value_types::Scope;
 use wasm_types::ExportKind;
 
@@ -65,6 +65,18 @@ pub fn with_one(there: Scope, space: IndexSpace) -> Option<Scope>
         IndexSpace::Components => scope.components = there.components.checked_add(1)?,
     }
     Some(scope)
+}
+
+/// How many there are in an index space.
+pub fn count_in(there: Scope, space: IndexSpace) -> usize
+    ensures { result ≡ spec.count_in there space }
+{
+    match space {
+        IndexSpace::Of(sort) => count(there, sort),
+        IndexSpace::CoreModules => there.core_modules,
+        IndexSpace::CoreInstances => there.core_instances,
+        IndexSpace::Components => there.components,
+    }
 }
 
 /// The sort of what is described so.

@@ -9,6 +9,6 @@ mod sorts;
 
 pub use aliases::Alias;
 pub use canonical::{CanonicalDefinition, CanonicalOption};
-pub use counting::{IndexSpace, described_sort, inside, with_one};
+pub use counting::{IndexSpace, count_in, described_sort, inside, with_one};
 pub use externs::{Description, Export, Import, extern_name, put_extern_name};
 pub use sorts::{ComponentSort, Sort, component_count, core_count, count};

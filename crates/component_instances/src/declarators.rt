@@ -122,6 +122,8 @@ impl<'a> Step<'a> for Declarator<'a> {
 
     ghost value = { spec.declarator_value };
 
+    ghost stands = { λ _ _. Unit {0} };
+
     fn read_behind(
         _kind: u8,
         state: &mut Declared<'a>,

@@ -1,9 +1,9 @@
 -- From the causes of a linking to those of its input.
-use Rattle.std.proofs.Common.{◌≡◌, true, List, ℕ, sym, subst, inl, inr, ap, ◌∙◌}
+use Rattle.std.proofs.Common.{List, ℕ, sym, subst, inl, inr, ap, ◌∙◌}
 use Rattle.wit_component.specs.declared.fault.Fault.{Fault}
 use Rattle.wit_component.specs.declared.fault.Fault.TheVariants as faults
-use Rattle.component_format.specs.Grammar.{IsComponent}
-use Rattle.component_format.specs.Spelling.{component_fits}
+use Rattle.known_definitions.specs.Component.{IsComponent}
+use Rattle.known_definitions.specs.Component.{Fits}
 use Rattle.component_linker.specs.Input.{Input}
 use Rattle.wit_component.specs.Linking.{Linking}
 use Rattle.component_linker.specs.Linking.{Links}
@@ -13,7 +13,7 @@ use Rattle.wit_component.specs.Component.{component_of}
 use Rattle.component_linker.specs.Answered.{IsBuilt}
 use Rattle.component_audit.specs.Judged.{IsJudgeCause}
 use Rattle.component_linker.specs.Judged.{IsAuditCause}
-use Rattle.component_format.proofs.OneList.{one_list}
+use Rattle.known_definitions.proofs.Laws.{one_list}
 use Rattle.wit_component.specs.Meaning.{Spaces, meaning}
 use Rattle.wit_component.proofs.Right.{written}
 use Rattle.component_linker.proofs.Right.{written_right}
@@ -36,7 +36,7 @@ pub encode_cause_is : (input : Input) (l : Linking) (fault : Fault) → Links in
 encode_cause_is input l fault links plain (inl cause) = build_cause_is input fault (link_cause_is input l fault links cause)
 encode_cause_is input l fault links plain (inr (is, linkable, large)) = subst (IsBuildCause input) (sym is) (l, links, plain, linkable, large)
 
-pub built : (input : Input) (l : Linking) (bytes : List ℕ) → Links input l → (AsksBeyond input → ⊥) → IsLinkable l → component_fits (component_of l) ≡ true → IsComponent bytes (component_of l) → IsBuilt input bytes
+pub built : (input : Input) (l : Linking) (bytes : List ℕ) → Links input l → (AsksBeyond input → ⊥) → IsLinkable l → Fits (component_of l) → IsComponent bytes (component_of l) → IsBuilt input bytes
 built input l bytes links plain linkable fits is = record {
   linking = l;
   ready = record { links_input = links; plain = plain; linkable = linkable };

@@ -1,9 +1,8 @@
 -- Of bytes that are right for an input in whose way nothing stands, the auditor says yes.
 use Rattle.std.proofs.Common.{◌≡◌, ◌≢◌, List, ℕ, refl, subst, inl, inr}
-use Rattle.binary_grammar.specs.declared.fault.Rule.TheVariants as rules
-use Rattle.component_format.specs.Definition.{DefinitionValue}
-use Rattle.component_format.specs.Grammar.{IsComponent}
-use Rattle.component_format.proofs.OneList.{one_list, one_break}
+use Rattle.known_definitions.specs.Definition.{DefinitionValue}
+use Rattle.known_definitions.specs.Component.{IsComponent}
+use Rattle.known_definitions.proofs.Laws.{one_list, no_break, not_known}
 use Rattle.wit_component.specs.declared.fault.Fault.{Fault}
 use Rattle.wit_component.specs.declared.fault.Fault.TheVariants as faults
 use Rattle.component_audit.specs.declared.verdict.FindingKind.{FindingKind}
@@ -40,7 +39,7 @@ not_denied l s h findings.SlotReach d = d
 not_denied l s h findings.Name d = d
 
 none_found : (input : Input) (bytes : List ℕ) → IsRight input bytes → (l : Linking) → IsReady input l → (kind : FindingKind) (offset : ℕ) → IsFinding l bytes kind offset → ⊥
-none_found input bytes h l ready findings.Format offset d = (one_break bytes (record { rule = d.0; left = d.1.0 }) d.1.1).0 h.definitions h.format
+none_found input bytes h l ready findings.Format offset d = no_break bytes h.definitions (record { rule = d.0; left = d.1 }) d.2 h.format
 none_found input bytes h l ready kind offset (ds, is, denies) = not_denied l (meaning l.main ds) (meets input bytes h l ready ds is) kind denies
 
 pub right_is_yes : (input : Input) (bytes : List ℕ) → IsRight input bytes → (verdict : Verdict) → IsJudged input bytes verdict → verdict ≡ Yes
@@ -50,7 +49,7 @@ right_is_yes input bytes h (Finding kind offset) judged = absurd (none_found inp
 -- ---- refusals
 
 none_beyond : (input : Input) (bytes : List ℕ) → IsRight input bytes → (l : Linking) → IsReady input l → IsBeyond l bytes → ⊥
-none_beyond input bytes h l ready (inl d) = (one_break bytes (record { rule = rules.NotYet; left = d.1.0 }) d.1.1).0 h.definitions h.format
+none_beyond input bytes h l ready (inl unknown) = not_known bytes h.definitions unknown h.format
 none_beyond input bytes h l ready (inr (ds, is, other)) =
     let at = any_each (λ m. m ≡ l.main.bytes) (λ m. m ≢ l.main.bytes) (meaning l.main ds).modules (meets input bytes h l ready ds is).modules.modules other in
     at.2 at.1

@@ -1,12 +1,12 @@
 -- Where nothing stands in the way of an input, no cause of a refusal holds.
-use Rattle.std.proofs.Common.{◌≡◌, true, false, List, ℕ, refl, sym, ap, subst, ◌∙◌, arith, inl, inr}
+use Rattle.std.proofs.Common.{◌≡◌, List, ℕ, refl, sym, ap, subst, ◌∙◌, arith, inl, inr}
 use Rattle.std.proofs.lemmas.Option.{same_Some}
 use Rattle.wasm_format.specs.declared.fault.ModuleFault.{ModuleFault}
 use Rattle.wasm_format.specs.declared.fault.ModuleFault.TheVariants as modules
 use Rattle.wasm_format.specs.Module.{ModuleValue}
 use Rattle.wasm_format.specs.Grammar.{IsModule, IsModuleFault}
 use Rattle.wasm_format.proofs.Modules.{one_break, one_module}
-use Rattle.component_format.specs.Spelling.{component_fits}
+use Rattle.known_definitions.specs.Component.{Fits}
 use Rattle.wit_component.specs.declared.fault.Fault.{Fault}
 use Rattle.wit_component.specs.declared.fault.Fault.TheVariants as faults
 use Rattle.wit_component.specs.Linking.{Linking, main_of}
@@ -64,7 +64,5 @@ no_cause input l h fault cause = linked_cause input l h fault cause
 
 pub no_build_cause : (input : Input) (bytes : List ℕ) → IsBuilt input bytes → (fault : Fault) → IsBuildCause input fault → fault ≡ faults.OutOfMemory
 no_build_cause input bytes h faults.TooLarge (m, links, plain, linkable, large) =
-    let is : component_fits (component_of h.linking) ≡ false = ap (λ (l : Linking). component_fits (component_of l)) (one_linking input h.linking m h.ready.links_input links) ∙ large in
-    let bad : true ≡ false = sym h.fits ∙ is in
-    absurd cc
+    absurd (large (subst (λ (l : Linking). Fits (component_of l)) (one_linking input h.linking m h.ready.links_input links) h.fits))
 no_build_cause input bytes h fault cause = no_cause input h.linking h.ready fault cause

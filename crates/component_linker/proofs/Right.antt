@@ -1,6 +1,6 @@
 -- What is written for a linking is right for its input.
 use Rattle.std.specs.Prelude.{ℕ, List}
-use Rattle.component_format.specs.Grammar.{IsComponent}
+use Rattle.known_definitions.specs.Component.{IsComponent}
 use Rattle.wit_component.specs.Component.{component_of}
 use Rattle.wit_component.specs.Linking.{Linking}
 use Rattle.wit_component.specs.Table.{IsLinked}

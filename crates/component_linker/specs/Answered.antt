@@ -1,8 +1,8 @@
 -- What links, and a component, are answered for.
-use Rattle.std.specs.Prelude.{◌≡◌, ℕ, List, map, true}
-use Rattle.component_format.specs.Definition.{DefinitionValue}
-use Rattle.component_format.specs.Grammar.{IsComponent}
-use Rattle.component_format.specs.Spelling.{component_fits}
+use Rattle.std.specs.Prelude.{◌≡◌, ℕ, List, map}
+use Rattle.known_definitions.specs.Definition.{DefinitionValue}
+use Rattle.known_definitions.specs.Component.{IsComponent}
+use Rattle.known_definitions.specs.Component.{Fits}
 use Rattle.component_linker.specs.Input.{Input}
 use Rattle.wit_component.specs.Linking.{Linking}
 use Rattle.component_linker.specs.Linking.{Links}
@@ -32,6 +32,6 @@ pub record IsLinkTable (input : Input) (found : List LinkValue) : Type 0 where
 pub record IsBuilt (input : Input) (bytes : List ℕ) : Type 0 where
   pub linking : Linking
   pub ready : IsReady input linking
-  pub fits : component_fits (component_of linking) ≡ true
+  pub fits : Fits (component_of linking)
   pub right : IsRight input bytes
   pub imports : (ds : List DefinitionValue) → IsComponent bytes ds → (meaning linking.main ds).imports ≡ map listed (needed linking)

@@ -1,7 +1,7 @@
 -- Right for the input: what has to hold of a component's bytes (Component Model Binary), one field a kind of finding.
 use Rattle.std.specs.Prelude.{ℕ, List}
-use Rattle.component_format.specs.Definition.{DefinitionValue}
-use Rattle.component_format.specs.Grammar.{IsComponent}
+use Rattle.known_definitions.specs.Definition.{DefinitionValue}
+use Rattle.known_definitions.specs.Component.{IsComponent}
 use Rattle.wit_component.specs.Linking.{Linking}
 use Rattle.wit_component.specs.Meaning.{meaning}
 use Rattle.wit_component.specs.Right.{ModulesRight, ImportsRight, ExportsRight, LinksRight}

@@ -1,7 +1,7 @@
 //! Laws of the public calls.
 
 ghost use Rattle.std.specs.Prelude.{◌≡◌, ℕ, List, MatchResult};
-ghost use Rattle.component_format.specs.Grammar.{IsComponent};
+ghost use Rattle.known_definitions.specs.Component.{IsComponent};
 ghost use Rattle.component_linker.specs.Input.{Input};
 ghost use Rattle.wit_component.specs.Linking.{Linking};
 ghost use Rattle.component_linker.specs.Linking.{Links};

@@ -19,8 +19,9 @@ ghost use Rattle.wasm_format.specs.Module.{ModuleValue};
 ghost use Rattle.wasm_format.specs.Grammar.{IsModule};
 
 use crate::options::Options;
+use binary_grammar::ReadError;
 use component_audit::{Verdict, judge};
-use component_format::{FormatFault, read_component};
+use component_sections::read_definitions;
 use std::alloc::Global;
 use std::collections::HashMap;
 use std::marker::Model;
@@ -412,8 +413,8 @@ impl<'a> Session<'a> {
     fn validated(&self, bytes: &[u8]) -> Result<(), Fault>
         ensures { IfErr result (λ e. e ≡ Fault.OutOfMemory) }
     {
-        match read_component(self.alloc, bytes) {
-            Err(FormatFault::OutOfMemory) => Err(Fault::OutOfMemory),
+        match read_definitions(self.alloc, bytes) {
+            Err(ReadError::Memory) => Err(Fault::OutOfMemory),
             Ok(_) | Err(_) => Ok(()),
         }
     }
@@ -517,8 +518,8 @@ fn module_refusal(fault: ModuleFault) -> Fault
 /// Answers yes exactly where they are right for the input, and else a finding: a condition that fails of them, and
 /// where, counted in bytes from the start, or their length where something is absent.
 ///
-/// Answers X1 where the bytes have a section or form that is still to come, or a core module that wasn't handed
-/// in, and refuses as `Session::links` does.
+/// Answers X1 where the bytes have a definition that isn't judged yet, or a core module that wasn't handed in, and refuses as
+/// `Session::links` does.
 pub fn audit(session: &Session, bytes: &[u8]) -> Result<Verdict, Fault>
     ensures verdict { IfOk result (IsJudged session.now bytes.now) }
     ensures cause { IfErr result (IsAuditCause session.now bytes.now) }

@@ -2,16 +2,21 @@
 
 use binary_grammar::{Fault, ReadError, WriteFault};
 use component_builder::ComponentBuilder;
-use component_sections::{Definition, read_definitions};
+use component_sections::{PlacedDefinition, read_definitions};
 use std::alloc::{AllocError, Global};
 
-/// Adds definitions, a line each.
-fn push_definitions(out: &mut String, definitions: &[Definition<'_>]) -> Result<(), AllocError> {
+/// Adds definitions, a line each: where it begins, and what it is.
+fn push_definitions(
+    out: &mut String,
+    definitions: &[PlacedDefinition<'_>],
+) -> Result<(), AllocError> {
     if definitions.is_empty() {
         return out.push_str("  nothing\n");
     }
-    for definition in definitions {
-        write!(out, "  {definition:?}\n")?;
+    for placed in definitions {
+        let offset = placed.offset;
+        let definition = &placed.definition;
+        write!(out, "  {offset} {definition:?}\n")?;
     }
     Ok(())
 }
@@ -36,11 +41,11 @@ pub fn push(alloc: Global, out: &mut String, bytes: &[u8]) -> Result<(), AllocEr
 fn push_bytes(
     alloc: Global,
     out: &mut String,
-    definitions: Vec<Definition<'_>>,
+    definitions: Vec<PlacedDefinition<'_>>,
 ) -> Result<(), WriteFault> {
     let mut builder = ComponentBuilder::new(alloc);
-    for definition in definitions {
-        builder.add(definition)?;
+    for placed in definitions {
+        builder.add(placed.definition)?;
     }
     let bytes = builder.finish(alloc)?;
     write!(out, "  {}\n", hex::encode(alloc, &bytes)?)?;

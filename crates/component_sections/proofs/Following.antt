@@ -1,16 +1,16 @@
 -- Definitions that each may stand where they do are those of a component.
-use Rattle.std.proofs.Common.{◌≡◌, ℕ, Bool, true, false, ◌&&◌, not, eqb, List, [], ◌∷◌, map, Result, Ok, ap, refl, sym, subst, ◌∙◌}
-use Rattle.std.proofs.lemmas.Bool.{eqb-true}
-use Rattle.binary_grammar.specs.Syntax.{meaning, bytes, IsTyped, Meets, EachWhere}
+use Rattle.std.proofs.Common.{◌≡◌, Bool, true, false, ◌&&◌, not, eqb, List, [], ◌∷◌, map, Result, Ok, ap, refl, sym, subst, ◌∙◌}
+use Rattle.binary_grammar.specs.Syntax.{bytes, IsTyped, Meets, EachWhere}
 use Rattle.binary_grammar.specs.declared.fault.Rule.{Rule}
 use Rattle.binary_grammar.proofs.Spelled.{spelled}
-use Rattle.component_sections.specs.declared.entry.EntryKind.TheVariants as kinds
+use Rattle.component_entries.specs.declared.entry.EntryKind.TheVariants as kinds
 use Rattle.component_sections.specs.declared.section.SectionId.{SectionId}
 use Rattle.component_sections.specs.declared.section.SectionId.TheVariants as ids
-use Rattle.component_sections.specs.Runs.{joins, with_first, runs}
-use Rattle.component_sections.specs.Entries.{DefinedValue, an_alias, a_type, an_import, an_export, kind_of}
-use Rattle.component_sections.specs.Component.{DefinitionValue, a_core_module, a_core_instance, a_component, an_instance, a_canonical, an_entry, SectionValue, section_byte, section_id, section_id_of, definition_in, definition_byte, alone, with_definition, section_with, section_next, byte_of, section_of, sections_of, definitions_in, whole_sections, component, nothing, Follows, Follow, IsComponent}
-use Rattle.component_sections.proofs.Neighbours.{joins_same}
+use Rattle.component_entries.specs.Runs.{joins, with_first, runs}
+use Rattle.component_entries.specs.Entries.{DefinedValue, an_alias, a_type, an_import, an_export, kind_of}
+use Rattle.component_sections.specs.Component.{DefinitionValue, a_core_module, a_core_instance, a_component, an_instance, a_canonical, an_entry, SectionValue, section_byte, section_id, section_id_of, definition_in, definition_byte, alone, with_definition, section_with, section_next, byte_of, section_of, sections_of, definitions_in, whole_sections, component, Follows, Follow, IsComponent}
+use Rattle.component_entries.specs.Entries.{nothing}
+use Rattle.component_entries.proofs.Neighbours.{joins_same}
 
 -- a section that may stand there
 abbrev MayStand : DefinedValue → SectionValue → Type 0
@@ -82,14 +82,14 @@ stands_vector k (an_entry (a_type t)) ds other h = h.0.1.0
 stands_vector k (an_entry (an_import i)) ds other h = h.0.1.0
 stands_vector k (an_entry (an_export e)) ds other h = h.0.1.0
 
-tested : (b : Bool) (P : Type 0) → (b ≡ true → P) → (b ≡ false → P) → P
+pub tested : (b : Bool) (P : Type 0) → (b ≡ true → P) → (b ≡ false → P) → P
 tested true P passes fails = passes refl
 tested false P passes fails = fails refl
 
 one_stands : (k : DefinedValue) (d : DefinitionValue) → Follows k d → MayStand k (section_of (d ∷ []))
 one_stands k d h = tested (alone (definition_byte d)) (MayStand k (section_of (d ∷ []))) (λ own. own_stands k d own h) (λ other. vector_stands k d [] other (h, tt))
 
-not_alone : (a b : Bool) → (a && not b) ≡ true → b ≡ false
+pub not_alone : (a b : Bool) → (a && not b) ≡ true → b ≡ false
 not_alone true true e = absurd cc
 not_alone true false e = refl
 not_alone false b e = absurd cc
@@ -126,7 +126,7 @@ first_flat d ((e ∷ es) ∷ rs) =
     tested (joins definition_byte alone (definition_byte d) e) (definitions_in (map section_of (with_first definition_byte alone d ((e ∷ es) ∷ rs))) ≡ d ∷ definitions_in (map section_of ((e ∷ es) ∷ rs)))
     (λ j. rw j refl) (λ j. rw j refl)
 
-all_flat : (ds : List DefinitionValue) → definitions_in (sections_of ds) ≡ ds
+pub all_flat : (ds : List DefinitionValue) → definitions_in (sections_of ds) ≡ ds
 all_flat [] = refl
 all_flat (d ∷ ds) = first_flat d (runs definition_byte alone ds) ∙ ap (λ es. d ∷ es) (all_flat ds)
 

@@ -1,6 +1,6 @@
 pub mod SectionBytes
 pub mod Reading
-pub mod Neighbours
-pub mod NestedSections
 pub mod WholeSections
 pub mod Following
+pub mod Places
+pub mod Typed

@@ -9,7 +9,8 @@ use Rattle.binary_grammar.specs.Syntax.{meaning}
 use Rattle.binary_grammar.specs.declared.fault.Rule.TheVariants as rules
 use Rattle.binary_grammar.proofs.Laws.{moved}
 use Rattle.binary_grammar.proofs.Lawful.{lawful}
-use Rattle.component_sections.specs.Component.{DefinitionValue, component, nothing, IsComponent, BreaksComponent, IsComponentFault}
+use Rattle.component_sections.specs.Component.{DefinitionValue, component, IsComponent, BreaksComponent, IsComponentFault}
+use Rattle.component_entries.specs.Entries.{nothing}
 
 abbrev given : List DefinitionValue → Result (List DefinitionValue) Fault
 given ss = Ok ss

@@ -1,18 +1,10 @@
 -- The byte of a section stands for it.
-use Rattle.std.proofs.Common.{◌≡◌, Ok, refl}
-use Rattle.component_sections.specs.declared.entry.EntryKind.{EntryKind}
-use Rattle.component_sections.specs.declared.entry.EntryKind.TheVariants as kinds
+use Rattle.std.proofs.Common.{◌≡◌, refl}
+use Rattle.component_entries.specs.declared.entry.EntryKind.TheVariants as kinds
 use Rattle.component_sections.specs.declared.section.SectionId.{SectionId}
 use Rattle.component_sections.specs.declared.section.SectionId.TheVariants as ids
-use Rattle.component_sections.specs.Entries.{kind_byte, kind_of, entry_behind, entry_by}
+use Rattle.component_entries.specs.Entries.{kind_of}
 use Rattle.component_sections.specs.Component.{section_byte, section_id_of, definition_behind, definition_in}
-
-pub kind_again : (k : EntryKind) → entry_behind (kind_of (kind_byte k)) ≡ entry_by k
-unfolding kind_of
-kind_again kinds.Alias = refl
-kind_again kinds.Type_ = refl
-kind_again kinds.Import = refl
-kind_again kinds.Export = refl
 
 pub id_again : (i : SectionId) → definition_behind (section_id_of (section_byte i)) ≡ definition_in i
 unfolding section_id_of kind_of

@@ -1,13 +1,13 @@
 -- The sections of a component, as they are written.
-use Rattle.std.proofs.Common.{◌≡◌, ℕ, ◌+◌, ◌<◌, Bool, true, false, ◌&&◌, not, List, [], ◌∷◌, ◌++◌, map, drop, length, ap, refl, sym, subst, ◌∙◌, arith}
+use Rattle.std.proofs.Common.{◌≡◌, ℕ, ◌+◌, ◌<◌, Bool, true, false, ◌&&◌, List, [], ◌∷◌, ◌++◌, map, drop, length, ap, refl, sym, subst, ◌∙◌, arith}
 use Rattle.std.specs.Prelude.{◌==◌}
 use Rattle.std.specs.List.{All}
 use Rattle.std.proofs.lemmas.List.{append-nil, length-drop}
 use Rattle.binary_grammar.specs.Syntax.{bytes, IsTyped}
-use Rattle.component_sections.specs.Runs.{joins, run_of, front, vector_bytes, IsVector}
-use Rattle.component_sections.specs.Entries.{an_alias, a_type, an_import, an_export, kind_of}
-use Rattle.component_sections.specs.Component.{DefinitionValue, a_core_module, a_core_instance, a_component, an_instance, a_canonical, an_entry, SectionValue, definition_byte, alone, definition_behind, section_id_of, section_next, section_of, sections_of, first_section, section_bytes, IsSection}
-use Rattle.component_sections.proofs.Neighbours.{front_begins, drop_further, Left, one_written, one_fails}
+use Rattle.component_entries.specs.Runs.{run_of, vector_bytes, IsVector}
+use Rattle.component_entries.specs.Entries.{an_alias, a_type, an_import, an_export, kind_of}
+use Rattle.component_sections.specs.Component.{DefinitionValue, a_core_module, a_core_instance, a_component, an_instance, a_canonical, an_entry, definition_byte, alone, definition_behind, section_id_of, section_next, section_of, sections_of, first_section, section_bytes, IsSection}
+use Rattle.component_entries.proofs.Neighbours.{front_begins, drop_further, Left, one_written, one_fails}
 
 never : (a : Bool) → (a && false) ≡ false
 never true = refl

@@ -1,14 +1,14 @@
 -- Components as bytes (Component Model Binary, Component Definitions).
-use Rattle.std.specs.Prelude.{ℕ, List, [], ◌∷◌, map, Result, Ok, Err, Bool, true, false, ◌==◌, ◌||◌, if◌then◌else◌, bytes_eq, None}
+use Rattle.std.specs.Prelude.{ℕ, List, [], ◌∷◌, map, Result, Ok, Err, Bool, ◌==◌, ◌||◌, if◌then◌else◌, bytes_eq}
 use Rattle.std.specs.List.{flat_map}
 use Rattle.binary_grammar.specs.declared.fault.Fault.{Fault}
 use Rattle.binary_grammar.specs.declared.fault.ReadError.{ReadError}
 use Rattle.binary_grammar.specs.declared.fault.ReadError.TheVariants as errors
 use Rattle.binary_grammar.specs.declared.fault.Rule.{Rule}
 use Rattle.binary_grammar.specs.declared.fault.Rule.TheVariants as rules
+use Rattle.binary_grammar.specs.Place.{StandsAt}
 use Rattle.binary_grammar.specs.Several.{grown}
 use Rattle.binary_grammar.specs.Syntax.{Syntax, unbounded, bounded, ◌◂◌, ◌>>=◌, some_name, some_bytes, gives, refuses, tested, growing, sized, where_known, exactly, begins, everything, seen, steps, meaning, bytes, IsTyped, Meets, EachWhere, number}
-use Rattle.component_value_types.specs.declared.scope.Scope.{Scope}
 use Rattle.component_definitions.specs.declared.sorts.ComponentSort.TheVariants as components
 use Rattle.component_definitions.specs.declared.sorts.Sort.TheVariants as sorts
 use Rattle.component_definitions.specs.declared.counting.IndexSpace.{IndexSpace}
@@ -17,15 +17,16 @@ use Rattle.component_definitions.specs.Canonical.{CanonicalValue, canonical_valu
 use Rattle.component_definitions.specs.Counting.{with_one}
 use Rattle.component_definitions.specs.Aliases.{outer}
 use Rattle.component_instances.specs.Instances.{CoreInstanceValue, InstanceValue, core_instance_value, instance_value, core_instance, instance, core_inline, inline}
-use Rattle.component_sections.specs.declared.entry.EntryKind.{EntryKind}
+use Rattle.component_entries.specs.declared.entry.EntryKind.{EntryKind}
 use Rattle.component_sections.specs.declared.section.SectionId.{SectionId}
 use Rattle.component_sections.specs.declared.section.SectionId.TheVariants as ids
 use Rattle.component_sections.specs.declared.section.Definition.{Definition}
 use Rattle.component_sections.specs.declared.section.Definition.TheVariants as code
+use Rattle.component_sections.specs.declared.section.PlacedDefinition.{PlacedDefinition}
 use Rattle.component_sections.specs.declared.section.Section.{Section}
-use Rattle.component_sections.specs.Runs.{runs, front}
-use Rattle.component_sections.specs.Entries.{EntryValue, entry_value, entry_sort, entry_kind, an_alias, DefinedValue, imports_with, exports_with, entry_by, kind_byte, kind_of}
-use Rattle.component_sections.specs.Nested.{header, nested_component, nested_component_value}
+use Rattle.component_entries.specs.Runs.{runs, front}
+use Rattle.component_entries.specs.Entries.{EntryValue, entry_value, entry_sort, entry_kind, an_alias, DefinedValue, nothing, imports_with, exports_with, entry_by, kind_byte, kind_of}
+use Rattle.component_entries.specs.Nested.{header, nested_component, nested_component_value}
 
 -- ---- definitions
 
@@ -44,6 +45,9 @@ definition_value (code.Component c) = a_component (nested_component_value c)
 definition_value (code.Instance i) = an_instance (instance_value i)
 definition_value (code.Canonical c) = a_canonical (canonical_value c)
 definition_value (code.Entry e) = an_entry (entry_value e)
+
+abbrev pub placed_value : PlacedDefinition → DefinitionValue
+placed_value p = definition_value p.definition
 
 -- each takes the next index of one index space (Explainer, Index Spaces)
 abbrev pub space_of : DefinitionValue → IndexSpace
@@ -155,13 +159,17 @@ abbrev pub definition_behind : Result SectionId Rule → Syntax unbounded Define
 definition_behind (Ok i) = definition_in i
 definition_behind (Err rule) = refuses rule
 
+-- bytes of the definition, as it stands in some section, begin at its offset
+abbrev pub StandsIn : List ℕ → PlacedDefinition → Type 0
+StandsIn total p = (i : SectionId) × (there : DefinedValue) × StandsAt (meaning (definition_in i) there).form total p.offset (placed_value p)
+
 -- the definitions of a section; of a custom one nothing is kept
 pub record SectionValue : Type 0 where
   pub id : SectionId
   pub definitions : List DefinitionValue
 
 abbrev pub section_value : Section → SectionValue
-section_value s = record { id = s.id; definitions = map definition_value s.definitions.items }
+section_value s = record { id = s.id; definitions = map placed_value s.definitions.items }
 
 abbrev pub byte_of : SectionValue → ℕ
 byte_of s = section_byte s.id
@@ -250,26 +258,6 @@ IsSection s = IsTyped (section_next (byte_of s)) s
 
 unfoldable pub component : Syntax bounded DefinedValue (List DefinitionValue)
 component = seen definitions_in sections_of whole_sections
-
--- where no section stands yet
-abbrev pub no_scope : Scope
-no_scope = record {
-  core_functions = 0;
-  core_tables = 0;
-  core_memories = 0;
-  core_globals = 0;
-  core_modules = 0;
-  core_instances = 0;
-  components = 0;
-  instances = 0;
-  functions = 0;
-  types = 0;
-  outer = None;
-  outermost = None;
-}
-
-abbrev pub nothing : DefinedValue
-nothing = record { nested = false; scope = no_scope; imports = []; exports = [] }
 
 -- the bytes are a component of these definitions
 abbrev pub IsComponent : List ℕ → List DefinitionValue → Type 0

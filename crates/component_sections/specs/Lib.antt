@@ -1,5 +1,1 @@
-pub mod Entries
-pub mod Views
-pub mod Runs
-pub mod Nested
 pub mod Component

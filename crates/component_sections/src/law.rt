@@ -4,7 +4,8 @@ ghost use Rattle.std.specs.Prelude.{◌≡◌, ◌+◌, ◌++◌, ℕ, List, len
 ghost use Rattle.binary_grammar.specs.declared.fault.Fault.{Fault};
 ghost use Rattle.binary_grammar.specs.declared.fault.Rule.TheVariants as rules;
 ghost use Rattle.binary_grammar.specs.Syntax.{bytes, IsTyped};
-ghost use Rattle.component_sections.specs.Component.{DefinitionValue, component, nothing, IsComponent, BreaksComponent, Follow};
+ghost use Rattle.component_sections.specs.Component.{DefinitionValue, component, IsComponent, BreaksComponent, Follow};
+ghost use Rattle.component_entries.specs.Entries.{nothing};
 
 /// Bytes are a component of at most one list of definitions.
 pub fn law_one_list()

@@ -1,26 +1,26 @@
 //! Definitions, and the sections that they stand in.
 
-ghost use Rattle.std.specs.Prelude.{◌≡◌, ◌+◌, ◌≤◌, ◌==◌, ◌++◌, ◌∷◌, [], true, map, length, IfOk, OnOk, Err};
+ghost use Rattle.std.specs.Prelude.{◌≡◌, ◌+◌, ◌≤◌, ◌==◌, ◌++◌, ◌∷◌, ℕ, List, [], true, map, length, IfOk, OnOk, IfErr, Err};
+ghost use Rattle.std.specs.List.{All};
 ghost use Rattle.binary_grammar.specs.declared.fault.Rule.TheVariants as rules;
 ghost use Rattle.binary_grammar.specs.Fault.{Gives};
+ghost use Rattle.binary_grammar.specs.Place.{Within};
 ghost use Rattle.binary_grammar.specs.Several.{grown};
 ghost use Rattle.binary_grammar.specs.Syntax.{meaning, bytes, IsTyped, exactly, sized, tested, number};
 ghost use Rattle.component_sections.specs.declared.section.SectionId.TheVariants as ids;
-ghost use Rattle.component_sections.specs.Entries.{DefinedValue};
-ghost use Rattle.component_sections.specs.Nested.{nested_component, nested_component_value};
+ghost use Rattle.component_entries.specs.Entries.{DefinedValue, nothing};
+ghost use Rattle.component_entries.specs.Nested.{nested_component, nested_component_value};
 ghost use Rattle.component_sections.specs.Component as spec;
-ghost use Rattle.component_sections.specs.Views as view;
+ghost use Rattle.component_entries.specs.Views as view;
 
-use crate::defined::Defined;
-use crate::entry::{Entry, EntryKind, kind_of};
-use crate::nested::{NestedComponent, custom_name};
-use crate::runs::{Grouped, put_first};
-use binary_grammar::reading::moved;
 use binary_grammar::{
     Content, Part, ReadError, Reader, Rule, Step, WriteFault, bounded_growing_of, bounded_of,
-    broken_at, put_with_length,
+    broken_at, moved, put_with_length,
 };
-use component_definitions::{CanonicalDefinition, ComponentSort, IndexSpace, Sort};
+use component_definitions::{CanonicalDefinition, ComponentSort, IndexSpace, Sort, with_one};
+use component_entries::{
+    Defined, Entry, EntryKind, Grouped, NestedComponent, custom_name, kind_of, put_first,
+};
 use component_instances::{CoreInstance, Instance};
 
 /// What a section holds (Component Model Binary, Component Definitions).
@@ -61,11 +61,19 @@ pub enum Definition<'a> {
     Entry(Entry<'a>),
 }
 
+/// A definition, and where it begins, counted in bytes from the start of the component: a core module or component at its
+/// size, another one at its first byte.
+#[derive(Debug, Drop)]
+pub struct PlacedDefinition<'a> {
+    pub offset: usize,
+    pub definition: Definition<'a>,
+}
+
 /// A section: its definitions.
 #[derive(Drop)]
 pub struct Section<'a> {
     pub id: SectionId,
-    pub definitions: Vec<Definition<'a>>,
+    pub definitions: Vec<PlacedDefinition<'a>>,
 }
 
 impl SectionId {
@@ -155,7 +163,7 @@ fn put_component(component: &NestedComponent<'_>, out: &mut Vec<u8>) -> Result<(
 }
 
 impl<'a> Grouped for Definition<'a> {
-    ghost use Rattle.component_sections.specs.Entries.{DefinedValue};
+    ghost use Rattle.component_entries.specs.Entries.{DefinedValue};
     ghost use Rattle.component_sections.specs.Component as spec;
 
     ghost Value = { spec.DefinitionValue };
@@ -180,7 +188,7 @@ impl<'a> Grouped for Definition<'a> {
         byte == 1 || byte == 4
     }
 
-    #[tactic(auto, unfolding(crate::specs::Component::section_id_of, crate::specs::Entries::kind_of))]
+    #[tactic(auto, unfolding(crate::specs::Component::section_id_of, component_entries::specs::Entries::kind_of))]
     fn put(&self, out: &mut Vec<u8>) -> Result<(), WriteFault> {
         match self {
             Definition::CoreModule(bytes) => put_with_length(out, bytes),
@@ -258,12 +266,24 @@ fn definition_in<'a>(
     }
 }
 
-impl<'a> Step<'a> for Definition<'a> {
+/// Adds a definition to what is there.
+fn define<'a>(state: &mut Defined<'a>, definition: &Definition<'a>) -> Result<(), ReadError>
+    ensures ok { OnOk result (view.defined_value state.new ≡ spec.with_definition (view.defined_value state.old) (spec.definition_value definition.now)) }
+    ensures memory { IfErr result (λ e. e ≡ ReadError.Memory) }
+{
+    if let Definition::Entry(entry) = definition {
+        return state.add(entry);
+    }
+    state.scope = with_one(state.scope, definition.space()).ok_or(ReadError::Memory)?;
+    Ok(())
+}
+
+impl<'a> Step<'a> for PlacedDefinition<'a> {
     type State = Defined<'a>;
 
-    ghost use Rattle.component_sections.specs.Entries.{DefinedValue};
+    ghost use Rattle.component_entries.specs.Entries.{DefinedValue};
     ghost use Rattle.component_sections.specs.Component as spec;
-    ghost use Rattle.component_sections.specs.Views as view;
+    ghost use Rattle.component_entries.specs.Views as view;
 
     ghost Value = { spec.DefinitionValue };
 
@@ -277,18 +297,22 @@ impl<'a> Step<'a> for Definition<'a> {
 
     ghost known = { view.defined_value };
 
-    ghost value = { spec.definition_value };
+    ghost value = { spec.placed_value };
 
+    ghost stands = { spec.StandsIn };
+
+    #[tactic(auto, using(crate::proofs::Places::definition_stands))]
     fn read_behind(
         kind: u8,
         state: &mut Defined<'a>,
         from: &mut Reader<'a>,
-    ) -> Result<Definition<'a>, ReadError> {
+    ) -> Result<PlacedDefinition<'a>, ReadError> {
         match section_id_of(kind) {
             Ok(id) => {
+                let offset = from.offset();
                 let definition = definition_in(id, state, from)?;
-                state.define(&definition)?;
-                Ok(definition)
+                define(state, &definition)?;
+                Ok(PlacedDefinition { offset, definition })
             }
             Err(rule) => Err(from.broken(rule)),
         }
@@ -297,7 +321,7 @@ impl<'a> Step<'a> for Definition<'a> {
 
 /// The count of no core types, which is all that is left.
 fn no_types(from: Reader<'_>) -> Result<u32, ReadError>
-    ensures { Gives (λ n. n) result ((meaning (exactly (tested rules.Unsupported (λ _ n. n == 0) (number {C = DefinedValue}))) spec.nothing).read from.entry.left) }
+    ensures { Gives (λ n. n) result ((meaning (exactly (tested rules.Unsupported (λ _ n. n == 0) (number {C = DefinedValue}))) nothing).read from.entry.left) }
 {
     let mut from = from;
     let at = from.left();
@@ -311,7 +335,7 @@ fn no_types(from: Reader<'_>) -> Result<u32, ReadError>
 
 /// A section of core types, which has none.
 fn core_types(from: &mut Reader<'_>) -> Result<u32, ReadError>
-    ensures gives { Gives (λ n. (n, from.new.left)) result ((meaning (sized (exactly (tested rules.Unsupported (λ _ n. n == 0) (number {C = DefinedValue})))) spec.nothing).read from.old.left) }
+    ensures gives { Gives (λ n. (n, from.new.left)) result ((meaning (sized (exactly (tested rules.Unsupported (λ _ n. n == 0) (number {C = DefinedValue})))) nothing).read from.old.left) }
     ensures end { from.new.end ≡ from.old.end }
 {
     let inside = from.inside()?;
@@ -327,12 +351,13 @@ fn one<'a>(
     id: SectionId,
     state: &mut Defined<'a>,
     from: &mut Reader<'a>,
-) -> Result<Vec<Definition<'a>>, ReadError>
-    ensures gives { Gives (λ x. (record { id = id; definitions = map spec.definition_value x.items }, from.new.left)) result ((meaning (spec.section_by spec.one id) (view.defined_value state.old)).read from.old.left) }
-    ensures grows { IfOk result (λ x. view.defined_value state.new ≡ grown spec.with_definition (view.defined_value state.old) (map spec.definition_value x.items)) }
+) -> Result<Vec<PlacedDefinition<'a>>, ReadError>
+    ensures gives { Gives (λ x. (record { id = id; definitions = map spec.placed_value x.items }, from.new.left)) result ((meaning (spec.section_by spec.one id) (view.defined_value state.old)).read from.old.left) }
+    ensures grows { IfOk result (λ x. view.defined_value state.new ≡ grown spec.with_definition (view.defined_value state.old) (map spec.placed_value x.items)) }
+    ensures stands { (total : List ℕ) → Within total from.old → IfOk result (λ x. All (spec.StandsIn total) x.items) }
     ensures end { from.new.end ≡ from.old.end }
 {
-    let definition = Definition::read_behind(id.byte(), state, from)?;
+    let definition = PlacedDefinition::read_behind(id.byte(), state, from)?;
     let mut definitions = Vec::new(from.allocator());
     definitions.push(definition)?;
     Ok(definitions)
@@ -344,9 +369,10 @@ fn definitions_of<'a>(
     id: SectionId,
     state: &mut Defined<'a>,
     from: &mut Reader<'a>,
-) -> Result<Vec<Definition<'a>>, ReadError>
-    ensures gives { Gives (λ x. (record { id = id; definitions = map spec.definition_value x.items }, from.new.left)) result ((meaning (spec.section_by (spec.form_of id) id) (view.defined_value state.old)).read from.old.left) }
-    ensures grows { IfOk result (λ x. view.defined_value state.new ≡ grown spec.with_definition (view.defined_value state.old) (map spec.definition_value x.items)) }
+) -> Result<Vec<PlacedDefinition<'a>>, ReadError>
+    ensures gives { Gives (λ x. (record { id = id; definitions = map spec.placed_value x.items }, from.new.left)) result ((meaning (spec.section_by (spec.form_of id) id) (view.defined_value state.old)).read from.old.left) }
+    ensures grows { IfOk result (λ x. view.defined_value state.new ≡ grown spec.with_definition (view.defined_value state.old) (map spec.placed_value x.items)) }
+    ensures stands { (total : List ℕ) → Within total from.old → IfOk result (λ x. All (spec.StandsIn total) x.items) }
     ensures end { from.new.end ≡ from.old.end }
 {
     match id {
@@ -366,9 +392,9 @@ fn definitions_of<'a>(
 impl<'a> Step<'a> for Section<'a> {
     type State = Defined<'a>;
 
-    ghost use Rattle.component_sections.specs.Entries.{DefinedValue};
+    ghost use Rattle.component_entries.specs.Entries.{DefinedValue};
     ghost use Rattle.component_sections.specs.Component as spec;
-    ghost use Rattle.component_sections.specs.Views as view;
+    ghost use Rattle.component_entries.specs.Views as view;
 
     ghost Value = { spec.SectionValue };
 
@@ -383,6 +409,8 @@ impl<'a> Step<'a> for Section<'a> {
     ghost known = { view.defined_value };
 
     ghost value = { spec.section_value };
+
+    ghost stands = { λ total s. All (spec.StandsIn total) s.definitions.items };
 
     #[tactic(auto, unfolding(crate::specs::Component::section_next))]
     fn read_behind(

@@ -11,6 +11,6 @@ mod values;
 pub use distinct::{HasName, distinct_vec_of};
 pub use named::{Label, Named, labels_of};
 pub use optional::{optional_of, put_optional};
-pub use scope::Scope;
+pub use scope::{NO_SCOPE, Scope};
 pub use types::{CaseType, DefinedType, FunctionType};
 pub use values::{PrimitiveValueType, ValueType};

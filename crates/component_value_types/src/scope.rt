@@ -33,6 +33,22 @@ pub struct Scope {
     pub outermost: Option<usize>,
 }
 
+/// What is there where no definition stands yet, and nothing stands around.
+pub const NO_SCOPE: Scope = Scope {
+    core_functions: 0,
+    core_tables: 0,
+    core_memories: 0,
+    core_globals: 0,
+    core_modules: 0,
+    core_instances: 0,
+    components: 0,
+    instances: 0,
+    functions: 0,
+    types: 0,
+    outer: None,
+    outermost: None,
+};
+
 impl Scope {
     /// How many types there are so many components or instance types outwards, if there is one: 0 is the own.
     #[tactic(auto, unfolding(crate::specs::Scope::types_outwards))]

@@ -130,6 +130,8 @@ impl<'a> Step<'a> for Section<'a> {
 
     ghost value = { spec.section_value };
 
+    ghost stands = { λ _ _. Unit {0} };
+
     fn read_behind(
         kind: u8,
         state: &mut Progress,

@@ -196,6 +196,8 @@ impl<'a> Step<'a> for Global<'a> {
 
     ghost value = { spec.global_value };
 
+    ghost stands = { λ _ _. Unit {0} };
+
     fn read_behind(
         _kind: u8,
         state: &mut Spaces,

@@ -15,4 +15,6 @@ pub mod WrittenLinks
 pub mod Written
 pub mod WrittenGiven
 pub mod WrittenComponent
+pub mod Follows
+pub mod Numbering
 pub mod NoCause

@@ -24,6 +24,11 @@ same_values_refl (v ∷ vs) = rw (eq-eqb (value_code v) (value_code v) refl) (sa
 pub same_core_type_refl : (t : FuncTypeValue) → same_core_type t t ≡ true
 same_core_type_refl t = rw (same_values_refl t.params) (same_values_refl t.results)
 
+-- a test of the views is a test of what they are views of
+pub list_any_map : {X Y : Type 0} (test : Y → Bool) (f : X → Y) (xs : List X) → list_any test (map f xs) ≡ list_any (λ x. test (f x)) xs
+list_any_map test f [] = refl
+list_any_map test f (x ∷ xs) = rw (list_any_map test f xs) refl
+
 -- ---- places in a list
 
 pub slice_get_at : {X : Type 0} (front : List X) (x : X) (back : List X) (k : ℕ) → length front ≡ k → slice_get (front ++ x ∷ back) k ≡ Some x

@@ -1,6 +1,6 @@
 -- Distinct names, one more at a time.
 use Rattle.std.proofs.Common.{◌≡◌, ℕ, Bool, true, false, ◌&&◌, List, [], ◌∷◌, ◌++◌, map, refl, sym, ap, ◌∙◌, append-nil, append_assoc}
-use Rattle.component_format.specs.Names.{is_new, all_new}
+use Rattle.distinct_names.specs.Names.{is_new, all_new}
 
 and_kept : (a b c : Bool) → (a && b) ≡ true → (b ≡ true → c ≡ true) → (a && c) ≡ true
 and_kept true b c e f = f e

@@ -5,7 +5,7 @@ use Rattle.std.specs.List.{AllByRecursion as Each}
 use Rattle.std.proofs.lemmas.Bool.{cases_Bool, and_parts}
 use Rattle.std.proofs.lemmas.Slice.Eq.{bytes_eq-Decides}
 use Rattle.wit_resolve.specs.World.{FunctionItem}
-use Rattle.component_format.specs.Spelling.{component_fits}
+use Rattle.known_definitions.specs.Component.{Fits}
 use Rattle.wit_component.specs.declared.fault.Fault.{Fault}
 use Rattle.wit_component.specs.declared.fault.Fault.TheVariants as faults
 use Rattle.wit_component.specs.Flat.{flat}
@@ -80,6 +80,6 @@ no_link_cause l h faults.NotYet cause = absurd (h.plain cause)
 no_link_cause l h faults.DuplicateImport cause = absurd (h.distinct cause)
 no_link_cause l h fault cause = absurd (some_link l h.linked fault cause)
 
-pub no_encode_cause : (l : Linking) → IsLinkable l → component_fits (component_of l) ≡ true → (fault : Fault) → IsEncodeCause l fault → fault ≡ faults.OutOfMemory
+pub no_encode_cause : (l : Linking) → IsLinkable l → Fits (component_of l) → (fault : Fault) → IsEncodeCause l fault → fault ≡ faults.OutOfMemory
 no_encode_cause l h fits fault (inl cause) = no_link_cause l h fault cause
-no_encode_cause l h fits fault (inr (is, linkable, large)) = let bad : true ≡ false = sym fits ∙ large in absurd cc
+no_encode_cause l h fits fault (inr (is, linkable, large)) = absurd (large fits)

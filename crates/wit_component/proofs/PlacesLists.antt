@@ -6,7 +6,7 @@ use Rattle.std.proofs.lemmas.Bool.{cases_Bool}
 use Rattle.std.proofs.lemmas.List.{length-map, length-take-le, map_more, take_all, take-append-drop, map-append}
 use Rattle.std.proofs.lemmas.Option.{slice_get-map, slice_get_read, slice_get-get_or, slice_get_within, get_or_from_slice_get}
 use Rattle.std.proofs.lemmas.Slice.Eq.{bytes_eq-Decides}
-use Rattle.component_format.proofs.Lists.{map_push}
+use Rattle.std.proofs.lemmas.List.{map_push}
 use Rattle.wit_component.specs.declared.table.Candidates.{Candidates}
 use Rattle.wit_component.specs.declared.table.Candidates.TheVariants.{One, Several}
 use Rattle.wit_component.specs.Candidates.{with_one, joined, Stands, Notes}

@@ -4,7 +4,7 @@ use Rattle.std.specs.Prelude.{not, ◌||◌, bytes_eq}
 use Rattle.std.specs.List.{list_any}
 use Rattle.std.proofs.lemmas.Bool.{cases_Bool}
 use Rattle.std.proofs.lemmas.List.Folds.{list_any-append}
-use Rattle.component_format.specs.Names.{is_new}
+use Rattle.distinct_names.specs.Names.{is_new}
 use Rattle.wit_component.specs.declared.table.Table.{Table}
 use Rattle.wit_component.specs.Candidates.{names_in, NameAdded}
 use Rattle.wit_component.specs.Cause.{same_pair, RepeatsPair}

@@ -1,18 +1,16 @@
--- The parts that were added are the component's, and where one doesn't fit the component is too large.
-use Rattle.std.proofs.Common.{◌≡◌, ℕ, true, false, List, [], ◌∷◌, ◌++◌, length, map, refl, sym, ap, ◌∙◌, append_assoc, Bor, None}
+-- The parts that were added are the component's.
+use Rattle.std.proofs.Common.{◌≡◌, ℕ, List, [], ◌∷◌, ◌++◌, length, map, refl, sym, ap, ◌∙◌, Bor, None}
 use Rattle.std.specs.List.{flat_map}
-use Rattle.std.proofs.lemmas.Bool.{and_parts, and_left, and_right}
 use Rattle.std.proofs.lemmas.List.{map-append}
 use Rattle.std.proofs.lemmas.List.Concat.{flat_map-cons}
-use Rattle.component_format.specs.Definition.{DefinitionValue, core_module_of, alias_of, lift_of, lower_of, import_of, export_of}
-use Rattle.component_format.specs.Spelling.{all_fit, sections_fit, component_fits}
-use Rattle.wit_resolve.specs.World.{FunctionItem, functions_fit, world_fits}
+use Rattle.component_sections.specs.Component as whole
+use Rattle.known_definitions.specs.Definition.{DefinitionValue, core_module_of, alias_of, lift_of, lower_of, import_of, export_of}
+use Rattle.wit_resolve.specs.World.{FunctionItem}
 use Rattle.wit_component.specs.Linking.{Linking, CoreExport}
-use Rattle.wit_component.specs.Table.{exported_by, is_needed, needed}
+use Rattle.wit_component.specs.Table.{exported_by, needed}
 use Rattle.wit_component.specs.Component.{numbered, types_of, import_side, instances_for, instance_side, aliases_of, export_side, component_of}
-use Rattle.wit_component.specs.Cause.{IsTooLarge}
-use Rattle.wit_component.proofs.Written.{front_unfit, back_unfit}
-use Rattle.wit_component.proofs.WrittenNames.{some_fit}
+use Rattle.wit_component.specs.Written.{among}
+use Rattle.wit_component.proofs.Written.{both_written}
 use Rattle.wit_component.proofs.WrittenLinks.{names_for}
 
 -- ---- aliases
@@ -22,7 +20,7 @@ map_twice f g [] = refl
 map_twice f g (x ∷ xs) = ap (λ l. f (g x) ∷ l) (map_twice f g xs)
 
 module _ (l : Linking) where
-  aliases_agree : (fs : List FunctionItem) → map (alias_of (length (instances_for l))) (flat_map (names_for l) fs) ≡ flat_map (aliases_of l) fs
+  pub aliases_agree : (fs : List FunctionItem) → map (alias_of (length (instances_for l))) (flat_map (names_for l) fs) ≡ flat_map (aliases_of l) fs
   aliases_agree [] = refl
   aliases_agree (f ∷ fs) =
       let make = alias_of (length (instances_for l)) in
@@ -44,40 +42,14 @@ module _ (l : Linking) where
 
   -- ---- the three parts
 
-  module _ (imports instances all : List DefinitionValue) where
-    pub component_is : imports ≡ import_side l → instances ≡ imports ++ instance_side l → all ≡ instances ++ export_side l → all ≡ component_of l
-    unfolding component_of
-    component_is first second third =
-        third ∙ ap (λ ds. ds ++ export_side l) (second ∙ ap (λ ds. ds ++ instance_side l) first) ∙ append_assoc (import_side l) (instance_side l) (export_side l)
-
-    pub instances_unfit : imports ≡ import_side l → all_fit imports (instance_side l) ≡ false → all_fit [] (component_of l) ≡ false
-    unfolding component_of
-    instances_unfit first e = back_unfit [] (import_side l) (instance_side l ++ export_side l) imports first (front_unfit imports (instance_side l) (export_side l) e)
-
-    pub exports_unfit : imports ≡ import_side l → instances ≡ imports ++ instance_side l → all_fit instances (export_side l) ≡ false → all_fit [] (component_of l) ≡ false
-    unfolding component_of
-    exports_unfit first second e = back_unfit [] (import_side l) (instance_side l ++ export_side l) imports first (back_unfit imports (instance_side l) (export_side l) instances second e)
-
-  pub imports_unfit : all_fit [] (import_side l) ≡ false → all_fit [] (component_of l) ≡ false
+  pub component_is : (imports instances all : List whole.DefinitionValue) → imports ≡ among (import_side l) → instances ≡ imports ++ among (instance_side l) → all ≡ instances ++ among (export_side l) → all ≡ among (component_of l)
   unfolding component_of
-  imports_unfit e = front_unfit [] (import_side l) (instance_side l ++ export_side l) e
-
-  -- ---- the whole
-
-  pub definitions_unfit : all_fit [] (component_of l) ≡ false → IsTooLarge l
-  unfolding component_fits
-  definitions_unfit e = and_left (all_fit [] (component_of l)) (sections_fit (component_of l)) e
-
-  pub sections_unfit : (all : List DefinitionValue) → all ≡ component_of l → sections_fit all ≡ false → IsTooLarge l
-  unfolding component_fits
-  sections_unfit all is e = and_right (all_fit [] (component_of l)) (sections_fit (component_of l)) (ap (λ ds. sections_fit ds) (sym is) ∙ e)
+  component_is imports instances all first second third =
+      both_written [] imports all (import_side l) (instance_side l ++ export_side l) first (both_written imports instances all (instance_side l) (export_side l) second third)
 
 -- the import side by what was found
 abbrev pub imported_as : List FunctionItem → List ℕ → List DefinitionValue
 imported_as fs bytes = types_of fs ++ (numbered (λ n f. import_of f.name n) 0 fs ++ (core_module_of bytes ∷ numbered (λ n f. lower_of n) 0 fs))
 
-pub imports_are : (l : Linking) (before : List DefinitionValue) (fs : List FunctionItem) (now : List DefinitionValue) → before ≡ [] → fs ≡ needed l → now ≡ before ++ imported_as fs l.main.bytes → now ≡ import_side l
-imports_are l before fs now empty all is = is ∙ ap (λ ds. ds ++ imported_as fs l.main.bytes) empty ∙ ap (λ gs. imported_as gs l.main.bytes) all
-
-pub needed_fit : (l : Linking) → world_fits l.world ≡ true → functions_fit (needed l) ≡ true
-needed_fit l fit = some_fit (is_needed l) l.world.imports (and_parts (functions_fit l.world.imports) (functions_fit l.world.exports) fit).0
+pub imports_are : (l : Linking) (before : List whole.DefinitionValue) (fs : List FunctionItem) (now : List whole.DefinitionValue) → before ≡ [] → fs ≡ needed l → now ≡ before ++ among (imported_as fs l.main.bytes) → now ≡ among (import_side l)
+imports_are l before fs now empty all is = is ∙ ap (λ ds. ds ++ among (imported_as fs l.main.bytes)) empty ∙ ap (λ gs. among (imported_as gs l.main.bytes)) all

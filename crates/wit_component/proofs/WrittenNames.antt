@@ -6,8 +6,7 @@ use Rattle.std.proofs.lemmas.Bool.{and_parts, and_from}
 use Rattle.std.proofs.lemmas.List.{map-append}
 use Rattle.std.proofs.lemmas.List.Folds.{list_any-append}
 use Rattle.std.proofs.lemmas.Slice.Eq.{bytes_eq-Decides}
-use Rattle.component_format.specs.Names.{is_new, all_new}
-use Rattle.component_format.specs.Grammar.{parameter_names}
+use Rattle.distinct_names.specs.Names.{is_new, all_new}
 use Rattle.wit_resolve.specs.World.{FunctionItem, name_key, function_keys, function_fits, functions_fit}
 
 pub not_or : (a b : Bool) → not (a || b) ≡ (not a && not b)
@@ -84,7 +83,7 @@ module _ {X : Type 0} (name : X → List ℕ) (test : X → Bool) where
 
 -- ---- functions
 
-pub parameters_differ : (f : FunctionItem) → function_fits f ≡ true → all_new [] (parameter_names f.ty.params) ≡ true
+pub parameters_differ : (f : FunctionItem) → function_fits f ≡ true → all_new [] (map (λ p. p.name) f.ty.params) ≡ true
 parameters_differ f e = all_new_of_keys name_key (λ p. p.name) [] f.ty.params (and_parts _ _ e).1
 
 abbrev pub names_of : List FunctionItem → List (List ℕ)

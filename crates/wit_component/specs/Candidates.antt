@@ -1,7 +1,7 @@
 -- What the link table's maps answer of a text: which items of a list have it.
 use Rattle.std.specs.Prelude.{◌≡◌, ℕ, ◌<◌, List, [], ◌∷◌, ◌++◌, length, map, filter, slice_get, Option, Some, None, is_some, Bool, true, false, not, ◌&&◌, ◌||◌, bytes_eq, codes, if◌then◌else◌}
 use denote.Ref.{Bor}
-use Rattle.component_format.specs.Names.{is_new}
+use Rattle.distinct_names.specs.Names.{is_new}
 use Rattle.wit_component.specs.declared.fault.Fault.{Fault}
 use Rattle.wit_component.specs.declared.fault.Fault.TheVariants as faults
 use Rattle.wit_component.specs.declared.table.Table.{Table}

@@ -1,5 +1,5 @@
 -- Why there is no link table, and no component is encoded: each a fact of what is linked.
-use Rattle.std.specs.Prelude.{◌≡◌, ◌<◌, ◌⊎◌, List, [], ◌∷◌, length, Some, Bool, true, false, ◌&&◌, ◌||◌, Any, bytes_eq}
+use Rattle.std.specs.Prelude.{◌≡◌, ◌<◌, ◌⊎◌, List, [], ◌∷◌, length, Some, Bool, true, ◌&&◌, ◌||◌, Any, bytes_eq}
 use Rattle.std.specs.List.{list_any}
 use Rattle.wit_component.specs.declared.fault.Fault.{Fault}
 use Rattle.wit_component.specs.declared.fault.Fault.TheVariants as faults
@@ -7,7 +7,7 @@ use Rattle.wit_resolve.specs.World.{FunctionItem}
 use Rattle.wit_component.specs.Flat.{flat}
 use Rattle.wit_component.specs.CoreNames.{is_legacy_import, is_memory_name, is_initialize_name, is_post_return_name, is_hook_name, is_outer_memory}
 use Rattle.wit_component.specs.Linking.{CoreImport, CoreExport, Linking}
-use Rattle.component_format.specs.Spelling.{component_fits}
+use Rattle.known_definitions.specs.Component.{Fits}
 use Rattle.wit_component.specs.Table.{imported_by, exported_by, IsLinked}
 use Rattle.wit_component.specs.Component.{component_of}
 
@@ -60,9 +60,9 @@ pub record IsLinkable (l : Linking) : Type 0 where
   pub distinct : RepeatsPair l.main.imports → ⊥
   pub linked : IsLinked l
 
--- an index, a count or a size of the component that is to be written has more than 32 bits
+-- 32 bits can't say an index, a count or a size of the component that is to be written
 abbrev pub IsTooLarge : Linking → Type 0
-IsTooLarge l = component_fits (component_of l) ≡ false
+IsTooLarge l = Fits (component_of l) → ⊥
 
 -- why a linking isn't encoded
 abbrev pub IsEncodeCause : Linking → Fault → Type 0

@@ -12,3 +12,4 @@ pub mod Meaning
 pub mod Right
 pub mod Texts
 pub mod Candidates
+pub mod Written

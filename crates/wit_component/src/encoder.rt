@@ -1,178 +1,207 @@
 //! Writing the component of an input.
 
-ghost use Rattle.std.specs.Prelude.{◌≡◌, ◌⊎◌, ℕ, ◌+◌, ◌^◌, ◌<◌, ◌≤◌, ◌++◌, ◌∷◌, [], true, false, List, None, length, map, string_bytes, OnOk, IfOk, IfErr};
-ghost use Rattle.std.specs.List.{All, list_all, flat_map};
-ghost use Rattle.component_format.specs.Names.{all_new};
-ghost use Rattle.component_format.specs.Grammar.{IsComponent, inline_names};
-ghost use Rattle.component_format.specs.Definition.{types_in, parameter_value, inline_export_value, argument_value, core_module_of, alias_of, lift_of, lower_of, import_of, export_of};
-ghost use Rattle.component_format.specs.Found.{counts_in, names_in};
-ghost use Rattle.component_format.specs.Spelling.{all_fit, component_fits, component_bytes};
-ghost use Rattle.wit_resolve.specs.World.{param_item, function_item, function_fits, functions_fit, world_fits};
+ghost use Rattle.std.specs.Prelude.{◌≡◌, ◌⊎◌, ◌+◌, ◌^◌, ◌<◌, ◌≤◌, ◌++◌, ◌∷◌, ℕ, List, [], true, false, None, length, map, option_map, OnOk, IfOk, IfErr, IfNone, IsNone, Err};
+ghost use Rattle.std.specs.List.{flat_map};
+ghost use Rattle.component_value_types.specs.Names.{named_value};
+ghost use Rattle.component_instances.specs.Instances.{core_argument_value};
+ghost use Rattle.component_sections.specs.Component.{definition_value};
+ghost use Rattle.known_definitions.specs.Definition.{core_module_of, instantiation_of, alias_of, type_of, lift_of, lower_of, import_of, export_of};
+ghost use Rattle.known_definitions.specs.Known.{primitive_value, value_type as value_type_of, named_parameter, named_argument, named_function, definition_of};
+ghost use Rattle.known_definitions.specs.Component.{IsComponent, Fits};
+ghost use Rattle.wit_resolve.specs.World.{param_item, function_item, world_fits};
 ghost use Rattle.wit_component.specs.Linking.{Linking as LinkingValue};
 ghost use Rattle.wit_component.specs.Table.{needed, exported_by};
 ghost use Rattle.wit_component.specs.Places.{ArePlaces, names_under};
-ghost use Rattle.wit_component.specs.Component.{numbered, types_of, given_under, instance_with, argument_for, instances_for, instance_side};
-ghost use Rattle.wit_component.specs.Component as spec;
+ghost use Rattle.wit_component.specs.Component.{numbered, types_of, given_under, instance_with, argument_for, instances_for, instance_side, component_of as component_value};
 ghost use Rattle.wit_component.specs.Cause.{IsLinkable, IsEncodeCause, IsTooLarge};
 ghost use Rattle.wit_component.specs.View as view;
+ghost use Rattle.wit_component.specs.Written.{written, among};
 
 use crate::fault::Fault;
 use crate::linking::Linking;
 use crate::table::{ROOT, STANDARD, Table, needed_functions, references, table_of};
-use component_format::{
-    Argument, BuildFault, ComponentBuilder, FunctionType, InlineExport, Names, Parameter,
+use binary_grammar::WriteFault;
+use component_builder::write_definitions;
+use component_definitions::{
+    Alias, CanonicalDefinition, ComponentSort, Description, Export, Import, Sort,
 };
+use component_instances::{CoreArgument, CoreInstance, CoreItem, TypeDefinition};
+use component_sections::{Definition, Entry};
+use component_value_types::{DefinedType, FunctionType, Named, PrimitiveValueType, ValueType};
+use distinct_names::Names;
 use std::alloc::{AllocError, Global};
-use wit_resolve::{Function, Param};
+use wasm_types::ExportKind;
+use wit_resolve::{Function, Param, PrimitiveType};
 
-/// What a builder's refusal becomes.
-fn build_refusal(fault: BuildFault) -> Fault
-    ensures { (result ≡ Fault.OutOfMemory) ⊎ ((result ≡ Fault.TooLarge) × (fault ≡ BuildFault.TooLarge)) }
+fn primitive_of(ty: PrimitiveType) -> PrimitiveValueType
+    ensures { result ≡ primitive_value ty }
 {
-    match fault {
-        BuildFault::OutOfMemory => Fault::OutOfMemory,
-        BuildFault::TooLarge => Fault::TooLarge,
+    match ty {
+        PrimitiveType::Bool => PrimitiveValueType::Bool,
+        PrimitiveType::S8 => PrimitiveValueType::S8,
+        PrimitiveType::U8 => PrimitiveValueType::U8,
+        PrimitiveType::S16 => PrimitiveValueType::S16,
+        PrimitiveType::U16 => PrimitiveValueType::U16,
+        PrimitiveType::S32 => PrimitiveValueType::S32,
+        PrimitiveType::U32 => PrimitiveValueType::U32,
+        PrimitiveType::S64 => PrimitiveValueType::S64,
+        PrimitiveType::U64 => PrimitiveValueType::U64,
+    }
+}
+
+fn value_type(ty: PrimitiveType) -> ValueType
+    ensures { result ≡ value_type_of ty }
+{
+    ValueType::Primitive(primitive_of(ty))
+}
+
+fn result_of(ty: Option<PrimitiveType>) -> Option<ValueType>
+    ensures { result ≡ option_map value_type_of ty }
+{
+    match ty {
+        Some(ty) => Some(value_type(ty)),
+        None => None,
     }
 }
 
 /// A function's parameters for the component.
-fn parameters_of<'s>(alloc: Global, params: &'s [Param]) -> Result<Vec<Parameter<'s>>, AllocError>
-    ensures { IfOk result (λ v. map parameter_value v.items ≡ map param_item params.entry.now) }
+fn parameters_of<'s>(
+    alloc: Global,
+    params: &'s [Param],
+) -> Result<Vec<Named<'s, ValueType>>, AllocError>
+    ensures { IfOk result (λ v. map (named_value (λ t. t)) v.items ≡ map named_parameter (map param_item params.entry.now)) }
 {
     let mut found = Vec::new(alloc);
     for param in params {
-        found.push(Parameter {
+        found.push(Named {
             name: param.name.as_str(),
-            ty: param.ty,
+            item: value_type(param.ty),
         })?;
     }
     Ok(found)
 }
 
+/// The definition of a function's type.
+fn type_definition<'s>(alloc: Global, function: &'s Function) -> Result<Definition<'s>, AllocError>
+    ensures { IfOk result (λ d. definition_value d ≡ definition_of (type_of (function_item function.entry.now).ty)) }
+{
+    let ty = FunctionType {
+        params: parameters_of(alloc, &function.params)?,
+        result: result_of(function.result),
+    };
+    let defined = TypeDefinition::Defined(DefinedType::Function(ty));
+    Ok(Definition::Entry(Entry::Type_(defined)))
+}
+
 /// Adds the types of functions.
 fn put_types<'s>(
     alloc: Global,
-    builder: &mut ComponentBuilder<'s>,
     functions: &[&'s Function],
-) -> Result<(), Fault>
-    requires fit { list_all function_fits (map (λ f. function_item f.now) functions.now) ≡ true }
-    requires few { types_in builder.old ≤ 2 ^ 32 }
-    ensures added { OnOk result (builder.new ≡ builder.old ++ types_of (map (λ f. function_item f.now) functions.now)) }
-    ensures counts { OnOk result (counts_in builder.new ≡ record (counts_in builder.old) { types = (counts_in builder.old).types + length functions.now }) }
-    ensures names { OnOk result (names_in builder.new ≡ names_in builder.old) }
-    ensures few { OnOk result (types_in builder.new ≤ 2 ^ 32) }
-    ensures cause { IfErr result (λ e. (e ≡ Fault.OutOfMemory) ⊎ ((e ≡ Fault.TooLarge) × (all_fit builder.old (types_of (map (λ f. function_item f.now) functions.now)) ≡ false))) }
+    out: &mut Vec<Definition<'s>>,
+) -> Result<(), AllocError>
+    ensures { OnOk result (written out.new.items ≡ written out.old.items ++ among (types_of (map (λ f. function_item f.now) functions.now))) }
 {
     for function in functions {
-        let params = parameters_of(alloc, &function.params)?;
-        let ty = FunctionType {
-            params,
-            result: function.result,
-        };
-        if let Err(fault) = builder.type_function(ty) {
-            return Err(build_refusal(fault));
-        }
+        out.push(type_definition(alloc, function)?)?;
     }
     Ok(())
 }
 
 /// Imports functions under their names, the first with the type at 0, and so on.
 fn put_imports<'s>(
-    builder: &mut ComponentBuilder<'s>,
     functions: &[&'s Function],
-) -> Result<(), Fault>
+    out: &mut Vec<Definition<'s>>,
+) -> Result<(), AllocError>
     requires few { length functions.now ≤ 2 ^ 32 }
-    requires types { length functions.now ≤ (counts_in builder.old).types }
-    requires distinct { all_new (names_in builder.old).imports (map (λ f. string_bytes f.now.name) functions.now) ≡ true }
-    ensures added { OnOk result (builder.new ≡ builder.old ++ (numbered (λ n f. import_of f.name n) 0 (map (λ f. function_item f.now) functions.now))) }
-    ensures counts { OnOk result (counts_in builder.new ≡ record (counts_in builder.old) { functions = (counts_in builder.old).functions + length functions.now }) }
-    ensures exports { OnOk result ((names_in builder.new).exports ≡ (names_in builder.old).exports) }
-    ensures cause { IfErr result (λ e. (e ≡ Fault.OutOfMemory) ⊎ ((e ≡ Fault.TooLarge) × (all_fit builder.old (numbered (λ n f. import_of f.name n) 0 (map (λ f. function_item f.now) functions.now)) ≡ false))) }
+    ensures { OnOk result (written out.new.items ≡ written out.old.items ++ among (numbered (λ n f. import_of f.name n) 0 (map (λ f. function_item f.now) functions.now))) }
 {
     for (place, function) in functions.iter().enumerate() {
-        if let Err(fault) = builder.import(function.name.as_str(), place as u32) {
-            return Err(build_refusal(fault));
-        }
+        let import = Import {
+            name: function.name.as_str(),
+            description: Description::Function(place as u32),
+        };
+        out.push(Definition::Entry(Entry::Import(import)))?;
     }
     Ok(())
 }
 
 /// Lowers as many of the first functions as these are.
-fn put_lowers(builder: &mut ComponentBuilder, functions: &[&Function]) -> Result<(), Fault>
+fn put_lowers(
+    alloc: Global,
+    functions: &[&Function],
+    out: &mut Vec<Definition<'_>>,
+) -> Result<(), AllocError>
     requires few { length functions.now ≤ 2 ^ 32 }
-    requires functions { length functions.now ≤ (counts_in builder.old).functions }
-    ensures added { OnOk result (builder.new ≡ builder.old ++ (numbered (λ n f. lower_of n) 0 (map (λ f. function_item f.now) functions.now))) }
-    ensures counts { OnOk result (counts_in builder.new ≡ record (counts_in builder.old) { core_functions = (counts_in builder.old).core_functions + length functions.now }) }
-    ensures names { OnOk result (names_in builder.new ≡ names_in builder.old) }
-    ensures cause { IfErr result (λ e. (e ≡ Fault.OutOfMemory) ⊎ ((e ≡ Fault.TooLarge) × (all_fit builder.old (numbered (λ n f. lower_of n) 0 (map (λ f. function_item f.now) functions.now)) ≡ false))) }
+    ensures { OnOk result (written out.new.items ≡ written out.old.items ++ among (numbered (λ n f. lower_of n) 0 (map (λ f. function_item f.now) functions.now))) }
 {
     for (place, _function) in functions.iter().enumerate() {
-        if let Err(fault) = builder.lower_func(place as u32) {
-            return Err(build_refusal(fault));
-        }
+        let lower = CanonicalDefinition::Lower {
+            function: place as u32,
+            options: Vec::new(alloc),
+        };
+        out.push(Definition::Canonical(lower))?;
     }
     Ok(())
 }
 
 /// Takes core exports of an instance, by their names.
 fn put_aliases<'s>(
-    builder: &mut ComponentBuilder<'s>,
     instance: u32,
     names: &[&'s str],
-) -> Result<(), Fault>
-    requires { instance < (counts_in builder.old).core_instances }
-    ensures added { OnOk result (builder.new ≡ builder.old ++ (map (λ t. alias_of instance t.now) names.now)) }
-    ensures counts { OnOk result (counts_in builder.new ≡ record (counts_in builder.old) { core_functions = (counts_in builder.old).core_functions + length names.now }) }
-    ensures names { OnOk result (names_in builder.new ≡ names_in builder.old) }
-    ensures cause { IfErr result (λ e. (e ≡ Fault.OutOfMemory) ⊎ ((e ≡ Fault.TooLarge) × (all_fit builder.old (map (λ t. alias_of instance t.now) names.now) ≡ false))) }
+    out: &mut Vec<Definition<'s>>,
+) -> Result<(), AllocError>
+    ensures { OnOk result (written out.new.items ≡ written out.old.items ++ among (map (λ t. alias_of instance t.now) names.now)) }
 {
     for name in names {
-        if let Err(fault) = builder.core_alias_export(instance, name) {
-            return Err(build_refusal(fault));
-        }
+        let alias = Alias::CoreInstanceExport {
+            kind: ExportKind::Func,
+            instance,
+            name,
+        };
+        out.push(Definition::Entry(Entry::Alias(alias)))?;
     }
     Ok(())
 }
 
 /// Lifts as many core functions as these are from an index on, with the types from that index on.
 fn put_lifts(
-    builder: &mut ComponentBuilder,
+    alloc: Global,
     from: usize,
     functions: &[&Function],
-) -> Result<(), Fault>
+    out: &mut Vec<Definition<'_>>,
+) -> Result<(), AllocError>
     requires few { from + length functions.now ≤ 2 ^ 32 }
-    requires functions { from + length functions.now ≤ (counts_in builder.old).core_functions }
-    requires types { from + length functions.now ≤ (counts_in builder.old).types }
-    ensures added { OnOk result (builder.new ≡ builder.old ++ (numbered (λ n f. lift_of n n) from (map (λ f. function_item f.now) functions.now))) }
-    ensures counts { OnOk result (counts_in builder.new ≡ record (counts_in builder.old) { functions = (counts_in builder.old).functions + length functions.now }) }
-    ensures names { OnOk result (names_in builder.new ≡ names_in builder.old) }
-    ensures cause { IfErr result (λ e. (e ≡ Fault.OutOfMemory) ⊎ ((e ≡ Fault.TooLarge) × (all_fit builder.old (numbered (λ n f. lift_of n n) from (map (λ f. function_item f.now) functions.now)) ≡ false))) }
+    ensures { OnOk result (written out.new.items ≡ written out.old.items ++ among (numbered (λ n f. lift_of n n) from (map (λ f. function_item f.now) functions.now))) }
 {
     for (place, _function) in functions.iter().enumerate() {
         let index = (from + place) as u32;
-        if let Err(fault) = builder.lift_func(index, index) {
-            return Err(build_refusal(fault));
-        }
+        let lift = CanonicalDefinition::Lift {
+            core_function: index,
+            options: Vec::new(alloc),
+            ty: index,
+        };
+        out.push(Definition::Canonical(lift))?;
     }
     Ok(())
 }
 
 /// Exports functions under their names, the first as the function at an index, and so on.
 fn put_exports<'s>(
-    builder: &mut ComponentBuilder<'s>,
     from: usize,
     functions: &[&'s Function],
-) -> Result<(), Fault>
+    out: &mut Vec<Definition<'s>>,
+) -> Result<(), AllocError>
     requires few { from + length functions.now ≤ 2 ^ 32 }
-    requires functions { from + length functions.now ≤ (counts_in builder.old).functions }
-    requires distinct { all_new (names_in builder.old).exports (map (λ f. string_bytes f.now.name) functions.now) ≡ true }
-    ensures added { OnOk result (builder.new ≡ builder.old ++ (numbered (λ n f. export_of f.name n None) from (map (λ f. function_item f.now) functions.now))) }
-    ensures cause { IfErr result (λ e. (e ≡ Fault.OutOfMemory) ⊎ ((e ≡ Fault.TooLarge) × (all_fit builder.old (numbered (λ n f. export_of f.name n None) from (map (λ f. function_item f.now) functions.now)) ≡ false))) }
+    ensures { OnOk result (written out.new.items ≡ written out.old.items ++ among (numbered (λ n f. export_of f.name n None) from (map (λ f. function_item f.now) functions.now))) }
 {
     for (place, function) in functions.iter().enumerate() {
-        if let Err(fault) = builder.export(function.name.as_str(), (from + place) as u32, None) {
-            return Err(build_refusal(fault));
-        }
+        let export = Export {
+            name: function.name.as_str(),
+            sort: Sort::Component(ComponentSort::Function),
+            index: (from + place) as u32,
+            ascribed: None,
+        };
+        out.push(Definition::Entry(Entry::Export(export)))?;
     }
     Ok(())
 }
@@ -183,12 +212,9 @@ fn inline_exports<'s>(
     alloc: Global,
     functions: &[&'s Function],
     imported: &Names,
-) -> Result<Vec<InlineExport<'s>>, AllocError>
+) -> Result<Vec<Named<'s, CoreItem>>, AllocError>
     requires few { length functions.now ≤ 2 ^ 32 }
-    requires distinct { all_new [] (map (λ f. string_bytes f.now.name) functions.now) ≡ true }
-    ensures given { (l : LinkingValue) (place : List ℕ) → imported.now ≡ names_under l place → (map (λ f. function_item f.now) functions.now) ≡ needed l → IfOk result (λ v. map inline_export_value v.items ≡ given_under l place) }
-    ensures distinct { IfOk result (λ v. all_new [] (inline_names (map inline_export_value v.items)) ≡ true) }
-    ensures there { IfOk result (λ v. All (λ x. x.func < length functions.now) v.items) }
+    ensures { (l : LinkingValue) (place : List ℕ) → imported.now ≡ names_under l place → (map (λ f. function_item f.now) functions.now) ≡ needed l → IfOk result (λ v. map (named_value (λ x. x)) v.items ≡ map named_function (given_under l place)) }
 {
     let mut found = Vec::new(alloc);
     for (place, function) in functions.iter().enumerate() {
@@ -196,107 +222,81 @@ fn inline_exports<'s>(
         if imported.is_new(name) {
             continue;
         }
-        found.push(InlineExport {
+        let kind = ExportKind::Func;
+        let index = place as u32;
+        found.push(Named {
             name,
-            func: place as u32,
+            item: CoreItem { kind, index },
         })?;
     }
     Ok(found)
 }
 
-/// Adds what a core instance gives the main module under one module text, if anything, and notes it as an
-/// argument.
+/// Adds what a core instance gives the main module under one module text, if anything, and notes it as an argument: the
+/// instance behind those that are noted.
 fn put_inline<'s>(
     alloc: Global,
-    builder: &mut ComponentBuilder<'s>,
     functions: &[&'s Function],
     imported: &Names,
     place: &'s str,
-    args: &mut Vec<Argument<'s>>,
-) -> Result<(), Fault>
+    args: &mut Vec<Named<'s, CoreArgument>>,
+    out: &mut Vec<Definition<'s>>,
+) -> Result<(), AllocError>
     requires few { length functions.now ≤ 2 ^ 32 }
-    requires functions { length functions.now ≤ (counts_in builder.old).core_functions }
-    requires distinct { all_new [] (map (λ f. string_bytes f.now.name) functions.now) ≡ true }
-    ensures added { (l : LinkingValue) → imported.now ≡ names_under l place.now → (map (λ f. function_item f.now) functions.now) ≡ needed l → OnOk result (builder.new ≡ builder.old ++ instance_with (given_under l place.now)) }
-    ensures args { (l : LinkingValue) → imported.now ≡ names_under l place.now → (map (λ f. function_item f.now) functions.now) ≡ needed l → OnOk result (map argument_value args.new.items ≡ map argument_value args.old.items ++ argument_for place.now (counts_in builder.old).core_instances (given_under l place.now)) }
-    ensures counts { (l : LinkingValue) → imported.now ≡ names_under l place.now → (map (λ f. function_item f.now) functions.now) ≡ needed l → OnOk result (counts_in builder.new ≡ record (counts_in builder.old) { core_instances = (counts_in builder.old).core_instances + length (instance_with (given_under l place.now)) }) }
-    ensures names { OnOk result (names_in builder.new ≡ names_in builder.old) }
-    ensures cause { (l : LinkingValue) → imported.now ≡ names_under l place.now → (map (λ f. function_item f.now) functions.now) ≡ needed l → IfErr result (λ e. (e ≡ Fault.OutOfMemory) ⊎ ((e ≡ Fault.TooLarge) × (all_fit builder.old (instance_with (given_under l place.now)) ≡ false))) }
+    requires room { length args.old.items < 2 }
+    ensures added { (l : LinkingValue) → imported.now ≡ names_under l place.now → (map (λ f. function_item f.now) functions.now) ≡ needed l → OnOk result (written out.new.items ≡ written out.old.items ++ among (instance_with (given_under l place.now))) }
+    ensures args { (l : LinkingValue) → imported.now ≡ names_under l place.now → (map (λ f. function_item f.now) functions.now) ≡ needed l → OnOk result (map (named_value core_argument_value) args.new.items ≡ map (named_value core_argument_value) args.old.items ++ map named_argument (argument_for place.now (length args.old.items) (given_under l place.now))) }
+    ensures more { OnOk result (length args.new.items ≤ length args.old.items + 1) }
 {
     let exports = inline_exports(alloc, functions, imported)?;
     if exports.is_empty() {
         return Ok(());
     }
-    match builder.core_instantiate_exports(exports) {
-        Ok(instance) => {
-            args.push(Argument {
-                name: place,
-                instance,
-            })?;
-            Ok(())
-        }
-        Err(fault) => Err(build_refusal(fault)),
-    }
+    let instance = args.len() as u32;
+    out.push(Definition::CoreInstance(CoreInstance::Inline(exports)))?;
+    args.push(Named {
+        name: place,
+        item: CoreArgument { instance },
+    })?;
+    Ok(())
 }
 
 /// Adds what the main module imports, the module itself, and the lowerings that it is given.
 fn put_import_side<'e>(
     alloc: Global,
-    builder: &mut ComponentBuilder<'e>,
     bytes: &'e [u8],
     functions: &[&'e Function],
-) -> Result<(), Fault>
-    requires empty { builder.old ≡ [] }
-    requires fit { functions_fit (map (λ f. function_item f.now) functions.now) ≡ true }
-    ensures added { OnOk result (builder.new ≡ builder.old ++ (types_of (map (λ f. function_item f.now) functions.now) ++ (numbered (λ n f. import_of f.name n) 0 (map (λ f. function_item f.now) functions.now) ++ (core_module_of bytes.entry.now ∷ numbered (λ n f. lower_of n) 0 (map (λ f. function_item f.now) functions.now))))) }
-    ensures counts { OnOk result (counts_in builder.new ≡ record { core_modules = 1; core_instances = 0; core_functions = length functions.now; types = length functions.now; functions = length functions.now }) }
-    ensures exports { OnOk result ((names_in builder.new).exports ≡ []) }
-    ensures few { OnOk result (length functions.now ≤ 2 ^ 32) }
-    ensures cause { IfErr result (λ e. (e ≡ Fault.OutOfMemory) ⊎ ((e ≡ Fault.TooLarge) × (all_fit builder.old (types_of (map (λ f. function_item f.now) functions.now) ++ (numbered (λ n f. import_of f.name n) 0 (map (λ f. function_item f.now) functions.now) ++ (core_module_of bytes.entry.now ∷ numbered (λ n f. lower_of n) 0 (map (λ f. function_item f.now) functions.now)))) ≡ false))) }
+    out: &mut Vec<Definition<'e>>,
+) -> Result<(), AllocError>
+    requires few { length functions.now ≤ 2 ^ 32 }
+    ensures { OnOk result (written out.new.items ≡ written out.old.items ++ among (types_of (map (λ f. function_item f.now) functions.now) ++ (numbered (λ n f. import_of f.name n) 0 (map (λ f. function_item f.now) functions.now) ++ (core_module_of bytes.entry.now ∷ numbered (λ n f. lower_of n) 0 (map (λ f. function_item f.now) functions.now))))) }
 {
-    put_types(alloc, builder, functions)?;
-    put_imports(builder, functions)?;
-    if let Err(fault) = builder.core_module(bytes) {
-        return Err(build_refusal(fault));
-    }
-    put_lowers(builder, functions)?;
-    Ok(())
+    put_types(alloc, functions, out)?;
+    put_imports(functions, out)?;
+    out.push(Definition::CoreModule(bytes))?;
+    put_lowers(alloc, functions, out)
 }
 
 /// Adds the one instance of the main module, and answers its index.
 fn put_instance<'e>(
     alloc: Global,
-    builder: &mut ComponentBuilder<'e>,
     functions: &[&'e Function],
     table: &Table,
-) -> Result<u32, Fault>
+    out: &mut Vec<Definition<'e>>,
+) -> Result<u32, AllocError>
     requires few { length functions.now ≤ 2 ^ 32 }
-    requires functions { length functions.now ≤ (counts_in builder.old).core_functions }
-    requires first { (counts_in builder.old).core_instances ≡ 0 }
-    requires there { 0 < (counts_in builder.old).core_modules }
-    requires distinct { all_new [] (map (λ f. string_bytes f.now.name) functions.now) ≡ true }
-    requires needed { (l : LinkingValue) × ArePlaces l (view.places table.now) × ((map (λ f. function_item f.now) functions.now) ≡ needed l) }
-    ensures added { (l : LinkingValue) → ArePlaces l (view.places table.now) → (map (λ f. function_item f.now) functions.now) ≡ needed l → OnOk result (builder.new ≡ builder.old ++ instance_side l) }
+    ensures added { (l : LinkingValue) → ArePlaces l (view.places table.now) → (map (λ f. function_item f.now) functions.now) ≡ needed l → OnOk result (written out.new.items ≡ written out.old.items ++ among (instance_side l)) }
     ensures index { (l : LinkingValue) → ArePlaces l (view.places table.now) → (map (λ f. function_item f.now) functions.now) ≡ needed l → IfOk result (λ i. i ≡ length (instances_for l)) }
-    ensures there { IfOk result (λ i. i < (counts_in builder.new).core_instances) }
-    ensures counts { OnOk result (counts_in builder.new ≡ record (counts_in builder.old) { core_instances = (counts_in builder.new).core_instances }) }
-    ensures names { OnOk result (names_in builder.new ≡ names_in builder.old) }
-    ensures cause { (l : LinkingValue) → ArePlaces l (view.places table.now) → (map (λ f. function_item f.now) functions.now) ≡ needed l → IfErr result (λ e. (e ≡ Fault.OutOfMemory) ⊎ ((e ≡ Fault.TooLarge) × (all_fit builder.old (instance_side l) ≡ false))) }
 {
     let mut args = Vec::new(alloc);
-    put_inline(alloc, builder, functions, &table.legacy, ROOT, &mut args)?;
-    put_inline(
-        alloc,
-        builder,
-        functions,
-        &table.standard,
-        STANDARD,
-        &mut args,
-    )?;
-    match builder.core_instantiate(0, args) {
-        Ok(index) => Ok(index),
-        Err(fault) => Err(build_refusal(fault)),
-    }
+    put_inline(alloc, functions, &table.legacy, ROOT, &mut args, out)?;
+    put_inline(alloc, functions, &table.standard, STANDARD, &mut args, out)?;
+    let index = args.len() as u32;
+    out.push(Definition::CoreInstance(CoreInstance::Instantiate {
+        core_module: 0,
+        args,
+    }))?;
+    Ok(index)
 }
 
 /// The names of the core exports that stand for the functions that the world exports.
@@ -306,8 +306,7 @@ fn core_names<'e>(
     table: &Table,
 ) -> Result<Vec<&'e str>, AllocError>
     requires { ArePlaces (view.linking linking.now) (view.places table.now) }
-    ensures same { IfOk result (λ v. length v.items ≡ length (view.linking linking.now).world.exports) }
-    ensures names { IfOk result (λ v. map (λ t. t.now) v.items ≡ flat_map (λ f. map (λ e. e.name) (exported_by (view.linking linking.now) f)) (view.linking linking.now).world.exports) }
+    ensures { IfOk result (λ v. map (λ t. t.now) v.items ≡ flat_map (λ f. map (λ e. e.name) (exported_by (view.linking linking.now) f)) (view.linking linking.now).world.exports) }
 {
     let mut names = Vec::new(alloc);
     for place in &table.exports {
@@ -319,63 +318,53 @@ fn core_names<'e>(
 /// Adds the exports of the world: each lifts a core export of an instance.
 fn put_export_side<'e>(
     alloc: Global,
-    builder: &mut ComponentBuilder<'e>,
     instance: u32,
     from: usize,
     functions: &[&'e Function],
     names: &[&'e str],
-) -> Result<(), Fault>
-    requires same { length functions.now ≡ length names.now }
-    requires fit { functions_fit (map (λ f. function_item f.now) functions.now) ≡ true }
-    requires few { from ≤ 2 ^ 32 }
-    requires instance { instance < (counts_in builder.old).core_instances }
-    requires core_functions { (counts_in builder.old).core_functions ≡ from }
-    requires types { (counts_in builder.old).types ≡ from }
-    requires functions { (counts_in builder.old).functions ≡ from }
-    requires first { (names_in builder.old).exports ≡ [] }
-    ensures added { OnOk result (builder.new ≡ builder.old ++ (map (λ t. alias_of instance t.now) names.now ++ (types_of (map (λ f. function_item f.now) functions.now) ++ (numbered (λ n f. lift_of n n) from (map (λ f. function_item f.now) functions.now) ++ numbered (λ n f. export_of f.name n None) from (map (λ f. function_item f.now) functions.now))))) }
-    ensures cause { IfErr result (λ e. (e ≡ Fault.OutOfMemory) ⊎ ((e ≡ Fault.TooLarge) × (all_fit builder.old (map (λ t. alias_of instance t.now) names.now ++ (types_of (map (λ f. function_item f.now) functions.now) ++ (numbered (λ n f. lift_of n n) from (map (λ f. function_item f.now) functions.now) ++ numbered (λ n f. export_of f.name n None) from (map (λ f. function_item f.now) functions.now)))) ≡ false))) }
+    out: &mut Vec<Definition<'e>>,
+) -> Result<(), AllocError>
+    requires few { from + length functions.now ≤ 2 ^ 32 }
+    ensures { OnOk result (written out.new.items ≡ written out.old.items ++ among (map (λ t. alias_of instance t.now) names.now ++ (types_of (map (λ f. function_item f.now) functions.now) ++ (numbered (λ n f. lift_of n n) from (map (λ f. function_item f.now) functions.now) ++ numbered (λ n f. export_of f.name n None) from (map (λ f. function_item f.now) functions.now))))) }
 {
-    put_aliases(builder, instance, names)?;
-    put_types(alloc, builder, functions)?;
-    put_lifts(builder, from, functions)?;
-    put_exports(builder, from, functions)?;
-    Ok(())
+    put_aliases(instance, names, out)?;
+    put_types(alloc, functions, out)?;
+    put_lifts(alloc, from, functions, out)?;
+    put_exports(from, functions, out)
 }
 
-/// Adds the definitions of the component.
-fn put_component<'e>(
+/// The most functions that indices of 32 bits can number.
+const MOST: usize = 1 << 32;
+
+/// Whether indices of 32 bits can number the needed functions and then the exported ones.
+fn can_be_numbered(needed: usize, exported: usize) -> bool
+    ensures can { result ≡ true → needed + exported ≤ 2 ^ 32 }
+    ensures cannot { result ≡ false → 2 ^ 32 < needed + exported }
+{
+    needed <= MOST && exported <= MOST - needed
+}
+
+/// The definitions of the component by its link table.
+fn definitions_of<'e>(
     alloc: Global,
-    builder: &mut ComponentBuilder<'e>,
     linking: &'e Linking<'e, 'e>,
     table: &Table,
-) -> Result<(), Fault>
-    requires empty { builder.old ≡ [] }
-    requires fits { world_fits (view.linking linking.now).world ≡ true }
+) -> Result<Vec<Definition<'e>>, Fault>
     requires places { ArePlaces (view.linking linking.now) (view.places table.now) }
-    ensures added { OnOk result (builder.new ≡ spec.component_of (view.linking linking.now)) }
-    ensures cause { IfErr result (λ e. (e ≡ Fault.OutOfMemory) ⊎ ((e ≡ Fault.TooLarge) × (all_fit [] (spec.component_of (view.linking linking.now)) ≡ false))) }
+    ensures found { IfOk result (λ v. written v.items ≡ among (component_value (view.linking linking.now))) }
+    ensures cause { IfErr result (λ e. (e ≡ Fault.OutOfMemory) ⊎ ((e ≡ Fault.TooLarge) × IsTooLarge (view.linking linking.now))) }
 {
     let needed = needed_functions(alloc, linking, table)?;
-    put_import_side(alloc, builder, linking.bytes, &needed)?;
-    let instance = put_instance(alloc, builder, &needed, table)?;
     let exported = references(alloc, &linking.world.exports)?;
+    if !can_be_numbered(needed.len(), exported.len()) {
+        return Err(Fault::TooLarge);
+    }
+    let mut out = Vec::new(alloc);
+    put_import_side(alloc, linking.bytes, &needed, &mut out)?;
+    let instance = put_instance(alloc, &needed, table, &mut out)?;
     let names = core_names(alloc, linking, table)?;
-    put_export_side(alloc, builder, instance, needed.len(), &exported, &names)?;
-    Ok(())
-}
-
-/// The bytes of the component that joins the main module with the world. Refuses as `table_of` does, and with B25 where
-/// nothing else is in the way.
-pub fn encode(alloc: Global, linking: &Linking) -> Result<Vec<u8>, Fault>
-    requires { world_fits (view.linking linking.now).world ≡ true }
-    ensures found { IfOk result (λ v. IsComponent v.items (spec.component_of (view.linking linking.now))) }
-    ensures linkable { IfOk result (λ v. IsLinkable (view.linking linking.now)) }
-    ensures fits { OnOk result (component_fits (spec.component_of (view.linking linking.now)) ≡ true) }
-    ensures cause { IfErr result (IsEncodeCause (view.linking linking.now)) }
-{
-    let table = table_of(alloc, linking)?;
-    component_of(alloc, linking, &table)
+    put_export_side(alloc, instance, needed.len(), &exported, &names, &mut out)?;
+    Ok(out)
 }
 
 /// The bytes of the component by its link table.
@@ -386,15 +375,27 @@ fn component_of<'e>(
 ) -> Result<Vec<u8>, Fault>
     requires fits { world_fits (view.linking linking.now).world ≡ true }
     requires places { ArePlaces (view.linking linking.now) (view.places table.now) }
-    ensures found { IfOk result (λ v. IsComponent v.items (spec.component_of (view.linking linking.now))) }
-    ensures bytes { IfOk result (λ v. v.items ≡ component_bytes (spec.component_of (view.linking linking.now))) }
-    ensures fits { OnOk result (component_fits (spec.component_of (view.linking linking.now)) ≡ true) }
+    ensures found { IfOk result (λ v. IsComponent v.items (component_value (view.linking linking.now))) }
+    ensures fits { OnOk result (Fits (component_value (view.linking linking.now))) }
     ensures cause { IfErr result (λ e. (e ≡ Fault.OutOfMemory) ⊎ ((e ≡ Fault.TooLarge) × IsTooLarge (view.linking linking.now))) }
 {
-    let mut builder = ComponentBuilder::new(alloc);
-    put_component(alloc, &mut builder, linking, table)?;
-    match builder.finish(alloc) {
+    let definitions = definitions_of(alloc, linking, table)?;
+    match write_definitions(alloc, &definitions) {
         Ok(bytes) => Ok(bytes),
-        Err(fault) => Err(build_refusal(fault)),
+        Err(WriteFault::OutOfMemory) => Err(Fault::OutOfMemory),
+        Err(WriteFault::TooLarge) => Err(Fault::TooLarge),
     }
+}
+
+/// The bytes of the component that joins the main module with the world. Refuses as `table_of` does, and with B25 where
+/// nothing else is in the way.
+pub fn encode(alloc: Global, linking: &Linking) -> Result<Vec<u8>, Fault>
+    requires { world_fits (view.linking linking.now).world ≡ true }
+    ensures found { IfOk result (λ v. IsComponent v.items (component_value (view.linking linking.now))) }
+    ensures linkable { IfOk result (λ v. IsLinkable (view.linking linking.now)) }
+    ensures fits { OnOk result (Fits (component_value (view.linking linking.now))) }
+    ensures cause { IfErr result (IsEncodeCause (view.linking linking.now)) }
+{
+    let table = table_of(alloc, linking)?;
+    component_of(alloc, linking, &table)
 }

@@ -1,7 +1,7 @@
 //! Laws of what is written.
 
 ghost use Rattle.std.specs.Prelude.{◌≡◌, true};
-ghost use Rattle.component_format.specs.Spelling.{component_fits};
+ghost use Rattle.known_definitions.specs.Component.{Fits};
 ghost use Rattle.wit_component.specs.Cause.{IsLinkable, IsLinkCause, IsEncodeCause};
 ghost use Rattle.wit_component.specs.Component.{component_of};
 ghost use Rattle.wit_component.specs.Linking.{Linking};
@@ -20,5 +20,5 @@ pub fn law_written_meets_all()
 /// where 32 bits say the component besides, none that it isn't encoded for, want of memory aside.
 pub fn law_linkable_has_no_cause()
     ensures links { (l : Linking) → IsLinkable l → (fault : Fault) → IsLinkCause l fault → fault ≡ Fault.OutOfMemory }
-    ensures component { (l : Linking) → IsLinkable l → component_fits (component_of l) ≡ true → (fault : Fault) → IsEncodeCause l fault → fault ≡ Fault.OutOfMemory }
+    ensures component { (l : Linking) → IsLinkable l → Fits (component_of l) → (fault : Fault) → IsEncodeCause l fault → fault ≡ Fault.OutOfMemory }
 {}

@@ -7,9 +7,8 @@ ghost use Rattle.wasm_format.specs.Module.{module_value, imported_type, exported
 ghost use Rattle.wit_component.specs.Flat.{flat_value, flat_result, flat};
 ghost use Rattle.wit_resolve.specs.World.{param_item, function_item};
 
-use component_format::PrimitiveType;
 use wasm_format::{CoreModule, Export, FuncType, Import, ValType};
-use wit_resolve::{Function, Param, World};
+use wit_resolve::{Function, Param, PrimitiveType, World};
 
 /// The chosen world, the main module, and whether legacy names stand for nothing.
 #[derive(Drop)]

@@ -2,7 +2,7 @@
 
 ghost use Rattle.std.specs.Prelude.{◌≡◌, ◌⊎◌, ◌||◌, ◌&&◌, ◌++◌, ◌∷◌, [], ℕ, List, map, if◌then◌else◌, IfOk, IfErr, OnOk, bytes_eq, string_bytes, true, false};
 ghost use Rattle.std.specs.List.{list_any};
-ghost use Rattle.component_format.specs.Names.{is_new};
+ghost use Rattle.distinct_names.specs.Names.{is_new};
 ghost use Rattle.wit_component.specs.Candidates.{candidates, with_one, joined, Stands, Notes, has_hook, has_post_return, named_by, NameAdded, IsNameCause};
 ghost use Rattle.wit_component.specs.Cause.{IsImportCause, IsExportCause, IsLinkCause, IsLinkable, RepeatsPair};
 ghost use Rattle.wit_component.specs.CoreNames.{root, standard, is_export_name, is_memory_name, is_outer_memory};
@@ -16,7 +16,7 @@ ghost use Rattle.wasm_format.specs.Module.{module_value};
 
 use crate::fault::Fault;
 use crate::linking::{Linking, is_of_type};
-use component_format::Names;
+use distinct_names::Names;
 use indexmap::IndexMap;
 use std::alloc::{AllocError, Global};
 use wasm_format::{Export, Import};

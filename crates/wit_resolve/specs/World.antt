@@ -3,14 +3,13 @@
 use Rattle.std.specs.Prelude.{ℕ, nat_le, Bool, true, false, ◌&&◌, List, [], ◌∷◌, ◌++◌, map, filter, length, Option, Some, None, option_map, option_and_then, string_bytes}
 use Rattle.std.specs.List.{list_all}
 use Rattle.std.specs.Char.{to_ascii_lowercase}
-use Rattle.component_format.specs.declared.definition.PrimitiveType.{PrimitiveType}
-use Rattle.component_format.specs.declared.definition.PrimitiveType.TheVariants as primitives
-use Rattle.component_format.specs.Definition.{ParameterValue, FunctionTypeValue}
-use Rattle.component_format.specs.Names.{all_new}
+use Rattle.distinct_names.specs.Names.{all_new}
 use Rattle.wit_syntax.specs.Ast as ast
 use Rattle.wit_syntax.specs.Ast.{PackageNameTree, AttributeTree, GatedTree, ParamTree, FuncTree, NamedFuncTree, ExternTree, WorldItemTree, WorldTree, AstItemTree, FileItemTree, HeaderTree, FileTree}
 use Rattle.wit_syntax.specs.TypeTree as types
 use Rattle.wit_syntax.specs.TypeTree.{TypeTree, TypeShape}
+use Rattle.wit_resolve.specs.declared.world.PrimitiveType.{PrimitiveType}
+use Rattle.wit_resolve.specs.declared.world.PrimitiveType.TheVariants as primitives
 use Rattle.wit_resolve.specs.declared.world.Param.{Param}
 use Rattle.wit_resolve.specs.declared.world.Function.{Function}
 use Rattle.wit_resolve.specs.declared.world.Side.{Side}
@@ -19,6 +18,14 @@ use Rattle.wit_resolve.specs.declared.world.Sides.{Sides}
 use Rattle.wit_resolve.specs.declared.world.World.{World}
 use Rattle.wit_resolve.specs.declared.world.Package.{Package}
 use Rattle.wit_resolve.specs.declared.world.PackageName.{PackageName}
+
+pub record ParameterValue : Type 0 where
+  pub name : List ℕ
+  pub ty : PrimitiveType
+
+pub record FunctionTypeValue : Type 0 where
+  pub params : List ParameterValue
+  pub result : Option PrimitiveType
 
 -- a function of a world: its name and its type
 pub record FunctionItem : Type 0 where

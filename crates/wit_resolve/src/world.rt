@@ -2,7 +2,7 @@
 
 ghost use Rattle.std.specs.Prelude.{◌≡◌, ◌⊎◌, [], map, string_bytes, option_map, IfOk, IfErr, OnOk, MatchResult};
 ghost use Rattle.std.specs.List.{list_all};
-ghost use Rattle.component_format.specs.Names.{all_new};
+ghost use Rattle.distinct_names.specs.Names.{all_new};
 ghost use Rattle.wit_resolve.specs.Shape.{IsInShape, IsShaped};
 ghost use Rattle.wit_resolve.specs.World as spec;
 ghost use Rattle.wit_resolve.specs.World.{PackageMeaning};
@@ -12,12 +12,35 @@ ghost use Rattle.wit_syntax.specs.TypeView.{type_tree};
 ghost use Rattle.wit_syntax.specs.WholeText.{IsText};
 
 use crate::fault::ResolveFault;
-use component_format::{Names, PrimitiveType};
+use distinct_names::Names;
 use std::alloc::{AllocError, Global};
 use wit_syntax::{
     AstItem, ExternKind, File, FileItem, Gated, NamedFunc, PackageHeader, SyntaxFault, Type,
     TypeKind, WorldItem, parse_file,
 };
+
+/// A type of one core value: `bool`, or an integer (WIT, Types).
+#[derive(Clone, Copy, Debug, PartialEq, Eq)]
+pub enum PrimitiveType {
+    /// `bool`
+    Bool,
+    /// `s8`
+    S8,
+    /// `u8`
+    U8,
+    /// `s16`
+    S16,
+    /// `u16`
+    U16,
+    /// `s32`
+    S32,
+    /// `u32`
+    U32,
+    /// `s64`
+    S64,
+    /// `u64`
+    U64,
+}
 
 /// A parameter of a function.
 #[derive(Debug, Drop)]

@@ -1,10 +1,13 @@
-use Rattle.std.proofs.Common.{◌≡◌, ◌++◌, ◌∷◌, [], ap, sym, ◌∙◌}
+use Rattle.std.proofs.Common.{◌≡◌, ◌++◌, ◌∷◌, [], ap, sym, subst, ◌∙◌}
 use Rattle.std.specs.Prelude.{map}
 use Rattle.std.proofs.lemmas.Result.{err_from_is_err_and}
+use Rattle.std.specs.List.{All}
 use Rattle.std.proofs.lemmas.List.{map_push}
+use Rattle.std.proofs.lemmas.List.Elements.{All-push}
 use Rattle.binary_grammar.specs.Syntax.{meaning}
 use Rattle.binary_grammar.specs.Several.{series, grown}
 use Rattle.binary_grammar.proofs.Series.{series_goes_on, series_stops, series_is_done, grown_on}
+use Rattle.binary_grammar.proofs.Placing.{behind_part}
 use Rattle.binary_grammar.proofs.steps.several_of.Goals as goal
 
 pub returns-in_err-item-clause-gives : goal.returns-in_err-item-clause-gives
@@ -26,6 +29,8 @@ loop-preserved g c =
     record {
       so_far = rw (e, c.in_ok-item.ensures.grows) (series_goes_on f g.T.Step.grow xs (g.T.Step.known c.loop.state) c.args.count c.loop.counter c.loop.from.left ((series f g.T.Step.grow c.args.count start).read c.args.from.now.left) c.loop.invariant.so_far x c.read_behind.new.from.left c.loop-test.true c.in_ok-item.ensures.gives);
       known = rw e known;
+      within = λ total w. behind_part (g.T.Step.next c.args.kind) (g.T.Step.known c.loop.state) total c.loop.from c.read_behind.new.from x c.read_behind.ensures.end c.in_ok-item.ensures.gives (c.loop.invariant.within total w);
+      stands = λ total w. subst (All (g.T.Step.stands total)) (sym c.in_ok-push.ensures.items) (All-push (g.T.Step.stands total) c.loop.items.items n (c.loop.invariant.stands total w) (c.in_ok-item.ensures.stands total (c.loop.invariant.within total w)));
       end = c.read_behind.ensures.end ∙ c.loop.invariant.end;
     }
 

@@ -1,5 +1,5 @@
 use Rattle.std.proofs.Common.{◌≡◌, drop, map}
-use Rattle.component_format.specs.Definition.{parameter_value}
+use Rattle.known_definitions.specs.Definition.{parameter_value}
 use Rattle.wit_component.specs.Flat.{flat_value}
 use Rattle.wit_component.specs.Meaning.{same_values}
 use Rattle.component_audit.proofs.spaces.are_flat.Given as goal

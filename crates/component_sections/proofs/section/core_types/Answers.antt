@@ -3,8 +3,8 @@ use Rattle.std.specs.Prelude.{◌==◌}
 use Rattle.binary_grammar.specs.declared.fault.Rule.TheVariants as rules
 use Rattle.binary_grammar.specs.Syntax.{exactly, tested, number}
 use Rattle.binary_grammar.proofs.Inside.{can_move}
-use Rattle.component_sections.specs.Entries.{DefinedValue}
-use Rattle.component_sections.specs.Component.{nothing}
+use Rattle.component_entries.specs.Entries.{DefinedValue}
+use Rattle.component_entries.specs.Entries.{nothing}
 use Rattle.component_sections.proofs.section.core_types.Goals as goal
 
 pub moved-requires : goal.moved-requires

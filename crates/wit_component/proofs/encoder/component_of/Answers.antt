@@ -1,14 +1,16 @@
-use Rattle.std.proofs.Common.{ap, Err}
-use Rattle.component_format.specs.declared.fault.BuildFault.{BuildFault}
+use Rattle.std.proofs.Common.{◌≡◌, map, ap, sym, subst, ◌∙◌}
+use Rattle.component_entries.specs.Entries.{nothing}
+use Rattle.component_sections.specs.Component as whole
+use Rattle.component_sections.specs.Component.{Follow}
+use Rattle.wit_component.specs.Component.{component_of}
+use Rattle.wit_component.specs.Written.{written, among}
 use Rattle.wit_component.specs.View as view
-use Rattle.wit_component.proofs.Written.{passed_on, refused}
-use Rattle.wit_component.proofs.WrittenComponent.{definitions_unfit, sections_unfit}
+use Rattle.wit_component.proofs.Follows.{component_follows}
 use Rattle.wit_component.proofs.encoder.component_of.Goals as goal
 
-pub returns-in_err-put_component-clause-cause : goal.returns-in_err-put_component-clause-cause
-returns-in_err-put_component-clause-cause c = passed_on c.from_residual.result c.in_err-put_component.field-0.0 c.from_residual.ensures.1 c.in_err-put_component.ensures.cause (definitions_unfit (view.linking c.args.linking.now))
-
-pub returns-clause-cause : goal.returns-clause-cause
-returns-clause-cause c =
+pub returns-in-Ok-clause-found : goal.returns-in-Ok-clause-found
+returns-in-Ok-clause-found c =
     let l = view.linking c.args.linking.now in
-    refused c.build_refusal.result c.in-Err.fault c.build_refusal.ensures (λ e. sections_unfit l c.put_component.new.builder c.in_ok-put_component.ensures.added (c.in-Err.ensures.large (ap (λ (b : BuildFault). Err b) e)))
+    let is : map whole.definition_value c.deref.result.now ≡ among (component_of l) = ap written c.deref.ensures.value ∙ c.in_ok-definitions.ensures.found in
+    let follow = component_follows l (view.places c.args.table.now) c.requires.places c.requires.fits in
+    subst (whole.IsComponent c.in-Ok.bytes.items) is (c.in-Ok.ensures.found (subst (Follow nothing) (sym is) follow))

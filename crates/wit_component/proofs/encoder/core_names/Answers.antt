@@ -1,11 +1,11 @@
-use Rattle.std.proofs.Common.{ℕ, ◌<◌, ◌≤◌, List, length, take, get_or, map, sym, ap, ◌∙◌, arith, Bor}
+use Rattle.std.proofs.Common.{◌<◌, ◌≤◌, length, get_or, map, sym, ap, ◌∙◌, arith}
 use Rattle.std.proofs.lemmas.List.{take_all, length-map}
 use Rattle.std.proofs.lemmas.List.Elements.{All-get_or}
 use Rattle.wasm_types.specs.Entries.{export_value}
 use Rattle.wasm_format.specs.Module.{module_value}
 use Rattle.wit_component.specs.Linking.{core_export}
 use Rattle.wit_component.specs.View as view
-use Rattle.wit_component.proofs.WrittenLinks.{text_at, text_here, texts_more, placed_within, placed_length, placed_texts}
+use Rattle.wit_component.proofs.WrittenLinks.{text_at, text_here, texts_more, placed_within, placed_texts}
 use Rattle.wit_component.proofs.encoder.core_names.Goals as goal
 
 pub index-requires : goal.index-requires
@@ -34,16 +34,8 @@ loop-place-preserved c =
     let here = text_here m es (get_or places at 0) c.index.result.now below (c.index.ensures ∙ ap (λ p. get_or es p c.index.result.now) same) in
     ap (λ ts. map (λ t. t.now) ts) c.in_ok-push.ensures.items ∙ texts_more c.loop-place.names.items c.index.result.now.name (λ p. text_at l.main.exports p) places at lt c.loop-place.invariant (sym here)
 
-pub returns-clause-same : goal.returns-clause-same
-returns-clause-same c =
-    let l = view.linking c.args.linking.now in
-    let places = c.args.table.now.exports.items in
-    let at = c.loop-place.place-index in
-    let ends : length places ≤ at = omega (arith, ap length c.deref-place-items.ensures.value) in
-    sym (length-map c.loop-place.names.items (λ (t : Bor (List ℕ)). t.now)) ∙ ap length c.loop-place.invariant ∙ length-map (take at places) (λ p. text_at l.main.exports p) ∙ ap length (take_all at places ends) ∙ placed_length l l.world.exports places c.requires.exports
-
-pub returns-clause-names : goal.returns-clause-names
-returns-clause-names c =
+pub returns : goal.returns
+returns c =
     let l = view.linking c.args.linking.now in
     let places = c.args.table.now.exports.items in
     let ends : length places ≤ c.loop-place.place-index = omega (arith, ap length c.deref-place-items.ensures.value) in

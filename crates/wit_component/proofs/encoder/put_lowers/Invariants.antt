@@ -1,13 +1,9 @@
-use Rattle.std.proofs.Common.{◌≡◌, ◌+◌, drop}
-use Rattle.component_format.specs.Definition.{lower_of}
-use Rattle.component_format.specs.Found.{counts_in, names_in}
+use Rattle.std.proofs.Common.{◌≡◌, ◌++◌, drop}
+use Rattle.known_definitions.specs.Definition.{lower_of}
 use Rattle.wit_component.specs.Component.{numbered}
-use Rattle.wit_component.proofs.Written.{items_of, OnTheWay}
+use Rattle.wit_component.specs.Written.{written, among}
+use Rattle.wit_component.proofs.Written.{items_of}
 use Rattle.wit_component.proofs.encoder.put_lowers.Given as goal
 
 abbrev pub invariant-loop-place : goal.invariant-loop-place
-invariant-loop-place l = record {
-  counts : counts_in l.builder ≡ record (counts_in l.initial.builder) { core_functions = (counts_in l.initial.builder).core_functions + l.place };
-  names : names_in l.builder ≡ names_in l.initial.builder;
-  way : OnTheWay l.builder (numbered (λ n f. lower_of n) l.place (items_of (drop l.place l.functions))) l.initial.builder (numbered (λ n f. lower_of n) 0 (items_of l.functions));
-}
+invariant-loop-place l = written l.out.items ++ among (numbered (λ n f. lower_of n) l.place (items_of (drop l.place l.functions))) ≡ written l.initial.out.items ++ among (numbered (λ n f. lower_of n) 0 (items_of l.functions))

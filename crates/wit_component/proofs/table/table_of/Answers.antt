@@ -1,6 +1,6 @@
 use Rattle.std.proofs.Common.{List, map, sym, ap, subst, ◌∙◌}
 use Rattle.std.specs.Prelude.{◌||◌}
-use Rattle.component_format.proofs.Lists.{list_any_map}
+use Rattle.wit_component.proofs.Lists.{list_any_map}
 use Rattle.wasm_types.specs.declared.entries.Export.{Export}
 use Rattle.wasm_types.specs.Entries.{ExportValue, import_value, export_value}
 use Rattle.wasm_format.specs.Module.{module_value}

@@ -1,6 +1,6 @@
 use Rattle.std.proofs.Common.{◌≡◌, [], map, drop}
 use Rattle.std.specs.Prelude.{string_bytes}
-use Rattle.component_format.specs.Names.{all_new}
+use Rattle.distinct_names.specs.Names.{all_new}
 use Rattle.wit_resolve.proofs.world.are_distinct.Given as goal
 
 abbrev pub invariant-loop-key : goal.invariant-loop-key

@@ -1,7 +1,7 @@
 use Rattle.std.proofs.Common.{◌≡◌, List, ℕ, map, take, arith, ap, ◌∙◌}
 use Rattle.std.specs.Prelude.{option_map}
 use Rattle.std.proofs.lemmas.List.{take_all}
-use Rattle.component_format.specs.declared.definition.InlineExport.{InlineExport}
+use Rattle.known_definitions.specs.declared.definition.InlineExport.{InlineExport}
 use Rattle.wit_component.specs.Meaning.{item_at}
 use Rattle.component_audit.specs.SpacesView.{core_function, core_entries}
 use Rattle.component_audit.specs.WalkView.{spaces_of}

@@ -2,7 +2,7 @@ use Rattle.std.proofs.Common.{◌≡◌, map, take}
 use Rattle.std.specs.Prelude.{option_map}
 use Rattle.wasm_types.specs.Entries.{import_value}
 use Rattle.wasm_format.specs.Module.{module_value}
-use Rattle.component_format.specs.Definition.{argument_value}
+use Rattle.known_definitions.specs.Definition.{argument_value}
 use Rattle.wit_component.specs.Linking.{core_import}
 use Rattle.wit_component.specs.Meaning.{given_for}
 use Rattle.component_audit.specs.SpacesView.{core_function}

@@ -1,0 +1,3 @@
+pub mod SectionBytes
+pub mod Neighbours
+pub mod NestedSections

@@ -1,0 +1,4 @@
+pub mod Entries
+pub mod Views
+pub mod Runs
+pub mod Nested

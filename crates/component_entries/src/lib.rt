@@ -1,0 +1,12 @@
+//! What a whole component and a nested one both may have, nested components, and which neighbours share a section.
+#![tactic(auto)]
+
+mod defined;
+mod entry;
+mod nested;
+mod runs;
+
+pub use defined::Defined;
+pub use entry::{Entry, EntryKind, kind_of};
+pub use nested::{HEADER, NestedComponent, custom_name};
+pub use runs::{Grouped, put_first};

@@ -1,5 +1,0 @@
-use Rattle.component_format.proofs.Lists.{is_new_from}
-use Rattle.component_format.proofs.names.Names.is_new.Goals as goal
-
-pub returns : goal.returns
-returns c = is_new_from c.args.self.now c.self.inside.inner.keys c.args.name.now c.contains.result c.self.view_is c.contains.ensures

@@ -1,9 +1,0 @@
-use Rattle.std.proofs.Common.{arith}
-use Rattle.binary_grammar.specs.Syntax.{begins, some_name}
-use Rattle.binary_grammar.proofs.Inside.{can_move}
-use Rattle.component_value_types.specs.declared.scope.Scope.{Scope}
-use Rattle.component_sections.specs.Component.{no_scope}
-use Rattle.component_sections.proofs.nested.custom_name.Goals as goal
-
-pub moved-requires : goal.moved-requires
-moved-requires c = can_move (begins (some_name {C = Scope})) no_scope c.in_ok-inside.inside.left c.left.result c.in-Err.e c.in-Err.ensures (omega (arith, c.in_ok-inside.ensures.inner.1))
