@@ -285,6 +285,7 @@ pub fn known_definitions<'a>(
     definitions: &[PlacedDefinition<'a>],
 ) -> Result<Option<Vec<KnownDefinition<'a>>>, AllocError>
     ensures known { IfOk result (λ o. option_map (λ v. definition_values v.items) o ≡ each_of spec.known_of (map whole.placed_value definitions.now)) }
+    ensures offsets { IfOk result (λ o. IfSome o (λ v. map (λ d. d.offset) v.items ≡ map (λ p. p.offset) definitions.now)) }
     ensures within { (total : List ℕ) → All (whole.StandsIn total) definitions.now → IfOk result (λ o. IfSome o (λ v. AreWithin (length total) v.items)) }
 {
     let mut found = Vec::new(alloc);

@@ -9,5 +9,6 @@ use Rattle.known_definitions.proofs.knowing.known_definitions.Given as goal
 abbrev pub invariant-loop-placed : goal.invariant-loop-placed
 invariant-loop-placed l = record {
   known : each_of known_of (map placed_value (take l.placed-index l.definitions)) ≡ Some (definition_values l.found.items);
+  offsets : map (λ d. d.offset) l.found.items ≡ map (λ p. p.offset) (take l.placed-index l.definitions);
   within : (total : List ℕ) → All (StandsIn total) l.definitions → AreWithin (length total) l.found.items;
 }
