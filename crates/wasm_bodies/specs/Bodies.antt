@@ -1,5 +1,5 @@
 -- Functions with their code (WebAssembly Core, Binary Format, Modules, Code Section).
-use Rattle.std.specs.Prelude.{ℕ, List, map}
+use Rattle.std.specs.Prelude.{List, map}
 use Rattle.binary_grammar.specs.declared.fault.Rule.TheVariants as rules
 use Rattle.binary_grammar.specs.Syntax.{Syntax, bounded, ◌◂◌, ◌>>=◌, byte_is, up_to, exactly}
 use Rattle.wasm_types.specs.declared.spaces.Spaces.{Spaces}

@@ -1,7 +1,7 @@
 -- The instructions of functions that are generated (WebAssembly Core, Binary Format, Instructions).
-use Rattle.std.specs.Prelude.{ℕ, ℤ, pos, List, map, ◌==◌, if◌then◌else◌}
+use Rattle.std.specs.Prelude.{ℕ, ℤ, pos, ◌==◌, if◌then◌else◌}
 use Rattle.binary_grammar.specs.declared.fault.Rule.TheVariants as rules
-use Rattle.binary_grammar.specs.Syntax.{◌◂◌, ◌>>=◌, number, signed_number, gives, refuses, up_to}
+use Rattle.binary_grammar.specs.Syntax.{◌◂◌, ◌>>=◌, number, signed_number, gives, refuses}
 use Rattle.wasm_types.specs.Types.{Grammar, index}
 use Rattle.wasm_bodies.specs.declared.instructions.BodyInstruction.{BodyInstruction}
 use Rattle.wasm_bodies.specs.declared.instructions.BodyInstruction.TheVariants as code

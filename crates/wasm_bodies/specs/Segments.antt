@@ -1,5 +1,5 @@
 -- Segments of elements and of data (WebAssembly Core, Binary Format, Modules, Element Section; Data Section).
-use Rattle.std.specs.Prelude.{ℕ, ℤ, pos, List, [], map, ◌==◌, if◌then◌else◌}
+use Rattle.std.specs.Prelude.{ℕ, ℤ, pos, List, map, ◌==◌, if◌then◌else◌}
 use Rattle.binary_grammar.specs.declared.fault.Rule.TheVariants as rules
 use Rattle.binary_grammar.specs.Syntax.{◌◂◌, ◌>>=◌, number, signed_number, byte_is, gives, refuses, sized, everything, tested, vec}
 use Rattle.wasm_types.specs.Types.{Grammar, index}

@@ -30,17 +30,17 @@ pub enum StartStep {
     CallHook(HookCall),
 }
 
-/// What a generated function does.
+/// What a generated function does, of as many parameters as its type has.
 #[derive(Debug, Drop)]
 pub enum GeneratedBody {
     /// It stops.
     TrapStub,
-    /// It hands so many parameters to the function in this slot of the first table, which is of this type.
-    TableStandIn(u32, i32, u32),
-    /// It hands so many parameters to the function that this global refers to, which is of this type.
-    ReferenceStandIn(u32, u32, u32),
-    /// It hands so many parameters to this function, between two calls of a hook, if they are asked.
-    HookedCall(Option<HookCall>, u32, u32, Option<HookCall>),
+    /// It hands its parameters to the function in this slot of the first table, which is of this type.
+    TableStandIn(i32, u32),
+    /// It hands its parameters to the function that this global refers to, which is of this type.
+    ReferenceStandIn(u32, u32),
+    /// It hands its parameters to this function, between two calls of a hook, if they are asked.
+    HookedCall(Option<HookCall>, u32, Option<HookCall>),
     /// It prepares a module.
     StartCode(Vec<StartStep>),
 }
@@ -114,35 +114,35 @@ fn push_hooked(
 }
 
 impl GeneratedBody {
-    fn push(&self, out: &mut Vec<BodyInstruction>) -> Result<(), AllocError>
-        ensures { OnOk result (out.new.items ≡ out.old.items ++ spec.instructions_of self.now) }
+    fn push(&self, count: u32, out: &mut Vec<BodyInstruction>) -> Result<(), AllocError>
+        ensures { OnOk result (out.new.items ≡ out.old.items ++ spec.instructions_of count (spec.body_shape self.now)) }
     {
         match self {
             GeneratedBody::TrapStub => out.push(BodyInstruction::Unreachable)?,
-            GeneratedBody::TableStandIn(count, slot, ty) => {
-                push_parameters(out, *count)?;
+            GeneratedBody::TableStandIn(slot, ty) => {
+                push_parameters(out, count)?;
                 out.push(BodyInstruction::I32Const(*slot))?;
                 out.push(BodyInstruction::CallIndirect(*ty, 0))?;
             }
-            GeneratedBody::ReferenceStandIn(count, global, ty) => {
-                push_parameters(out, *count)?;
+            GeneratedBody::ReferenceStandIn(global, ty) => {
+                push_parameters(out, count)?;
                 out.push(BodyInstruction::GlobalGet(*global))?;
                 out.push(BodyInstruction::CallRef(*ty))?;
             }
-            GeneratedBody::HookedCall(before, count, function, after) => {
-                push_hooked(out, *before, *count, *function, *after)?;
+            GeneratedBody::HookedCall(before, function, after) => {
+                push_hooked(out, *before, count, *function, *after)?;
             }
             GeneratedBody::StartCode(steps) => push_steps(out, steps)?,
         }
         Ok(())
     }
 
-    /// Its code.
-    pub fn body(&self, alloc: Global) -> Result<Body, AllocError>
-        ensures { IfOk result (λ b. body_value b ≡ spec.instructions_of self.now) }
+    /// Its code, where it has so many parameters.
+    pub fn body(&self, parameters: u32, alloc: Global) -> Result<Body, AllocError>
+        ensures { IfOk result (λ b. body_value b ≡ spec.instructions_of parameters (spec.body_shape self.now)) }
     {
         let mut instructions = Vec::new(alloc);
-        self.push(&mut instructions)?;
+        self.push(parameters, &mut instructions)?;
         Ok(Body { instructions })
     }
 }

@@ -2,12 +2,14 @@
 #![tactic(auto)]
 
 mod bodies;
+mod decoding;
 mod generated;
 mod instructions;
 mod names;
 mod segments;
 
 pub use bodies::{Body, Bounded, CodeSection};
+pub use decoding::start_steps;
 pub use generated::{GeneratedBody, HookCall, StartStep};
 pub use instructions::BodyInstruction;
 pub use names::{FunctionName, NameSection};

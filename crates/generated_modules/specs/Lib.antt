@@ -1,0 +1,4 @@
+pub mod Types
+pub mod Sections
+pub mod Parts
+pub mod Shape
