@@ -1,4 +1,2 @@
-pub mod Types
-pub mod Sections
 pub mod Parts
 pub mod Shape

@@ -1,20 +1,18 @@
 -- What a generated module is made of (WebAssembly Core, Structure, Modules), without where it lies in memory.
 use Rattle.std.specs.Prelude.{ℕ, List, [], ◌∷◌, ◌++◌, map, flat_map, Option, Some, None}
 use Rattle.wasm_types.specs.declared.types.Limits.{Limits}
-use Rattle.wasm_types.specs.declared.types.Mutability.TheVariants as mutabilities
 use Rattle.wasm_types.specs.Types.{FuncTypeValue, func_type_value}
 use Rattle.wasm_types.specs.Entries.{ExportValue, export_value, type_index_value}
 use Rattle.wasm_bodies.specs.declared.instructions.BodyInstruction.{BodyInstruction}
 use Rattle.wasm_bodies.specs.Bodies.{body_value}
 use Rattle.wasm_bodies.specs.Segments.{ElementValue, element_value}
-use Rattle.generated_modules.specs.declared.types.Held.TheVariants as helds
-use Rattle.generated_modules.specs.declared.types.HeldGlobal.{HeldGlobal}
-use Rattle.generated_modules.specs.declared.types.SlotTable.{SlotTable}
-use Rattle.generated_modules.specs.declared.types.SlotGlobal.{SlotGlobal}
-use Rattle.generated_modules.specs.declared.types.ImportType.{ImportType}
-use Rattle.generated_modules.specs.declared.types.ImportType.TheVariants as asked
-use Rattle.generated_modules.specs.Types.{ImportValue, import_value}
-use Rattle.generated_modules.specs.Sections.{SectionValue, types_in, imports_in, functions_in, tables_in, memories_in, globals_in, exports_in, starts_in, elements_in, bodies_in}
+use Rattle.generated_sections.specs.declared.types.HeldGlobal.{HeldGlobal}
+use Rattle.generated_sections.specs.declared.types.SlotTable.{SlotTable}
+use Rattle.generated_sections.specs.declared.types.SlotGlobal.{SlotGlobal}
+use Rattle.generated_sections.specs.declared.types.ImportType.{ImportType}
+use Rattle.generated_sections.specs.declared.types.ImportType.TheVariants as asked
+use Rattle.generated_sections.specs.Types.{ImportValue, import_value, slot_type}
+use Rattle.generated_sections.specs.Sections.{SectionValue, types_in, imports_in, functions_in, tables_in, memories_in, globals_in, exports_in, starts_in, elements_in, bodies_in}
 use Rattle.generated_modules.specs.declared.parts.Parts.{Parts}
 
 pub record PartsValue : Type 0 where
@@ -52,10 +50,6 @@ global_in _ = []
 
 abbrev pub imported_functions : List ImportValue → List ℕ
 imported_functions is = flat_map (λ i. function_in i.ty) is
-
--- a slot as a global
-abbrev pub slot_type : SlotGlobal → HeldGlobal
-slot_type g = record { held = helds.Reference g.ty; mutability = mutabilities.Var }
 
 abbrev pub function_space_of : List ImportValue → List ℕ → List ℕ
 function_space_of is fs = imported_functions is ++ fs

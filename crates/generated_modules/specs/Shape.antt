@@ -16,12 +16,11 @@ use Rattle.wasm_bodies.specs.declared.generated.StartStep.{StartStep}
 use Rattle.wasm_bodies.specs.declared.generated.StartStep.TheVariants as steps
 use Rattle.wasm_bodies.specs.Generated.{BodyShape, trap_stub, table_stand_in, reference_stand_in, hooked_call, start_code, IsBody, IsStartCode, body_shape}
 use Rattle.wasm_bodies.specs.Segments.{ElementValue, active, active_in, declared, functions_in}
-use Rattle.generated_modules.specs.declared.types.Held.TheVariants as helds
-use Rattle.generated_modules.specs.declared.types.HeldGlobal.{HeldGlobal}
-use Rattle.generated_modules.specs.declared.types.SlotTable.{SlotTable}
-use Rattle.generated_modules.specs.declared.types.SlotGlobal.{SlotGlobal}
-use Rattle.generated_modules.specs.Sections.{SectionValue, file}
-use Rattle.generated_modules.specs.declared.sections.Progress.{Progress}
+use Rattle.generated_sections.specs.declared.types.Held.TheVariants as helds
+use Rattle.generated_sections.specs.declared.types.HeldGlobal.{HeldGlobal}
+use Rattle.generated_sections.specs.declared.types.SlotTable.{SlotTable}
+use Rattle.generated_sections.specs.declared.types.SlotGlobal.{SlotGlobal}
+use Rattle.generated_sections.specs.Sections.{SectionValue, file, nothing}
 use Rattle.generated_modules.specs.Parts.{PartsValue, parts_of, parts_value}
 use Rattle.generated_modules.specs.declared.module.GeneratedModule.{GeneratedModule}
 
@@ -206,9 +205,6 @@ pub record IsShape (p : PartsValue) (s : Shape) : Type 0 where
   pub parts : s.parts ≡ p
   pub bodies : AreOwn p 0 p.functions p.code s.bodies
   pub hangs : hangs_together s ≡ true
-
-abbrev pub nothing : Progress
-nothing = record { spaces = record { types = 0; functions = 0; tables = 0; memories = 0; globals = 0 }; rank = 0 }
 
 -- the bytes are a generated module of this shape
 pub record IsGenerated (bytes : List ℕ) (s : Shape) : Type 0 where

@@ -9,7 +9,7 @@ ghost use Rattle.generated_modules.specs.Parts.{parts_value};
 ghost use Rattle.generated_modules.specs.Shape as spec;
 
 use crate::parts::Parts;
-use crate::types::Held;
+use generated_sections::Held;
 use wasm_bodies::{GeneratedBody, HookCall, StartStep};
 use wasm_types::{Code, FuncType, ValType};
 

@@ -1,4 +1,4 @@
-//! Core modules that are generated: their shape, read and written.
+//! Core modules that are generated: what they are made of, and how it hangs together.
 #![tactic(auto)]
 
 mod fitting;
@@ -6,11 +6,10 @@ mod module;
 mod named;
 mod parts;
 mod reading;
-mod sections;
-mod types;
 
+pub use generated_sections::{
+    Held, HeldForm, HeldGlobal, Import, ImportType, Section, SlotGlobal, SlotTable,
+};
 pub use module::GeneratedModule;
 pub use parts::Parts;
 pub use reading::generated_shape;
-pub use sections::Section;
-pub use types::{Held, HeldForm, HeldGlobal, Import, ImportType, SlotGlobal, SlotTable};

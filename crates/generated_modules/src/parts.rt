@@ -2,13 +2,12 @@
 
 ghost use Rattle.std.specs.Prelude.{◌≡◌, [], map, OnOk, IfOk};
 ghost use Rattle.wasm_types.specs.Entries.{type_index_value};
-ghost use Rattle.generated_modules.specs.Types.{import_value};
-ghost use Rattle.generated_modules.specs.Sections.{section_value};
+ghost use Rattle.generated_sections.specs.Types.{import_value};
+ghost use Rattle.generated_sections.specs.Sections.{section_value};
 ghost use Rattle.generated_modules.specs.Parts as spec;
 ghost use Rattle.generated_modules.specs.Parts.{parts_value};
 
-use crate::sections::Section;
-use crate::types::{HeldGlobal, Import, ImportType, SlotGlobal, SlotTable};
+use generated_sections::{HeldGlobal, Import, ImportType, Section, SlotGlobal, SlotTable};
 use std::alloc::{AllocError, Global};
 use wasm_bodies::{Body, Bounded, ElementSegment};
 use wasm_types::{Export, FuncType, Limits, TypeIndex};

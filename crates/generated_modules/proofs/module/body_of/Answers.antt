@@ -1,4 +1,4 @@
-use Rattle.std.proofs.Common.{rules, List, Vec, Global}
+use Rattle.std.proofs.Common.{rules, Vec, Global}
 use Rattle.wasm_bodies.specs.declared.generated.StartStep.{StartStep}
 use Rattle.generated_modules.proofs.Owning.{start_does, no_value}
 use Rattle.generated_modules.proofs.module.body_of.Goals as goal

@@ -1,8 +1,7 @@
-use Rattle.std.proofs.Common.{rules, ◌≡◌, ◌∙◌, sym, ap, true, false, List, Vec, Global, map}
+use Rattle.std.proofs.Common.{◌∙◌, sym, Vec, Global, map}
 use Rattle.wasm_bodies.specs.declared.generated.GeneratedBody.{GeneratedBody}
-use Rattle.wasm_bodies.specs.Generated.{BodyShape, body_shape}
+use Rattle.wasm_bodies.specs.Generated.{body_shape}
 use Rattle.generated_modules.specs.Parts.{parts_value}
-use Rattle.generated_modules.specs.Shape.{Shape, hangs_together, IsShape}
 use Rattle.generated_modules.proofs.Owning.{value_is, other_shape}
 use Rattle.generated_modules.proofs.module.module_of.Goals as goal
 

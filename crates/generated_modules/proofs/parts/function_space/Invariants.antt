@@ -1,6 +1,6 @@
 use Rattle.std.proofs.Common.{◌≡◌, ◌++◌, map, flat_map, take}
 use Rattle.wasm_types.specs.Entries.{type_index_value}
-use Rattle.generated_modules.specs.Types.{import_value}
+use Rattle.generated_sections.specs.Types.{import_value}
 use Rattle.generated_modules.specs.Parts.{function_in}
 use Rattle.generated_modules.proofs.parts.function_space.Given as goal
 

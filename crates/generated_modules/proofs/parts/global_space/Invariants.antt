@@ -1,6 +1,6 @@
 use Rattle.std.proofs.Common.{◌≡◌, ◌++◌, map, flat_map, take}
-use Rattle.generated_modules.specs.Types.{import_value}
-use Rattle.generated_modules.specs.Parts.{global_in, slot_type}
+use Rattle.generated_sections.specs.Types.{import_value, slot_type}
+use Rattle.generated_modules.specs.Parts.{global_in}
 use Rattle.generated_modules.proofs.parts.global_space.Given as goal
 
 abbrev pub invariant-loop-import : goal.invariant-loop-import

@@ -1,5 +1,5 @@
 use Rattle.std.proofs.Common.{◌≡◌, map}
-use Rattle.generated_modules.specs.Sections.{section_value}
+use Rattle.generated_sections.specs.Sections.{section_value}
 use Rattle.generated_modules.specs.Parts.{parts_value, gathered}
 use Rattle.generated_modules.proofs.parts.parts_of.Given as goal
 

@@ -1,5 +1,5 @@
 use Rattle.std.proofs.Common.{◌≡◌, ◌++◌, map, flat_map, take}
-use Rattle.generated_modules.specs.Types.{import_value}
+use Rattle.generated_sections.specs.Types.{import_value}
 use Rattle.generated_modules.specs.Parts.{table_in}
 use Rattle.generated_modules.proofs.parts.table_space.Given as goal
 

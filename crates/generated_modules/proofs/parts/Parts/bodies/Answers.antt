@@ -1,4 +1,4 @@
-use Rattle.std.proofs.Common.{rules, ◌≡◌, ◌++◌, ◌∷◌, [], ◌<◌, ◌≤◌, ◌+◌, ◌∙◌, refl, suc, sym, ap, subst, length, map, arith, Some, List}
+use Rattle.std.proofs.Common.{◌≡◌, ◌++◌, ◌∷◌, [], ◌<◌, ◌≤◌, ◌+◌, ◌∙◌, refl, suc, sym, ap, subst, length, map, arith, Some, List}
 use Rattle.std.proofs.lemmas.List.{length-map, map_push, drop_all}
 use Rattle.wasm_types.specs.Entries.{type_index_value}
 use Rattle.wasm_bodies.specs.Bodies.{body_value}

@@ -1,5 +1,5 @@
-use Rattle.std.proofs.Common.{◌≡◌, ◌++◌, List, drop, map}
-use Rattle.wasm_bodies.specs.Generated.{BodyShape, body_shape}
+use Rattle.std.proofs.Common.{map}
+use Rattle.wasm_bodies.specs.Generated.{body_shape}
 use Rattle.generated_modules.specs.Parts.{parts_value}
 use Rattle.generated_modules.proofs.Owning.{Completes, Begins}
 use Rattle.generated_modules.proofs.parts.Parts.bodies.Given as goal

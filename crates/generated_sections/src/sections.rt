@@ -4,11 +4,12 @@ ghost use Rattle.std.specs.Prelude.{◌≡◌, map, IfSome, IsSome};
 ghost use Rattle.binary_grammar.specs.Fault.{Gives};
 ghost use Rattle.binary_grammar.specs.Syntax.{meaning, exactly, sized, vec};
 ghost use Rattle.wasm_sections.specs.declared.section.SectionId.TheVariants as id;
-ghost use Rattle.generated_modules.specs.Types.{import_value, kind_of_import};
-ghost use Rattle.generated_modules.specs.Sections as spec;
+ghost use Rattle.generated_sections.specs.Types.{import_value, kind_of_import};
+ghost use Rattle.generated_sections.specs.Sections as spec;
 
 use crate::types::{Import, ImportType, SlotGlobal, SlotTable};
-use binary_grammar::{Part, ReadError, Reader, Rule, Step, bounded_of};
+use binary_grammar::{Part, ReadError, Reader, Rule, Step, bounded_of, broken_at, steps_of};
+use std::alloc::Global;
 use wasm_bodies::{Body, Bounded, ElementSegment};
 use wasm_sections::{CustomName, Items, Kept, SectionId, Start, rank_of, section_id_of};
 use wasm_types::{Code, Export, ExportKind, FuncType, Limits, Spaces, TypeIndex};
@@ -206,8 +207,8 @@ fn section_of<'a>(
 impl<'a> Step<'a> for Section<'a> {
     type State = Progress;
 
-    ghost use Rattle.generated_modules.specs.declared.sections.Progress.{Progress};
-    ghost use Rattle.generated_modules.specs.Sections as spec;
+    ghost use Rattle.generated_sections.specs.declared.sections.Progress.{Progress};
+    ghost use Rattle.generated_sections.specs.Sections as spec;
 
     ghost Value = { spec.SectionValue };
 
@@ -236,4 +237,32 @@ impl<'a> Step<'a> for Section<'a> {
         state.rank = state.rank.max(rank_of(section.id()));
         Ok(section)
     }
+}
+
+const HEADER: [u8; 8] = [0, 0x61, 0x73, 0x6d, 1, 0, 0, 0];
+
+const NO_SPACES: Spaces = Spaces {
+    types: 0,
+    functions: 0,
+    tables: 0,
+    memories: 0,
+    globals: 0,
+};
+
+/// The sections of the generated module that the bytes are, in their order. Bytes that have no such sections break a rule, and
+/// are refused by the first that they break, and its place.
+#[tactic(auto, unfolding(crate::specs::Sections::file))]
+pub fn read_sections(alloc: Global, bytes: &[u8]) -> Result<Vec<Section<'_>>, ReadError>
+    ensures { Gives (λ v. map spec.section_value v.items) result ((meaning spec.file spec.nothing).read bytes.now) }
+{
+    let mut from = Reader::new(alloc, bytes);
+    let at = from.left();
+    if from.bytes(8)? != HEADER.as_slice() {
+        return Err(broken_at(Rule::Header, at));
+    }
+    let mut progress = Progress {
+        spaces: NO_SPACES,
+        rank: 0,
+    };
+    steps_of(&mut progress, &mut from)
 }

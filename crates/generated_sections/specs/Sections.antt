@@ -2,7 +2,7 @@
 use Rattle.std.specs.Prelude.{ℕ, ◌+◌, max, List, [], ◌∷◌, map, length, filter, Result, Ok, Err, Bool, nat_lt, ◌==◌, ◌||◌, bytes_eq, ◌<◌, ◌^◌}
 use Rattle.binary_grammar.specs.declared.fault.Rule.{Rule}
 use Rattle.binary_grammar.specs.declared.fault.Rule.TheVariants as rules
-use Rattle.binary_grammar.specs.Syntax.{Syntax, unbounded, bounded, ◌◂◌, ◌>>=◌, some_name, some_bytes, gives, refuses, tested, vec, sized, where_known, exactly, begins, keeping, steps, meaning}
+use Rattle.binary_grammar.specs.Syntax.{Syntax, unbounded, bounded, ◌◂◌, ◌>>=◌, some_name, some_bytes, gives, refuses, tested, vec, sized, where_known, exactly, begins, keeping, steps}
 use Rattle.wasm_types.specs.declared.spaces.Spaces.{Spaces}
 use Rattle.wasm_types.specs.declared.types.Limits.{Limits}
 use Rattle.wasm_types.specs.declared.types.ExportKind.{ExportKind}
@@ -13,15 +13,14 @@ use Rattle.wasm_sections.specs.declared.section.SectionId.{SectionId}
 use Rattle.wasm_sections.specs.declared.section.SectionId.TheVariants as id
 use Rattle.wasm_sections.specs.Module.{section_id_of, section_byte, rank_of, header}
 use Rattle.wasm_bodies.specs.declared.instructions.BodyInstruction.{BodyInstruction}
-use Rattle.wasm_bodies.specs.declared.bodies.Bounded.{Bounded}
 use Rattle.wasm_bodies.specs.Bodies.{body, body_value}
 use Rattle.wasm_bodies.specs.Segments.{ElementValue, element, element_value}
-use Rattle.generated_modules.specs.declared.types.SlotTable.{SlotTable}
-use Rattle.generated_modules.specs.declared.types.SlotGlobal.{SlotGlobal}
-use Rattle.generated_modules.specs.Types.{ImportValue, import_value, import_entry, slot_table, slot_global, kind_of_import}
-use Rattle.generated_modules.specs.declared.sections.Section.{Section}
-use Rattle.generated_modules.specs.declared.sections.Section.TheVariants as code
-use Rattle.generated_modules.specs.declared.sections.Progress.{Progress}
+use Rattle.generated_sections.specs.declared.types.SlotTable.{SlotTable}
+use Rattle.generated_sections.specs.declared.types.SlotGlobal.{SlotGlobal}
+use Rattle.generated_sections.specs.Types.{ImportValue, import_value, import_entry, slot_table, slot_global, kind_of_import}
+use Rattle.generated_sections.specs.declared.sections.Section.{Section}
+use Rattle.generated_sections.specs.declared.sections.Section.TheVariants as code
+use Rattle.generated_sections.specs.declared.sections.Progress.{Progress}
 
 -- a section, by what it holds
 pub data SectionValue : Type 0 where
@@ -186,6 +185,10 @@ next b = behind (section_id_of b)
 
 abbrev pub byte_of : SectionValue → ℕ
 byte_of s = section_byte (id_of s)
+
+-- where no section stands yet
+abbrev pub nothing : Progress
+nothing = record { spaces = record { types = 0; functions = 0; tables = 0; memories = 0; globals = 0 }; rank = 0 }
 
 unfoldable pub file : Syntax bounded Progress (List SectionValue)
 file = do

@@ -2,7 +2,7 @@ use Rattle.std.proofs.Common.{◌≡◌, ◌^◌, true, sym, subst, SFits, w64, 
 use Rattle.std.proofs.lemmas.Int.{to_z-of_z}
 use Rattle.binary_grammar.specs.Signed.{lies_in}
 use Rattle.wasm_types.proofs.Integers.{signed_lies}
-use Rattle.generated_modules.proofs.types.referred.Goals as goal
+use Rattle.generated_sections.proofs.types.referred.Goals as goal
 
 pub referred_at-requires : goal.referred_at-requires
 referred_at-requires c =

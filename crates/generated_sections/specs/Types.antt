@@ -6,23 +6,22 @@ use Rattle.binary_grammar.specs.declared.fault.Rule.TheVariants as rules
 use Rattle.binary_grammar.specs.Syntax.{◌◂◌, ◌>>=◌, number, signed_number, some_name, byte_is, gives, tested, judged}
 use Rattle.wasm_types.specs.declared.spaces.Spaces.{Spaces}
 use Rattle.wasm_types.specs.declared.types.ValType.TheVariants as values
-use Rattle.wasm_types.specs.declared.types.Mutability.{Mutability}
 use Rattle.wasm_types.specs.declared.types.Mutability.TheVariants as mutabilities
 use Rattle.wasm_types.specs.declared.types.ExportKind.{ExportKind}
 use Rattle.wasm_types.specs.declared.types.ExportKind.TheVariants as kinds
 use Rattle.wasm_types.specs.declared.types.Limits.{Limits}
 use Rattle.wasm_types.specs.Code.{coded}
 use Rattle.wasm_types.specs.Types.{Grammar, index, val_type_of, val_type_byte, mutability_of, mutability_byte, kind_of, kind_byte, limits, no_limits}
-use Rattle.generated_modules.specs.declared.types.HeldForm.{HeldForm}
-use Rattle.generated_modules.specs.declared.types.HeldForm.TheVariants as forms
-use Rattle.generated_modules.specs.declared.types.Held.{Held}
-use Rattle.generated_modules.specs.declared.types.Held.TheVariants as helds
-use Rattle.generated_modules.specs.declared.types.HeldGlobal.{HeldGlobal}
-use Rattle.generated_modules.specs.declared.types.SlotTable.{SlotTable}
-use Rattle.generated_modules.specs.declared.types.SlotGlobal.{SlotGlobal}
-use Rattle.generated_modules.specs.declared.types.ImportType.{ImportType}
-use Rattle.generated_modules.specs.declared.types.ImportType.TheVariants as asked
-use Rattle.generated_modules.specs.declared.types.Import.{Import}
+use Rattle.generated_sections.specs.declared.types.HeldForm.{HeldForm}
+use Rattle.generated_sections.specs.declared.types.HeldForm.TheVariants as forms
+use Rattle.generated_sections.specs.declared.types.Held.{Held}
+use Rattle.generated_sections.specs.declared.types.Held.TheVariants as helds
+use Rattle.generated_sections.specs.declared.types.HeldGlobal.{HeldGlobal}
+use Rattle.generated_sections.specs.declared.types.SlotTable.{SlotTable}
+use Rattle.generated_sections.specs.declared.types.SlotGlobal.{SlotGlobal}
+use Rattle.generated_sections.specs.declared.types.ImportType.{ImportType}
+use Rattle.generated_sections.specs.declared.types.ImportType.TheVariants as asked
+use Rattle.generated_sections.specs.declared.types.Import.{Import}
 
 -- ---- references
 
@@ -93,6 +92,10 @@ slot_global = do
   form ← (λ _. 0x64) ◂ byte_is rules.Unsupported 0x64
   t ← (λ g. g.ty) ◂ referred
   begun_at t
+
+-- a slot as a global
+abbrev pub slot_type : SlotGlobal → HeldGlobal
+slot_type g = record { held = helds.Reference g.ty; mutability = mutabilities.Var }
 
 -- ---- imports
 

@@ -4,8 +4,7 @@ ghost use Rattle.std.specs.Prelude.{◌≡◌, ◌^◌, true};
 ghost use Rattle.binary_grammar.specs.Fault.{Gives};
 ghost use Rattle.binary_grammar.specs.Signed.{lies_in};
 ghost use Rattle.binary_grammar.specs.Syntax.{meaning};
-ghost use Rattle.generated_modules.specs.Parts.{slot_type};
-ghost use Rattle.generated_modules.specs.Types as spec;
+ghost use Rattle.generated_sections.specs.Types as spec;
 
 use binary_grammar::{
     Part, ReadError, Reader, Rule, WriteFault, broken_at, put_name, put_number, put_signed,
@@ -82,7 +81,7 @@ pub struct Import<'a> {
 impl SlotGlobal {
     /// Its type.
     pub fn as_held(self) -> HeldGlobal
-        ensures { result ≡ slot_type self }
+        ensures { result ≡ spec.slot_type self }
     {
         HeldGlobal {
             held: Held::Reference(self.ty),
@@ -160,8 +159,8 @@ impl<'a> Part<'a> for Held {
     type Context = Spaces;
 
     ghost use Rattle.wasm_types.specs.declared.spaces.Spaces.{Spaces};
-    ghost use Rattle.generated_modules.specs.declared.types.Held.{Held};
-    ghost use Rattle.generated_modules.specs.Types as spec;
+    ghost use Rattle.generated_sections.specs.declared.types.Held.{Held};
+    ghost use Rattle.generated_sections.specs.Types as spec;
 
     ghost Value = { Held };
 
@@ -198,8 +197,8 @@ impl<'a> Part<'a> for HeldGlobal {
     type Context = Spaces;
 
     ghost use Rattle.wasm_types.specs.declared.spaces.Spaces.{Spaces};
-    ghost use Rattle.generated_modules.specs.declared.types.HeldGlobal.{HeldGlobal};
-    ghost use Rattle.generated_modules.specs.Types as spec;
+    ghost use Rattle.generated_sections.specs.declared.types.HeldGlobal.{HeldGlobal};
+    ghost use Rattle.generated_sections.specs.Types as spec;
 
     ghost Value = { HeldGlobal };
 
@@ -230,8 +229,8 @@ impl<'a> Part<'a> for SlotTable {
     type Context = Spaces;
 
     ghost use Rattle.wasm_types.specs.declared.spaces.Spaces.{Spaces};
-    ghost use Rattle.generated_modules.specs.declared.types.SlotTable.{SlotTable};
-    ghost use Rattle.generated_modules.specs.Types as spec;
+    ghost use Rattle.generated_sections.specs.declared.types.SlotTable.{SlotTable};
+    ghost use Rattle.generated_sections.specs.Types as spec;
 
     ghost Value = { SlotTable };
 
@@ -281,8 +280,8 @@ impl<'a> Part<'a> for SlotGlobal {
     type Context = Spaces;
 
     ghost use Rattle.wasm_types.specs.declared.spaces.Spaces.{Spaces};
-    ghost use Rattle.generated_modules.specs.declared.types.SlotGlobal.{SlotGlobal};
-    ghost use Rattle.generated_modules.specs.Types as spec;
+    ghost use Rattle.generated_sections.specs.declared.types.SlotGlobal.{SlotGlobal};
+    ghost use Rattle.generated_sections.specs.Types as spec;
 
     ghost Value = { SlotGlobal };
 
@@ -316,8 +315,8 @@ impl<'a> Part<'a> for ImportType {
     type Context = Spaces;
 
     ghost use Rattle.wasm_types.specs.declared.spaces.Spaces.{Spaces};
-    ghost use Rattle.generated_modules.specs.declared.types.ImportType.{ImportType};
-    ghost use Rattle.generated_modules.specs.Types as spec;
+    ghost use Rattle.generated_sections.specs.declared.types.ImportType.{ImportType};
+    ghost use Rattle.generated_sections.specs.Types as spec;
 
     ghost Value = { ImportType };
 
@@ -367,7 +366,7 @@ impl<'a> Part<'a> for Import<'a> {
     type Context = Spaces;
 
     ghost use Rattle.wasm_types.specs.declared.spaces.Spaces.{Spaces};
-    ghost use Rattle.generated_modules.specs.Types as spec;
+    ghost use Rattle.generated_sections.specs.Types as spec;
 
     ghost Value = { spec.ImportValue };
 

@@ -1,0 +1,8 @@
+//! Sections of core modules that are generated, and the types in them, read and written.
+#![tactic(auto)]
+
+mod sections;
+mod types;
+
+pub use sections::{Progress, Section, read_sections};
+pub use types::{Held, HeldForm, HeldGlobal, Import, ImportType, SlotGlobal, SlotTable};
