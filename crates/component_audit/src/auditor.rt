@@ -49,6 +49,22 @@ pub fn judge(alloc: Global, linking: &Linking, bytes: &[u8]) -> Result<Verdict, 
     ensures cause { IfErr result (IsJudgeCause (view.linking linking.now) bytes.now) }
 {
     let table = table_of(alloc, linking)?;
+    judge_bytes(alloc, linking, &table, bytes)
+}
+
+/// Judges bytes, where this is the link table.
+fn judge_bytes(
+    alloc: Global,
+    linking: &Linking,
+    table: &Table,
+    bytes: &[u8],
+) -> Result<Verdict, Fault>
+    requires fits { world_fits (view.linking linking.now).world ≡ true }
+    requires places { ArePlaces (view.linking linking.now) (view.places table.now) }
+    requires linkable { IsLinkable (view.linking linking.now) }
+    ensures verdict { IfOk result (Says (view.linking linking.now) bytes.now) }
+    ensures cause { IfErr result (IsJudgeCause (view.linking linking.now) bytes.now) }
+{
     let definitions = match read_definitions(alloc, bytes) {
         Ok(definitions) => definitions,
         Err(ReadError::Memory) => return Err(Fault::OutOfMemory),
@@ -57,7 +73,7 @@ pub fn judge(alloc: Global, linking: &Linking, bytes: &[u8]) -> Result<Verdict, 
     let Some(known) = known_definitions(alloc, &definitions)? else {
         return Err(Fault::NotYet);
     };
-    judge_component(alloc, linking, &table, &known, bytes.len())
+    judge_component(alloc, linking, table, &known, bytes.len())
 }
 
 /// What is said of bytes that break a rule of the grammar of components: F1, and where.

@@ -1,10 +1,10 @@
 //! Making a component, one definition after the other.
 
-ghost use Rattle.std.specs.Prelude.{◌≡◌, ◌<◌, ◌≤◌, ◌^◌, ◌++◌, ◌∷◌, [], length, map, take, IfOk, OnOk, OnErr, Err};
+ghost use Rattle.std.specs.Prelude.{◌≡◌, ◌<◌, ◌≤◌, ◌^◌, ◌++◌, ◌∷◌, [], length, map, take, IfOk, IfErr, OnOk, OnErr, Err};
 ghost use Rattle.std.specs.Io.KnownBytes.{Appends};
 ghost use Rattle.binary_grammar.specs.declared.writing.WriteFault.TheVariants as writes;
 ghost use Rattle.binary_grammar.specs.Syntax.{bytes, IsTyped};
-ghost use Rattle.component_definitions.specs.Counting.{count_in};
+ghost use Rattle.component_definitions.specs.Counting as counting;
 ghost use Rattle.component_sections.specs.Component.{definition_value, component, Follow, IsComponent};
 ghost use Rattle.component_entries.specs.Entries.{nothing};
 ghost use Rattle.component_builder.specs.declared.builder.WriteToFault.TheVariants as faults;
@@ -13,7 +13,7 @@ ghost use Rattle.component_builder.specs.Builder as spec;
 use crate::output::EmitFault;
 use crate::pieces::pieces_of;
 use binary_grammar::WriteFault;
-use component_definitions::{count_in, with_one};
+use component_definitions::{IndexSpace, count_in, with_one};
 use component_sections::Definition;
 use component_value_types::{NO_SCOPE, Scope};
 use std::alloc::Global;
@@ -66,6 +66,18 @@ pub fn write_definitions(
     Ok(pieces.joined(alloc)?)
 }
 
+/// The index that one more takes in an index space, and what is there with it.
+fn next_in(there: Scope, space: IndexSpace) -> Result<(u32, Scope), WriteFault>
+    ensures next { IfOk result (λ r. (r.0 ≡ counting.count_in there space) × (r.1 ≡ counting.with_one there space)) }
+    ensures cause { IfErr result (λ e. (e ≡ WriteFault.TooLarge) × (2 ^ 32 ≤ counting.count_in there space)) }
+{
+    let Ok(index) = u32::try_from(count_in(there, space)) else {
+        return Err(WriteFault::TooLarge);
+    };
+    let scope = with_one(there, space).ok_or(WriteFault::TooLarge)?;
+    Ok((index, scope))
+}
+
 impl<'a> ComponentBuilder<'a> {
     /// No definitions.
     pub fn new(alloc: Global) -> ComponentBuilder<'a>
@@ -86,13 +98,7 @@ impl<'a> ComponentBuilder<'a> {
         ensures err { OnErr result (self.new ≡ self.old) }
         ensures large { result ≡ Err WriteFault.TooLarge → 2 ^ 32 ≤ spec.index_behind self.old (definition_value definition.entry) }
     {
-        let space = definition.space();
-        let Ok(index) = u32::try_from(count_in(self.scope, space)) else {
-            return Err(WriteFault::TooLarge);
-        };
-        let Some(scope) = with_one(self.scope, space) else {
-            return Err(WriteFault::TooLarge);
-        };
+        let (index, scope) = next_in(self.scope, definition.space())?;
         self.definitions.push(definition)?;
         self.scope = scope;
         Ok(index)

@@ -4,7 +4,7 @@ ghost use Rattle.std.specs.Prelude.{◌≡◌, ◌⊎◌, ◌||◌, ◌&&◌, �
 ghost use Rattle.std.specs.List.{list_any};
 ghost use Rattle.distinct_names.specs.Names.{is_new};
 ghost use Rattle.wit_component.specs.Candidates.{candidates, with_one, joined, Stands, Notes, has_hook, has_post_return, named_by, NameAdded, IsNameCause};
-ghost use Rattle.wit_component.specs.Cause.{IsImportCause, IsExportCause, IsLinkCause, IsLinkable, RepeatsPair};
+ghost use Rattle.wit_component.specs.Cause.{IsImportCause, IsExportCause, IsLinkCause, IsLinkable, IsStillToCome, RepeatsPair};
 ghost use Rattle.wit_component.specs.CoreNames.{root, standard, is_export_name, is_memory_name, is_outer_memory};
 ghost use Rattle.wit_component.specs.Linking.{core_import};
 ghost use Rattle.wit_component.specs.Places.{ImportPlace, ExportPlace, Placed, names_under, ArePlaces};
@@ -111,21 +111,32 @@ fn text_of(alloc: Global, front: &str, back: &str) -> Result<String, AllocError>
     Ok(text)
 }
 
-/// The link table. Answers X1 where the module asks for, or offers, what is still to come, and B7 to B12.
-pub fn table_of<'a>(alloc: Global, linking: &Linking<'_, 'a>) -> Result<Table<'a>, Fault>
-    ensures found { IfOk result (λ t. ArePlaces (view.linking linking.now) (view.places t)) }
-    ensures linkable { IfOk result (λ t. IsLinkable (view.linking linking.now)) }
+/// The places of the core exports of what the world exports. Answers X1 where the module asks for, or offers, what is still
+/// to come.
+fn checked_exports(alloc: Global, linking: &Linking) -> Result<Vec<usize>, Fault>
+    ensures places { IfOk result (λ v. Placed (ExportPlace (view.linking linking.now)) (view.linking linking.now).world.exports v.items) }
+    ensures plain { IfOk result (λ v. IsStillToCome (view.linking linking.now) → ⊥) }
     ensures cause { IfErr result (IsLinkCause (view.linking linking.now)) }
 {
     let texts = texts_of(alloc, &linking.main.exports)?;
     if is_still_to_come(alloc, linking, &texts)? {
         return Err(Fault::NotYet);
     }
+    export_places(alloc, linking, &texts)
+}
+
+/// The link table. Answers X1 where the module asks for, or offers, what is still to come, and B7 to B12.
+pub fn table_of<'a>(alloc: Global, linking: &Linking<'_, 'a>) -> Result<Table<'a>, Fault>
+    ensures found { IfOk result (λ t. ArePlaces (view.linking linking.now) (view.places t)) }
+    ensures linkable { IfOk result (λ t. IsLinkable (view.linking linking.now)) }
+    ensures cause { IfErr result (IsLinkCause (view.linking linking.now)) }
+{
+    let exports = checked_exports(alloc, linking)?;
     let mut table = Table {
         legacy: Names::new(alloc),
         standard: Names::new(alloc),
         imports: Vec::new(alloc),
-        exports: export_places(alloc, linking, &texts)?,
+        exports,
     };
     add_imports(alloc, linking, &mut table)?;
     Ok(table)

@@ -1,2 +1,3 @@
 pub mod ItemLaws
+pub mod ItemParts
 pub mod ItemBreaks

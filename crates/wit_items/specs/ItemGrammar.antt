@@ -14,6 +14,13 @@ use Rattle.wit_productions.specs.TypeTree.{TypeTree}
 
 -- ---- attributes
 
+-- (name =
+unfoldable pub argument : List ℕ → Production (Unit {0})
+argument name = do
+  sign kind.LeftParenthesis
+  word name
+  sign kind.Equals
+
 -- (version = version)
 unfoldable pub version_argument : Production Slice
 version_argument = do
@@ -211,6 +218,10 @@ method = do
 
 unfoldable pub resource_func : Production ResourceFuncTree
 resource_func = branch kind.Constructor constructor_behind method
+
+-- ; or { function .. }
+unfoldable pub resource_funcs : Production (List (GatedTree ResourceFuncTree))
+resource_funcs = branch kind.Semicolon (yield []) (sign kind.LeftBrace >> until (gated resource_func) kind.RightBrace)
 
 -- name; or name { function .. }
 unfoldable pub resource_behind : Production TypeDefTree

@@ -19,28 +19,32 @@ use wit_tokens::{Kind, Rule, Token};
 
 // ---- attributes
 
-#[tactic(auto, unfolding(crate::specs::ItemGrammar::version_argument))]
+/// What stands in front of the value of a gate's argument, up to the `=`.
+#[tactic(auto, unfolding(crate::specs::ItemGrammar::argument))]
+fn argument(name: &str, tokens: &mut Cursor<'_, '_>) -> Result<(), ReadError>
+    ensures { Reads (λ x. x) result tokens.new ((spec.argument name.now).read tokens.old) }
+{
+    tokens.expect(Kind::LeftParenthesis)?;
+    tokens.word(name)?;
+    tokens.expect(Kind::Equals)
+}
+
+#[tactic(auto, using(crate::proofs::ItemParts::version_argument_reads))]
 fn version_argument<'a>(tokens: &mut Cursor<'_, 'a>) -> Result<Version<'a>, ReadError>
     ensures { Reads view.version result tokens.new (spec.version_argument.read tokens.old) }
 {
-    tokens.expect(Kind::LeftParenthesis)?;
-    tokens.word("version")?;
-    tokens.expect(Kind::Equals)?;
+    argument("version", tokens)?;
     let version = tokens.version()?;
-    tokens.expect(Kind::RightParenthesis)?;
-    Ok(version)
+    tokens.expect(Kind::RightParenthesis).and(Ok(version))
 }
 
-#[tactic(auto, unfolding(crate::specs::ItemGrammar::feature_argument))]
+#[tactic(auto, using(crate::proofs::ItemParts::feature_argument_reads))]
 fn feature_argument<'a>(tokens: &mut Cursor<'_, 'a>) -> Result<Id<'a>, ReadError>
     ensures { Reads view.id result tokens.new (spec.feature_argument.read tokens.old) }
 {
-    tokens.expect(Kind::LeftParenthesis)?;
-    tokens.word("feature")?;
-    tokens.expect(Kind::Equals)?;
+    argument("feature", tokens)?;
     let feature = tokens.id()?;
-    tokens.expect(Kind::RightParenthesis)?;
-    Ok(feature)
+    tokens.expect(Kind::RightParenthesis).and(Ok(feature))
 }
 
 /// What stands behind the `@` of an attribute.
@@ -153,8 +157,7 @@ fn use_names<'a>(alloc: Global, tokens: &mut Cursor<'_, 'a>) -> Result<Vec<UseNa
     let mut names = Vec::new(alloc);
     names.push(first)?;
     if !tokens.eat(Kind::Comma) {
-        tokens.expect(Kind::RightBrace)?;
-        return Ok(names);
+        return tokens.expect(Kind::RightBrace).and(Ok(names));
     }
     let mut more = commas::<UseName<'a>>(alloc, Kind::RightBrace, tokens)?;
     names.append(&mut more)?;
@@ -170,8 +173,7 @@ pub fn use_behind<'a>(alloc: Global, tokens: &mut Cursor<'_, 'a>) -> Result<Use<
     tokens.expect(Kind::Dot)?;
     tokens.expect(Kind::LeftBrace)?;
     let names = use_names(alloc, tokens)?;
-    tokens.expect(Kind::Semicolon)?;
-    Ok(Use { from, names })
+    tokens.expect(Kind::Semicolon).and(Ok(Use { from, names }))
 }
 
 /// What stands behind `use` at the top of a file or package.
@@ -181,8 +183,9 @@ pub fn toplevel_use_behind<'a>(tokens: &mut Cursor<'_, 'a>) -> Result<ToplevelUs
 {
     let item = use_path(tokens)?;
     let as_ = as_id(tokens)?;
-    tokens.expect(Kind::Semicolon)?;
-    Ok(ToplevelUse { item, as_ })
+    tokens
+        .expect(Kind::Semicolon)
+        .and(Ok(ToplevelUse { item, as_ }))
 }
 
 // ---- functions
@@ -264,6 +267,7 @@ pub fn named_func_behind<'a>(
     ensures { Reads view.named_func result tokens.new ((spec.named_func_behind (view.id name.entry)).read tokens.old) }
 {
     let func = func(alloc, tokens)?;
-    tokens.expect(Kind::Semicolon)?;
-    Ok(NamedFunc { name, func })
+    tokens
+        .expect(Kind::Semicolon)
+        .and(Ok(NamedFunc { name, func }))
 }

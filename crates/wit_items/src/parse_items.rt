@@ -9,7 +9,7 @@ ghost use Rattle.wit_productions.specs.TypeView.{type_tree};
 ghost use Rattle.wit_words.specs.declared.token.Kind.TheVariants as kind;
 
 use crate::items::{
-    Case, EnumCase, Field, Flag, Gated, Interface, InterfaceItem, ResourceFunc, TypeDef,
+    Case, EnumCase, Field, Flag, Gated, Interface, InterfaceItem, Param, ResourceFunc, TypeDef,
     TypeDefKind,
 };
 use crate::parse::{arrow, named_func_behind, params, use_behind};
@@ -26,9 +26,10 @@ fn alias_behind<'a>(alloc: Global, tokens: &mut Cursor<'_, 'a>) -> Result<TypeDe
     let name = tokens.id()?;
     tokens.expect(Kind::Equals)?;
     let ty = any_type(alloc, tokens)?;
-    tokens.expect(Kind::Semicolon)?;
     let kind = TypeDefKind::Alias(ty);
-    Ok(TypeDef { name, kind })
+    tokens
+        .expect(Kind::Semicolon)
+        .and(Ok(TypeDef { name, kind }))
 }
 
 impl<'a> Part<'a> for Field<'a> {
@@ -42,12 +43,10 @@ impl<'a> Part<'a> for Field<'a> {
 
     ghost tree = { view.field };
 
-    #[tactic(auto, unfolding(crate::specs::ItemGrammar::field, crate::specs::ItemGrammar::param, wit_productions::specs::Production::documented))]
+    #[tactic(auto, unfolding(crate::specs::ItemGrammar::field, wit_productions::specs::Production::documented))]
     fn parse(alloc: Global, tokens: &mut Cursor<'_, 'a>) -> Result<Field<'a>, ReadError> {
         let docs = tokens.docs(alloc)?;
-        let name = tokens.id()?;
-        tokens.expect(Kind::Colon)?;
-        let ty = any_type(alloc, tokens)?;
+        let Param { name, ty } = Param::parse(alloc, tokens)?;
         Ok(Field { docs, name, ty })
     }
 }
@@ -97,8 +96,7 @@ fn carried<'a>(alloc: Global, tokens: &mut Cursor<'_, 'a>) -> Result<Option<Type
 {
     if tokens.eat(Kind::LeftParenthesis) {
         let ty = any_type(alloc, tokens)?;
-        tokens.expect(Kind::RightParenthesis)?;
-        return Ok(Some(ty));
+        return tokens.expect(Kind::RightParenthesis).and(Ok(Some(ty)));
     }
     Ok(None)
 }
@@ -133,8 +131,9 @@ fn constructor_behind<'a>(
 {
     let params = params(alloc, tokens)?;
     let result = arrow(alloc, tokens)?;
-    tokens.expect(Kind::Semicolon)?;
-    Ok(ResourceFunc::Constructor { params, result })
+    tokens
+        .expect(Kind::Semicolon)
+        .and(Ok(ResourceFunc::Constructor { params, result }))
 }
 
 /// A method or a static function.
@@ -173,19 +172,28 @@ impl<'a> Part<'a> for ResourceFunc<'a> {
     }
 }
 
+/// The functions of a resource, in braces, or none.
+#[tactic(auto, unfolding(crate::specs::ItemGrammar::resource_funcs, wit_productions::specs::Production::branch), using(crate::proofs::ItemLaws::resource_func_takes))]
+fn resource_funcs<'a>(
+    alloc: Global,
+    tokens: &mut Cursor<'_, 'a>,
+) -> Result<Vec<Gated<'a, ResourceFunc<'a>>>, ReadError>
+    ensures { Reads (λ v. map (view.gated view.resource_func) v.items) result tokens.new (spec.resource_funcs.read tokens.old) }
+{
+    if tokens.eat(Kind::Semicolon) {
+        return Ok(Vec::new(alloc));
+    }
+    tokens.expect(Kind::LeftBrace)?;
+    until::<Gated<'a, ResourceFunc<'a>>>(alloc, Kind::RightBrace, tokens)
+}
+
 /// What stands behind `resource`.
-#[tactic(auto, unfolding(crate::specs::ItemGrammar::resource_behind, wit_productions::specs::Production::branch), using(crate::proofs::ItemLaws::resource_func_takes))]
+#[tactic(auto, using(crate::proofs::ItemParts::resource_reads))]
 fn resource_behind<'a>(alloc: Global, tokens: &mut Cursor<'_, 'a>) -> Result<TypeDef<'a>, ReadError>
     ensures { Reads view.type_def result tokens.new (spec.resource_behind.read tokens.old) }
 {
     let name = tokens.id()?;
-    if tokens.eat(Kind::Semicolon) {
-        let kind = TypeDefKind::Resource(Vec::new(alloc));
-        return Ok(TypeDef { name, kind });
-    }
-    tokens.expect(Kind::LeftBrace)?;
-    let functions = until::<Gated<'a, ResourceFunc<'a>>>(alloc, Kind::RightBrace, tokens)?;
-    let kind = TypeDefKind::Resource(functions);
+    let kind = TypeDefKind::Resource(resource_funcs(alloc, tokens)?);
     Ok(TypeDef { name, kind })
 }
 
@@ -276,13 +284,11 @@ fn definition<'a>(
     };
     match token {
         Token::Plain(keyword) => {
-            let def = type_def_behind(alloc, keyword, left, tokens)?;
-            Ok(InterfaceItem::TypeDef(def))
+            type_def_behind(alloc, keyword, left, tokens).map(InterfaceItem::TypeDef)
         }
         Token::Id(name) | Token::ExplicitId(name) => {
             tokens.expect(Kind::Colon)?;
-            let func = named_func_behind(alloc, Id { name, span }, tokens)?;
-            Ok(InterfaceItem::Func(func))
+            named_func_behind(alloc, Id { name, span }, tokens).map(InterfaceItem::Func)
         }
         _ => Err(fault_at(Rule::Unexpected, left)),
     }

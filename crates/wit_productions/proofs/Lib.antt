@@ -18,3 +18,5 @@ pub mod Causes
 pub mod Loops
 pub mod Decimals
 pub mod TypeViews
+pub mod Steps
+pub mod TypeParts

@@ -1,11 +1,12 @@
 -- Lists, as a loop reads them.
-use Rattle.std.proofs.Common.{◌≡◌, ◌<◌, ◌≤◌, length, arith, true, false, List, [], ◌∷◌, ◌++◌, Ok, Err, refl, sym, ap, ◌∙◌, append_assoc, append-nil}
+use Rattle.std.proofs.Common.{◌≡◌, ◌<◌, ◌≤◌, length, arith, true, false, List, [], ◌∷◌, ◌++◌, Result, Ok, Err, refl, sym, ap, ◌∙◌, append_assoc, append-nil}
+use Rattle.std.specs.Result.{result_and}
 use Rattle.wit_productions.specs.declared.fault.ReadError.{ReadError}
 use Rattle.wit_productions.specs.declared.fault.ReadError.TheVariants as errors
 use Rattle.wit_words.specs.declared.token.Kind.{Kind}
 use Rattle.wit_words.specs.declared.token.Kind.TheVariants as kind
 use Rattle.wit_words.specs.Token.{Tok}
-use Rattle.wit_productions.specs.Production.{Outcome, Production, Takes, Fails, and_then, sees, after, sign, branch, commas, until, at_end_at, all_step, all, many, ◌>>=◌, yield, onto}
+use Rattle.wit_productions.specs.Production.{Outcome, Production, Takes, Reads, Fails, and_then, sees, after, sign, branch, commas, until, at_end_at, all_step, all, many, ◌>>=◌, yield, onto}
 use Rattle.wit_productions.proofs.Laws.{after_unseen}
 use Rattle.wit_productions.proofs.Turns.{comma_turn, until_turn, all_turn, many_turn}
 
@@ -33,14 +34,12 @@ module _ {A : Type 0} (item : Production A) (shut : Kind) (takes : Takes item)
     unfolding branch
     goes_on seen = so_far ∙ ap (onto found) (comma_turn item shut takes ts) ∙ rw (unseen, (rw (after_unseen shut ts unseen) at read)) (rw seen (onto_more found x ((commas item shut).read (after kind.Comma mid))))
 
-    pub last : {u : Unit {0}} (rest : List Tok) → sees kind.Comma mid ≡ false → (sign shut).read (after kind.Comma mid) ≡ Ok (u, rest) → total ≡ Ok (found ++ x ∷ [], rest)
+    pub last : {V : Type 0} (view : V → List A) (v : V) (r : Result (Unit {0}) ReadError) (rest : List Tok) → view v ≡ found ++ x ∷ [] → sees kind.Comma mid ≡ false
+        → Reads (λ u. u) r rest ((sign shut).read (after kind.Comma mid)) → Reads view (result_and r (Ok v)) rest total
     unfolding branch
-    last rest none h = so_far ∙ ap (onto found) (comma_turn item shut takes ts) ∙ rw (unseen, (rw (after_unseen shut ts unseen) at read)) (rw none (rw (rw (after_unseen kind.Comma mid none) at h) refl))
-
-    pub last_fails : (e : ReadError) → sees kind.Comma mid ≡ false → Fails e ((sign shut).read (after kind.Comma mid)) → Fails e total
-    unfolding branch
-    last_fails errors.Memory none h = tt
-    last_fails (errors.Malformed f) none h = so_far ∙ ap (onto found) (comma_turn item shut takes ts) ∙ rw (unseen, (rw (after_unseen shut ts unseen) at read)) (rw none (rw (rw (after_unseen kind.Comma mid none) at h) refl))
+    last view v (Ok u) rest more none h = so_far ∙ ap (onto found) (comma_turn item shut takes ts) ∙ rw (unseen, (rw (after_unseen shut ts unseen) at read)) (rw (none, more) (rw (rw (after_unseen kind.Comma mid none) at h) refl))
+    last view v (Err errors.Memory) rest more none h = tt
+    last view v (Err (errors.Malformed f)) rest more none h = so_far ∙ ap (onto found) (comma_turn item shut takes ts) ∙ rw (unseen, (rw (after_unseen shut ts unseen) at read)) (rw none (rw (rw (after_unseen kind.Comma mid none) at h) refl))
 
 -- The same of a list up to a closing sign.
 module _ {A : Type 0} (item : Production A) (shut : Kind) (takes : Takes item)

@@ -36,7 +36,31 @@ length_in _ = Err rules.Unexpected
 unfoldable pub list_len : Production ℕ
 list_len = one length_in
 
+-- the length of a list if it has one, and what closes the list
+unfoldable pub list_end : Production (Option ℕ)
+list_end = do
+  n ← optional kind.Comma list_len
+  sign kind.GreaterThan
+  yield n
+
 -- ---- what stands behind the keyword of a type, whose parts are of the production inner
+
+-- the last part, and what closes the type
+unfoldable pub last_part : Production TypeTree → Production TypeTree
+last_part inner = do
+  t ← inner
+  sign kind.GreaterThan
+  yield t
+
+-- another part if there is one, and what closes the type
+unfoldable pub second_part : Production TypeTree → Production (Option TypeTree)
+second_part inner = branch kind.Comma
+    (do
+      t ← last_part inner
+      yield (Some t))
+    (do
+      sign kind.GreaterThan
+      yield None)
 
 -- list<type>, or list<type, number>
 unfoldable pub list_after : Production TypeTree → Production TypeShape

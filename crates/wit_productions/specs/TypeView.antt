@@ -48,3 +48,6 @@ type_shape = fold-TypeKind TypeShape TypeTree kind_layer type_layer
 
 abbrev pub type_tree : «Type» → TypeTree
 type_tree = fold-Type TypeShape TypeTree kind_layer type_layer
+
+abbrev pub boxed_tree : Box «Type» Global → TypeTree
+boxed_tree b = type_tree b.value

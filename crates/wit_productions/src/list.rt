@@ -37,8 +37,7 @@ pub fn commas<'a, T: Part<'a>>(
     while !tokens.eat(shut) {
         found.push(T::parse(alloc, tokens)?)?;
         if !tokens.eat(Kind::Comma) {
-            tokens.expect(shut)?;
-            return Ok(found);
+            return tokens.expect(shut).and(Ok(found));
         }
     }
     Ok(found)

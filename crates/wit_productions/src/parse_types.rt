@@ -1,12 +1,13 @@
 //! From tokens to a type.
 
-ghost use Rattle.std.specs.Prelude.{◌≡◌, List, length, map, option_map};
+ghost use Rattle.std.specs.Prelude.{◌≡◌, List, length, map, option_map, IfOk, IfErr};
 ghost use Rattle.wit_productions.specs.Production.{Reads, commas, next_at, one};
 ghost use Rattle.wit_words.specs.Token.{Tok, plain, what};
 ghost use Rattle.wit_productions.specs.TypeGrammar as spec;
 ghost use Rattle.wit_productions.specs.TypeGrammar.{too_deep, type_in, type_after};
-ghost use Rattle.wit_productions.specs.TypeView.{type_shape, type_tree};
+ghost use Rattle.wit_productions.specs.TypeView.{type_shape, type_tree, boxed_tree};
 ghost use Rattle.wit_productions.specs.NameView.{id};
+ghost use Rattle.wit_productions.specs.declared.fault.ReadError.TheVariants.{Memory};
 ghost use Rattle.wit_words.specs.declared.token.Kind.TheVariants as kind;
 
 use crate::cursor::{Cursor, fault_at};
@@ -63,8 +64,56 @@ fn list_len(tokens: &mut Cursor<'_, '_>) -> Result<u32, ReadError>
     }
 }
 
+/// The length of a list if it has one, and the `>` behind it.
+#[tactic(auto, unfolding(crate::specs::TypeGrammar::list_end, crate::specs::Production::branch))]
+fn list_end(tokens: &mut Cursor<'_, '_>) -> Result<Option<u32>, ReadError>
+    ensures { Reads (λ n. n) result tokens.new (spec.list_end.read tokens.old) }
+{
+    if tokens.eat(Kind::Comma) {
+        let length = list_len(tokens)?;
+        tokens.expect(Kind::GreaterThan)?;
+        return Ok(Some(length));
+    }
+    tokens.expect(Kind::GreaterThan)?;
+    Ok(None)
+}
+
+/// A value in a box.
+fn in_box<T: Drop>(alloc: Global, value: T) -> Result<Box<T>, ReadError>
+    ensures boxed { IfOk result (λ b. b.value ≡ value) }
+    ensures refused { IfErr result (λ e. e ≡ Memory) }
+{
+    Ok(Box::new(alloc, value)?)
+}
+
+/// A type that is part of another.
 #[cycle(types)]
-#[tactic(auto, unfolding(crate::specs::TypeGrammar::list_after, crate::specs::Production::branch))]
+fn part<'a>(
+    alloc: Global,
+    depth: usize,
+    tokens: &mut Cursor<'_, 'a>,
+) -> Result<Box<Type<'a>>, ReadError>
+    ensures { Reads boxed_tree result tokens.new ((type_in depth).read tokens.old) }
+{
+    in_box(alloc, type_of(alloc, depth, tokens)?)
+}
+
+/// The last part of a type, and the `>` behind it.
+#[cycle(types)]
+#[tactic(auto, unfolding(crate::specs::TypeGrammar::last_part))]
+fn last_part<'a>(
+    alloc: Global,
+    depth: usize,
+    tokens: &mut Cursor<'_, 'a>,
+) -> Result<Box<Type<'a>>, ReadError>
+    ensures { Reads boxed_tree result tokens.new ((spec.last_part (type_in depth)).read tokens.old) }
+{
+    let last = part(alloc, depth, tokens)?;
+    tokens.expect(Kind::GreaterThan).and(Ok(last))
+}
+
+#[cycle(types)]
+#[tactic(auto, using(crate::proofs::TypeParts::list_reads, crate::proofs::TypeViews::list_of, crate::proofs::TypeViews::fixed_length_list_of))]
 fn list<'a>(
     alloc: Global,
     depth: usize,
@@ -73,19 +122,15 @@ fn list<'a>(
     ensures { Reads type_shape result tokens.new ((spec.list_after (type_in depth)).read tokens.old) }
 {
     tokens.expect(Kind::LessThan)?;
-    let item = type_of(alloc, depth, tokens)?;
-    let item = Box::new(alloc, item)?;
-    if tokens.eat(Kind::Comma) {
-        let length = list_len(tokens)?;
-        tokens.expect(Kind::GreaterThan)?;
-        return Ok(TypeKind::FixedLengthList(item, length));
+    let item = part(alloc, depth, tokens)?;
+    match list_end(tokens)? {
+        Some(length) => Ok(TypeKind::FixedLengthList(item, length)),
+        None => Ok(TypeKind::List(item)),
     }
-    tokens.expect(Kind::GreaterThan)?;
-    Ok(TypeKind::List(item))
 }
 
 #[cycle(types)]
-#[tactic(auto, unfolding(crate::specs::TypeGrammar::option_after))]
+#[tactic(auto, using(crate::proofs::TypeParts::option_reads, crate::proofs::TypeViews::option_of))]
 fn option<'a>(
     alloc: Global,
     depth: usize,
@@ -94,9 +139,7 @@ fn option<'a>(
     ensures { Reads type_shape result tokens.new ((spec.option_after (type_in depth)).read tokens.old) }
 {
     tokens.expect(Kind::LessThan)?;
-    let some = type_of(alloc, depth, tokens)?;
-    tokens.expect(Kind::GreaterThan)?;
-    Ok(TypeKind::Option(Box::new(alloc, some)?))
+    Ok(TypeKind::Option(last_part(alloc, depth, tokens)?))
 }
 
 #[cycle(types)]
@@ -124,15 +167,31 @@ fn types<'a>(
     while !tokens.eat(Kind::GreaterThan) {
         found.push(type_of(alloc, depth, tokens)?)?;
         if !tokens.eat(Kind::Comma) {
-            tokens.expect(Kind::GreaterThan)?;
-            return Ok(found);
+            return tokens.expect(Kind::GreaterThan).and(Ok(found));
         }
     }
     Ok(found)
 }
 
+/// Another part behind a comma if there is one, and the `>` behind it.
 #[cycle(types)]
-#[tactic(auto, unfolding(crate::specs::TypeGrammar::result_parts, crate::specs::Production::branch), using(crate::proofs::TypeViews::result_ok, crate::proofs::TypeViews::result_err, crate::proofs::TypeViews::result_both))]
+#[tactic(auto, unfolding(crate::specs::TypeGrammar::second_part, crate::specs::Production::branch))]
+fn second_part<'a>(
+    alloc: Global,
+    depth: usize,
+    tokens: &mut Cursor<'_, 'a>,
+) -> Result<Option<Box<Type<'a>>>, ReadError>
+    ensures { Reads (option_map boxed_tree) result tokens.new ((spec.second_part (type_in depth)).read tokens.old) }
+{
+    if tokens.eat(Kind::Comma) {
+        return Ok(Some(last_part(alloc, depth, tokens)?));
+    }
+    tokens.expect(Kind::GreaterThan)?;
+    Ok(None)
+}
+
+#[cycle(types)]
+#[tactic(auto, unfolding(crate::specs::Production::branch), using(crate::proofs::TypeParts::result_parts_reads, crate::proofs::TypeViews::result_err, crate::proofs::TypeViews::result_ok))]
 fn result_parts<'a>(
     alloc: Global,
     depth: usize,
@@ -142,27 +201,15 @@ fn result_parts<'a>(
 {
     if tokens.eat(Kind::Underscore) {
         tokens.expect(Kind::Comma)?;
-        let err = type_of(alloc, depth, tokens)?;
-        tokens.expect(Kind::GreaterThan)?;
+        let err = last_part(alloc, depth, tokens)?;
         return Ok(TypeKind::Result {
             ok: None,
-            err: Some(Box::new(alloc, err)?),
-        });
-    }
-    let ok = Box::new(alloc, type_of(alloc, depth, tokens)?)?;
-    if tokens.eat(Kind::Comma) {
-        let err = Box::new(alloc, type_of(alloc, depth, tokens)?)?;
-        tokens.expect(Kind::GreaterThan)?;
-        return Ok(TypeKind::Result {
-            ok: Some(ok),
             err: Some(err),
         });
     }
-    tokens.expect(Kind::GreaterThan)?;
-    Ok(TypeKind::Result {
-        ok: Some(ok),
-        err: None,
-    })
+    let ok = part(alloc, depth, tokens)?;
+    let err = second_part(alloc, depth, tokens)?;
+    Ok(TypeKind::Result { ok: Some(ok), err })
 }
 
 #[cycle(types)]
@@ -196,54 +243,23 @@ fn handle_of<'a>(tokens: &mut Cursor<'_, 'a>) -> Result<Id<'a>, ReadError>
 
 /// The type of what a future or a stream brings, if it has one.
 #[cycle(types)]
-#[tactic(auto, unfolding(crate::specs::TypeGrammar::payload, crate::specs::Production::branch))]
+#[tactic(auto, unfolding(crate::specs::Production::branch), using(crate::proofs::TypeParts::payload_reads))]
 fn payload<'a>(
     alloc: Global,
     depth: usize,
     tokens: &mut Cursor<'_, 'a>,
-) -> Result<Option<Type<'a>>, ReadError>
-    ensures { Reads (option_map type_tree) result tokens.new ((spec.payload (type_in depth)).read tokens.old) }
+) -> Result<Option<Box<Type<'a>>>, ReadError>
+    ensures { Reads (option_map boxed_tree) result tokens.new ((spec.payload (type_in depth)).read tokens.old) }
 {
     if tokens.eat(Kind::LessThan) {
-        let payload = type_of(alloc, depth, tokens)?;
-        tokens.expect(Kind::GreaterThan)?;
-        return Ok(Some(payload));
+        return Ok(Some(last_part(alloc, depth, tokens)?));
     }
     Ok(None)
 }
 
-#[cycle(types)]
-#[tactic(auto, using(crate::proofs::TypeViews::future_of))]
-fn future<'a>(
-    alloc: Global,
-    depth: usize,
-    tokens: &mut Cursor<'_, 'a>,
-) -> Result<TypeKind<'a>, ReadError>
-    ensures { Reads type_shape result tokens.new ((spec.future_after (type_in depth)).read tokens.old) }
-{
-    match payload(alloc, depth, tokens)? {
-        Some(payload) => Ok(TypeKind::Future(Some(Box::new(alloc, payload)?))),
-        None => Ok(TypeKind::Future(None)),
-    }
-}
-
-#[cycle(types)]
-#[tactic(auto, using(crate::proofs::TypeViews::stream_of))]
-fn stream<'a>(
-    alloc: Global,
-    depth: usize,
-    tokens: &mut Cursor<'_, 'a>,
-) -> Result<TypeKind<'a>, ReadError>
-    ensures { Reads type_shape result tokens.new ((spec.stream_after (type_in depth)).read tokens.old) }
-{
-    match payload(alloc, depth, tokens)? {
-        Some(payload) => Ok(TypeKind::Stream(Some(Box::new(alloc, payload)?))),
-        None => Ok(TypeKind::Stream(None)),
-    }
-}
-
 /// A type that begins with a keyword, before which `left` tokens were left.
 #[cycle(types)]
+#[tactic(auto, using(crate::proofs::TypeViews::future_of, crate::proofs::TypeViews::stream_of))]
 fn keyword_type<'a>(
     alloc: Global,
     depth: usize,
@@ -273,8 +289,8 @@ fn keyword_type<'a>(
         Kind::ResultKeyword => result(alloc, depth, tokens),
         Kind::Own => Ok(TypeKind::Own(handle_of(tokens)?)),
         Kind::Borrow => Ok(TypeKind::Borrow(handle_of(tokens)?)),
-        Kind::Future => future(alloc, depth, tokens),
-        Kind::Stream => stream(alloc, depth, tokens),
+        Kind::Future => Ok(TypeKind::Future(payload(alloc, depth, tokens)?)),
+        Kind::Stream => Ok(TypeKind::Stream(payload(alloc, depth, tokens)?)),
         Kind::ErrorContext => Ok(TypeKind::ErrorContext),
         _ => Err(fault_at(Rule::Unexpected, left)),
     }
@@ -387,6 +403,5 @@ pub fn whole_type<'a>(alloc: Global, tokens: &mut Cursor<'_, 'a>) -> Result<Type
     ensures { Reads type_tree result tokens.new (spec.whole_type.read tokens.old) }
 {
     let ty = any_type(alloc, tokens)?;
-    tokens.end()?;
-    Ok(ty)
+    tokens.end().and(Ok(ty))
 }

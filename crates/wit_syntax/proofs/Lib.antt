@@ -1,3 +1,4 @@
 pub mod FileLaws
+pub mod FileParts
 pub mod FileBreaks
 pub mod Wholes

@@ -8,6 +8,7 @@ use Rattle.wit_words.specs.declared.source_map.Span.{Span}
 use Rattle.wit_words.specs.Slice.{Slice}
 use Rattle.wit_productions.specs.Terminal.{id}
 use Rattle.wit_words.specs.Token.{What, plain}
+use Rattle.wit_items.specs.ItemTree.{AttributeTree}
 use Rattle.wit_items.specs.ItemGrammar.{attribute, gated, use_behind, toplevel_use_behind, func_behind, defined, interface_items, interface_behind}
 pub use Rattle.wit_productions.specs.NameGrammar.{package_name, path_behind, use_path}
 
@@ -41,6 +42,18 @@ include_name = do
   sign kind.As
   o ← id
   yield (record { name = n; other = o })
+
+-- ; or with { name as other, .. }, which may have a semicolon behind it
+unfoldable pub include_names : Production (List IncludeNameTree)
+include_names = branch kind.With
+    (do
+      sign kind.LeftBrace
+      ns ← commas include_name kind.RightBrace
+      optional kind.Semicolon (yield (tt {0}))
+      yield ns)
+    (do
+      sign kind.Semicolon
+      yield [])
 
 -- path; or path with { name as other, .. }, which may have a semicolon behind it
 unfoldable pub include_behind : Production IncludeTree
@@ -108,6 +121,13 @@ package_opening = do
 -- a package, or an item that is none
 unfoldable pub opening : Production OpeningTree
 opening = branch kind.Package package_opening (ast_item >>= (λ i. yield (tree.OpeningTree.item (tree.FileItemTree.item i))))
+
+-- all attributes of an item, behind the `@` of the first
+unfoldable pub gates : Production (List AttributeTree)
+gates = do
+  first ← attribute
+  more ← many kind.At attribute
+  yield (first ∷ more)
 
 -- an item behind the `@` of its first attribute
 unfoldable pub gated_first : Production FirstTree

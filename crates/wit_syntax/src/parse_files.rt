@@ -1,14 +1,15 @@
 //! From tokens to whole trees.
 
-ghost use Rattle.std.specs.Prelude.{◌≡◌, List, length, map, IfOk};
+ghost use Rattle.std.specs.Prelude.{◌≡◌, ◌∷◌, List, length, map, IfOk, IfErr};
 ghost use Rattle.wit_syntax.specs.AstView as view;
 ghost use Rattle.wit_syntax.specs.FileGrammar as spec;
 ghost use Rattle.wit_productions.specs.Production.{Reads, next_at};
+ghost use Rattle.wit_productions.specs.declared.fault.ReadError.TheVariants.{Memory};
 ghost use Rattle.wit_words.specs.Token.{Tok, plain};
 
 use crate::ast::{AstItem, File, FileItem, Package, PackageHeader};
 use crate::parse_worlds::world_behind;
-use std::alloc::{AllocError, Global};
+use std::alloc::Global;
 use wit_items::{Attribute, Gated, attribute, attributes, interface_behind, toplevel_use_behind};
 use wit_productions::{Cursor, PackageName, Part, ReadError, all, fault_at, package_name, until};
 use wit_tokens::{Docs, Kind, Rule, Span, Token};
@@ -146,14 +147,23 @@ fn opening_of<'a>(alloc: Global, tokens: &mut Cursor<'_, 'a>) -> Result<Opening<
     Ok(Opening::Item(FileItem::Item(item)))
 }
 
-/// An item behind the `@` of its first attribute.
-#[tactic(auto, unfolding(crate::specs::FileGrammar::gated_first, wit_productions::specs::Production::located))]
-fn gated_first<'a>(alloc: Global, tokens: &mut Cursor<'_, 'a>) -> Result<First<'a>, ReadError>
-    ensures { Reads view.first result tokens.new (spec.gated_first.read tokens.old) }
+/// All attributes of an item, behind the `@` of the first.
+#[tactic(auto, unfolding(crate::specs::FileGrammar::gates))]
+fn gates<'a>(alloc: Global, tokens: &mut Cursor<'_, 'a>) -> Result<Vec<Attribute<'a>>, ReadError>
+    ensures { Reads (λ v. map view.attribute v.items) result tokens.new (spec.gates.read tokens.old) }
 {
     let first = attribute(tokens)?;
     let mut attributes = attributes(alloc, tokens)?;
     attributes.insert(0, first)?;
+    Ok(attributes)
+}
+
+/// An item behind the `@` of its first attribute.
+#[tactic(auto, unfolding(wit_productions::specs::Production::located), using(crate::proofs::FileParts::gated_first_reads))]
+fn gated_first<'a>(alloc: Global, tokens: &mut Cursor<'_, 'a>) -> Result<First<'a>, ReadError>
+    ensures { Reads view.first result tokens.new (spec.gated_first.read tokens.old) }
+{
+    let attributes = gates(alloc, tokens)?;
     let start = tokens.here();
     let item = FileItem::parse(alloc, tokens)?;
     Ok(First::Item(attributes, tokens.span_from(start), item))
@@ -195,16 +205,26 @@ fn documented_file<'a>(alloc: Global, tokens: &mut Cursor<'_, 'a>) -> Result<Fil
     let docs = tokens.docs(alloc)?;
     let first = first_of(alloc, tokens)?;
     let items = all::<Gated<'a, FileItem<'a>>>(alloc, tokens)?;
-    Ok(with_first(docs, first, items)?)
+    with_first(docs, first, items)
+}
+
+/// The same items behind another.
+fn behind<T: Drop>(first: T, mut items: Vec<T>) -> Result<Vec<T>, ReadError>
+    ensures all { IfOk result (λ v. v.items ≡ first ∷ items.items) }
+    ensures refused { IfErr result (λ e. e ≡ Memory) }
+{
+    items.insert(0, first)?;
+    Ok(items)
 }
 
 /// The file that begins so.
 fn with_first<'a>(
     docs: Docs<'a>,
     first: First<'a>,
-    mut items: Vec<Gated<'a, FileItem<'a>>>,
-) -> Result<File<'a>, AllocError>
-    ensures { IfOk result (λ f. view.file f ≡ spec.file_of (view.docs docs.entry) (view.first first.entry) (map (view.gated view.file_item) items.entry.items)) }
+    items: Vec<Gated<'a, FileItem<'a>>>,
+) -> Result<File<'a>, ReadError>
+    ensures found { IfOk result (λ f. view.file f ≡ spec.file_of (view.docs docs.entry) (view.first first.entry) (map (view.gated view.file_item) items.entry.items)) }
+    ensures refused { IfErr result (λ e. e ≡ Memory) }
 {
     match first {
         First::Header(name) => Ok(File {
@@ -212,18 +232,15 @@ fn with_first<'a>(
             items,
         }),
         First::Item(attributes, span, item) => {
-            items.insert(
-                0,
-                Gated {
-                    docs,
-                    attributes,
-                    item,
-                    span,
-                },
-            )?;
+            let first = Gated {
+                docs,
+                attributes,
+                item,
+                span,
+            };
             Ok(File {
                 package: None,
-                items,
+                items: behind(first, items)?,
             })
         }
     }

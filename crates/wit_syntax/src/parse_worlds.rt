@@ -27,8 +27,9 @@ fn extern_func<'a>(
     ensures { Reads view.extern_kind result tokens.new ((spec.extern_func (view.id name.entry) async_).read tokens.old) }
 {
     let func = func_behind(alloc, async_, tokens)?;
-    tokens.expect(Kind::Semicolon)?;
-    Ok(ExternKind::Func(NamedFunc { name, func }))
+    tokens
+        .expect(Kind::Semicolon)
+        .and(Ok(ExternKind::Func(NamedFunc { name, func })))
 }
 
 /// What is imported or exported, behind a name and a colon.
@@ -52,8 +53,9 @@ fn extern_behind<'a>(
         return extern_func(alloc, name, false, tokens);
     }
     let path = path_behind(name, tokens)?;
-    tokens.expect(Kind::Semicolon)?;
-    Ok(ExternKind::Path(path))
+    tokens
+        .expect(Kind::Semicolon)
+        .and(Ok(ExternKind::Path(path)))
 }
 
 /// What stands behind `import` or `export`.
@@ -65,8 +67,9 @@ fn extern_item<'a>(alloc: Global, tokens: &mut Cursor<'_, 'a>) -> Result<ExternK
     if tokens.eat(Kind::Colon) {
         return extern_behind(alloc, name, tokens);
     }
-    tokens.expect(Kind::Semicolon)?;
-    Ok(ExternKind::Path(UsePath::Id(name)))
+    tokens
+        .expect(Kind::Semicolon)
+        .and(Ok(ExternKind::Path(UsePath::Id(name))))
 }
 
 /// An item of a world behind its keyword, before which `left` tokens were left.
@@ -139,8 +142,25 @@ impl<'a> Part<'a> for IncludeName<'a> {
     }
 }
 
+/// The names that an `include` replaces, up to its end.
+#[tactic(auto, unfolding(crate::specs::FileGrammar::include_names, wit_productions::specs::Production::branch), using(crate::proofs::FileLaws::include_name_takes))]
+fn include_names<'a>(
+    alloc: Global,
+    tokens: &mut Cursor<'_, 'a>,
+) -> Result<Vec<IncludeName<'a>>, ReadError>
+    ensures { Reads (λ v. map view.include_name v.items) result tokens.new (spec.include_names.read tokens.old) }
+{
+    if tokens.eat(Kind::With) {
+        tokens.expect(Kind::LeftBrace)?;
+        let names = commas::<IncludeName<'a>>(alloc, Kind::RightBrace, tokens)?;
+        tokens.eat(Kind::Semicolon);
+        return Ok(names);
+    }
+    tokens.expect(Kind::Semicolon).and(Ok(Vec::new(alloc)))
+}
+
 /// What stands behind `include`.
-#[tactic(auto, unfolding(crate::specs::FileGrammar::include_behind, wit_productions::specs::Production::branch), using(crate::proofs::FileLaws::include_name_takes))]
+#[tactic(auto, using(crate::proofs::FileParts::include_reads))]
 pub fn include_behind<'a>(
     alloc: Global,
     tokens: &mut Cursor<'_, 'a>,
@@ -148,13 +168,6 @@ pub fn include_behind<'a>(
     ensures { Reads view.include result tokens.new (spec.include_behind.read tokens.old) }
 {
     let from = use_path(tokens)?;
-    let mut names = Vec::new(alloc);
-    if tokens.eat(Kind::With) {
-        tokens.expect(Kind::LeftBrace)?;
-        names = commas::<IncludeName<'a>>(alloc, Kind::RightBrace, tokens)?;
-        tokens.eat(Kind::Semicolon);
-    } else {
-        tokens.expect(Kind::Semicolon)?;
-    }
+    let names = include_names(alloc, tokens)?;
     Ok(Include { from, names })
 }

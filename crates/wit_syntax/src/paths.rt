@@ -39,9 +39,7 @@ impl<'a> File<'a> {
         ensures { IfOk result (λ v. paths v.items ≡ spec.file_paths (view.file self.now)) }
     {
         let mut found = Vec::new(alloc);
-        for gated in &self.items {
-            add_of_file_item(&mut found, &gated.item)?;
-        }
+        add_of_file(&mut found, &self.items)?;
         Ok(found)
     }
 }
@@ -154,4 +152,16 @@ fn add_of_file_item<'t, 'a>(
         FileItem::Item(item) => add_of_ast_item(found, item),
         FileItem::Package(package) => add_of_package(found, &package.items),
     }
+}
+
+fn add_of_file<'t, 'a>(
+    found: &mut Vec<FilePath<'t, 'a>>,
+    items: &'t [Gated<'a, FileItem<'a>>],
+) -> Result<(), AllocError>
+    ensures { OnOk result (paths found.new.items ≡ paths found.old.items ++ spec.of_each spec.file_item_paths (map (view.gated view.file_item) items.now)) }
+{
+    for gated in items {
+        add_of_file_item(found, &gated.item)?;
+    }
+    Ok(())
 }

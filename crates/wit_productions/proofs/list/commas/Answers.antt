@@ -4,7 +4,7 @@ use Rattle.std.proofs.lemmas.List.{map_push}
 use Rattle.wit_words.specs.declared.token.Kind.TheVariants as kind
 use Rattle.wit_productions.specs.Production.{sees}
 use Rattle.wit_productions.proofs.Turns.{after_shorter}
-use Rattle.wit_productions.proofs.Loops.{closes, fails, goes_on, last, last_fails}
+use Rattle.wit_productions.proofs.Loops.{closes, fails, goes_on, last}
 use Rattle.wit_productions.proofs.list.commas.Goals as goal
 
 pub returns-in_err-parse : goal.returns-in_err-parse
@@ -14,23 +14,14 @@ returns-in_err-parse g c =
     let h = (rw (c.loop-alloc-test.ensures.after) at (c.in_err-parse.ensures)) in
     rw (p.1, p.2) (fails g.T.Part.production c.args.shut c.requires (map g.T.Part.tree c.loop-alloc.found.items) c.loop-alloc.tokens _ c.loop-alloc.invariant c.in_err-parse.field-0.0 e h)
 
-pub returns-in_err-expect : goal.returns-in_err-expect
-returns-in_err-expect g c =
-    let p = err_from_is_err_and c.from_residual-in_err-expect.result c.from_residual-in_err-expect.ensures.1 in
-    let e : sees c.args.shut c.loop-alloc.tokens ≡ false = sym (c.loop-alloc-test.ensures.found) in
-    let h = (rw (c.loop-alloc-test.ensures.after) at (c.in_ok-parse.ensures)) in
-    let k = (rw (c.if-not-eat.ensures.after) at (c.in_err-expect.ensures)) in
-    rw (p.1, p.2) (last_fails g.T.Part.production c.args.shut c.requires (map g.T.Part.tree c.loop-alloc.found.items) c.loop-alloc.tokens _ c.loop-alloc.invariant e
-    (g.T.Part.tree c.in_ok-parse.field-0) c.parse.new.tokens h c.in_err-expect.field-0.0 (sym (c.if-not-eat.ensures.found)) k)
-
 pub returns-then-not-eat : goal.returns-then-not-eat
 returns-then-not-eat g c =
     let e : sees c.args.shut c.loop-alloc.tokens ≡ false = sym (c.loop-alloc-test.ensures.found) in
     let h = (rw (c.loop-alloc-test.ensures.after) at (c.in_ok-parse.ensures)) in
-    let k = (rw (c.if-not-eat.ensures.after) at (c.in_ok-expect.ensures)) in
+    let k = (rw (c.if-not-eat.ensures.after) at (c.expect.ensures)) in
     let more : map g.T.Part.tree c.push.new.self.items ≡ map g.T.Part.tree c.loop-alloc.found.items ++ g.T.Part.tree c.in_ok-parse.field-0 ∷ [] = rw c.in_ok-push.ensures.items (map_push _ c.loop-alloc.found.items c.in_ok-parse.field-0) in
-    rw more (last g.T.Part.production c.args.shut c.requires (map g.T.Part.tree c.loop-alloc.found.items) c.loop-alloc.tokens _ c.loop-alloc.invariant e
-    (g.T.Part.tree c.in_ok-parse.field-0) c.parse.new.tokens h c.expect.new.self (sym (c.if-not-eat.ensures.found)) k)
+    rw (c.and.ensures) (last g.T.Part.production c.args.shut c.requires (map g.T.Part.tree c.loop-alloc.found.items) c.loop-alloc.tokens _ c.loop-alloc.invariant e
+    (g.T.Part.tree c.in_ok-parse.field-0) c.parse.new.tokens h (λ v. map g.T.Part.tree v.items) c.push.new.self c.expect.result c.expect.new.self more (sym (c.if-not-eat.ensures.found)) k)
 
 pub loop-alloc-smaller : goal.loop-alloc-smaller
 loop-alloc-smaller g c =
