@@ -10,26 +10,16 @@ import subprocess
 import sys
 import time
 
+from wasm_bytes import COMPONENT_HEADER, CORE_HEADER, name, number, section, vector
+
 COUNTS = [1000 << doubled for doubled in range(8)]
 SIZES = [1, 4, 16]
 # Of the program on all components of a kind, and of copies and processes
 ROUNDS = 12
 RUNS = 20
-HEADER = bytes.fromhex("0061736d0d000100")
-CORE_HEADER = bytes.fromhex("0061736d01000000")
 
 # Ids of sections
 CUSTOM, CORE_MODULE, CORE_INSTANCE, ALIAS, TYPE, CANONICAL, IMPORT, EXPORT = 0, 1, 2, 6, 7, 8, 10, 11
-
-
-def number(n):
-    """A number in unsigned LEB128."""
-    found = bytearray()
-    while n >= 128:
-        found.append(n % 128 + 128)
-        n //= 128
-    found.append(n)
-    return bytes(found)
 
 
 def index(n):
@@ -40,18 +30,6 @@ def index(n):
         n //= 128
     found.append(n)
     return bytes(found)
-
-
-def section(id, content):
-    return bytes([id]) + number(len(content)) + content
-
-
-def vector(id, items):
-    return section(id, number(len(items)) + b"".join(items))
-
-
-def name(text):
-    return number(len(text)) + text.encode()
 
 
 RECORD = b"\x72\2" + name("left") + b"\x79" + name("right") + b"\x73"
@@ -123,7 +101,7 @@ KINDS = {"types": types, "sections": sections, "aliases": aliases}
 def make(folder, *counts):
     def keep(kind, amount, content):
         with open(os.path.join(folder, f"{kind}-{amount:07}.wasm"), "wb") as file:
-            file.write(HEADER + content)
+            file.write(COMPONENT_HEADER + content)
 
     for kind, made in KINDS.items():
         for count in [int(it) for it in counts] or COUNTS:

@@ -5,34 +5,11 @@ import subprocess
 import sys
 import time
 
+from wasm_bytes import CORE_HEADER, name, number, section, vector
+
 RUNS = 40
 COUNTS = [100, 200, 400, 800, 1600, 3200]
 SIZES = [1, 4, 16]
-
-
-def number(value):
-    """Unsigned LEB128."""
-    found = bytearray()
-    while value > 127:
-        found.append(value % 128 + 128)
-        value //= 128
-    found.append(value)
-    return bytes(found)
-
-
-def name(text):
-    return number(len(text)) + text.encode()
-
-
-def section(id, content):
-    return bytes([id]) + number(len(content)) + content
-
-
-def vector(id, items):
-    return section(id, number(len(items)) + b"".join(items))
-
-
-HEADER = b"\0asm\1\0\0\0"
 # func(p: u32) -> u32, as a core type
 TYPE = b"\x60\1\x7f\1\x7f"
 
@@ -44,14 +21,14 @@ def world(side, count):
 
 def importer(count):
     imports = [name("$root") + name(f"n{index}") + b"\0\0" for index in range(count)]
-    return HEADER + vector(1, [TYPE]) + vector(2, imports)
+    return CORE_HEADER + vector(1, [TYPE]) + vector(2, imports)
 
 
 def exporter(count):
     functions = vector(3, [b"\0"] * count)
     exports = [name(f"n{index}") + b"\0" + number(index) for index in range(count)]
     bodies = vector(10, [b"\x04\0\x20\0\x0b"] * count)
-    return HEADER + vector(1, [TYPE]) + functions + vector(7, exports) + bodies
+    return CORE_HEADER + vector(1, [TYPE]) + functions + vector(7, exports) + bodies
 
 
 def padded(mebibytes):

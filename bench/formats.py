@@ -3,57 +3,36 @@
 import os
 import sys
 
+from wasm_bytes import CORE_HEADER, name, number, vector
+
 SIZES = [1, 2, 4, 8, 16]
-HEADER = bytes.fromhex("0061736d01000000")
 FUNCTION_TYPE = bytes.fromhex("60027f7e017d")
-
-
-def number(n):
-    """A number in unsigned LEB128."""
-    found = bytearray()
-    while n >= 128:
-        found.append(n % 128 + 128)
-        n //= 128
-    found.append(n)
-    return bytes(found)
-
-
-def section(id, content):
-    return bytes([id]) + number(len(content)) + content
-
-
-def vector(items):
-    return number(len(items)) + b"".join(items)
-
-
-def name(text):
-    return number(len(text)) + text.encode()
 
 
 def functions(size):
     """Functions of one type, each with a body of two bytes."""
     count = size // 4
-    bodies = vector([b"\2\0\x0b"] * count)
-    return section(1, vector([b"\x60\0\0"])) + section(3, vector([b"\0"] * count)) + section(10, bodies)
+    bodies = vector(10, [b"\2\0\x0b"] * count)
+    return vector(1, [b"\x60\0\0"]) + vector(3, [b"\0"] * count) + bodies
 
 
 def types(size):
-    return section(1, vector([FUNCTION_TYPE] * (size // len(FUNCTION_TYPE))))
+    return vector(1, [FUNCTION_TYPE] * (size // len(FUNCTION_TYPE)))
 
 
 def exports(size):
     """One function under many names."""
     items = [name(f"function-{place:08}") + b"\0\0" for place in range(size // 20)]
-    return section(1, vector([b"\x60\0\0"])) + section(3, vector([b"\0"])) + section(7, vector(items))
+    return vector(1, [b"\x60\0\0"]) + vector(3, [b"\0"]) + vector(7, items)
 
 
 def globals_(size):
-    return section(6, vector([b"\x7f\0\x41\x2a\x0b"] * (size // 5)))
+    return vector(6, [b"\x7f\0\x41\x2a\x0b"] * (size // 5))
 
 
 def data(size):
     """One segment, which is framed."""
-    return section(11, vector([b"\1" + number(size) + b"\0" * size]))
+    return vector(11, [b"\1" + number(size) + b"\0" * size])
 
 
 KINDS = {"types": types, "functions": functions, "globals": globals_, "exports": exports, "data": data}
@@ -63,7 +42,7 @@ def make(folder, *sizes):
     for kind, made in KINDS.items():
         for size in [int(it) for it in sizes] or SIZES:
             with open(os.path.join(folder, f"{kind}-{size:04}.wasm"), "wb") as file:
-                file.write(HEADER + made(size << 20))
+                file.write(CORE_HEADER + made(size << 20))
 
 
 def table():
