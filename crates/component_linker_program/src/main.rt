@@ -147,7 +147,18 @@ fn run_line<R: Files + AllocGlobal, O: Write, E: Write>(
     Ok(run_on(rt, line, named, &files, out, err))
 }
 
-/// Runs the program on words, and answers the exit status.
+/// Runs the program on texts, and answers the exit status.
+fn run_texts<R: Files + AllocGlobal, O: Write, E: Write>(
+    rt: &R,
+    texts: &[&str],
+    out: &mut O,
+    err: &mut E,
+) -> io::Result<u8> {
+    let line = read_line(rt.alloc(), texts);
+    run_line(rt, &line, out, err)
+}
+
+/// The same on words.
 fn run_words<R: Files + AllocGlobal, O: Write, E: Write>(
     rt: &R,
     words: &[String],
@@ -155,7 +166,7 @@ fn run_words<R: Files + AllocGlobal, O: Write, E: Write>(
     err: &mut E,
 ) -> io::Result<u8> {
     let texts = texts_of(rt.alloc(), words)?;
-    run_line(rt, &read_line(rt.alloc(), &texts), out, err)
+    run_texts(rt, &texts, out, err)
 }
 
 /// Runs the example without words, and the program with some; answers the exit status.

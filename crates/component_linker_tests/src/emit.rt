@@ -187,6 +187,15 @@ const ANSWERED: &[Answered] = &[
     ),
 ];
 
+/// The files of the first row.
+fn files_of_first() -> [(&'static str, &'static [u8]); 3] {
+    [
+        ("a.wit", TEXT.as_bytes()),
+        ("m.wasm", IMPORTER),
+        ("c.wasm", LOWERED),
+    ]
+}
+
 /// Runs a line over the files of the first row, and answers the exit status.
 fn run_first(
     alloc: Global,
@@ -194,12 +203,7 @@ fn run_first(
     out: &mut Stops,
     err: &mut Stops,
 ) -> u8 {
-    let files: [(&str, &[u8]); 3] = [
-        ("a.wit", TEXT.as_bytes()),
-        ("m.wasm", IMPORTER),
-        ("c.wasm", LOWERED),
-    ];
-    run(alloc, line, &files, out, err)
+    run(alloc, line, &files_of_first(), out, err)
 }
 
 /// Where standard output takes a part of the answer, the file is named that can't be written.

@@ -5,7 +5,8 @@
 
 use crate::first::{IMPORTER, LOWERED, TEXT};
 use component_linker::{
-    Fault, Link, LinkKind, LinkSide, PackageId, Session, StringEncoding, Verdict, WorldId, audit,
+    Fault, Function, HandedModule, Link, LinkKind, LinkSide, Options, Package, PackageId, Session,
+    StringEncoding, Verdict, WorldId, audit,
 };
 use std::process::Abort;
 
@@ -41,60 +42,65 @@ const READY: Seen = Seen {
     main: true,
 };
 
-/// The packages are none, or the one of the text.
-fn check_packages(rt: &impl Abort, session: &Session, pushed: bool, at: &str) {
-    let [package] = session.packages() else {
-        assert!(rt; session.packages().is_empty() && !pushed, "{at}");
-        return;
-    };
-    assert!(rt; pushed, "{at}");
-    assert!(rt; package.name.namespace.as_str() == "a", "{at}");
-    assert!(rt; package.name.name.as_str() == "b", "{at}");
-    assert!(rt; package.world.name.as_str() == "w", "{at}");
-    assert!(rt; package.world.exports.is_empty(), "{at}");
+/// Whether a package has the names of the text.
+fn has_names(package: &Package) -> bool {
+    package.name.namespace.as_str() == "a"
+        && package.name.name.as_str() == "b"
+        && package.world.name.as_str() == "w"
+}
+
+/// Whether a function is the one that the text imports.
+fn is_imported(function: &Function) -> bool {
+    function.name.as_str() == "f" && function.params.is_empty() && function.result.is_none()
+}
+
+/// Whether a package is that of the text.
+fn is_of_text(package: &Package) -> bool {
     let [import] = package.world.imports.as_slice() else {
-        panic!(rt; "{at}: one import");
+        return false;
     };
-    assert!(rt; import.name.as_str() == "f", "{at}");
-    assert!(rt; import.params.is_empty() && import.result.is_none(), "{at}");
+    has_names(package) && is_imported(import) && package.world.exports.is_empty()
 }
 
-/// The main module is none, or the one that was handed in.
-fn check_main(rt: &impl Abort, session: &Session, there: bool, at: &str) {
-    let Some(main) = session.main() else {
-        assert!(rt; !there, "{at}");
-        return;
-    };
-    assert!(rt; there, "{at}");
-    assert!(rt; main.bytes == IMPORTER, "{at}");
-    assert!(rt; main.world.index() == 0, "{at}");
-    assert!(rt; main.encoding == StringEncoding::UTF8, "{at}");
+/// Whether the packages are none, or the one of the text.
+fn has_packages(session: &Session, pushed: bool) -> bool {
+    match session.packages() {
+        [] => !pushed,
+        [package] => pushed && is_of_text(package),
+        _ => false,
+    }
 }
 
-/// The options are those of a new session but for `validate`.
-fn check_options(rt: &impl Abort, session: &Session, at: &str) {
-    let options = session.options();
-    assert!(rt;
-        options.validate && options.merge_imports_based_on_semver,
-        "{at}"
-    );
-    assert!(rt;
-        !options.emit_canonical_names && !options.reject_legacy_names,
-        "{at}"
-    );
-    assert!(rt;
-        !options.shim_return_call_ref && !options.debug_names,
-        "{at}"
-    );
-    assert!(rt; options.import_name_map.is_empty(), "{at}");
+/// Whether a main module is the one that is handed in.
+fn is_handed(main: &HandedModule) -> bool {
+    main.bytes == IMPORTER && main.world.index() == 0 && main.encoding == StringEncoding::UTF8
+}
+
+/// Whether the main module is none, or the one that is handed in.
+fn has_main(session: &Session, there: bool) -> bool {
+    match session.main() {
+        None => !there,
+        Some(main) => there && is_handed(main),
+    }
+}
+
+/// Whether options are those of a new session but for `validate`.
+fn are_validating(options: &Options) -> bool {
+    options.validate
+        && options.merge_imports_based_on_semver
+        && !options.emit_canonical_names
+        && !options.reject_legacy_names
+        && !options.shim_return_call_ref
+        && !options.debug_names
+        && options.import_name_map.is_empty()
 }
 
 /// The session answers this by its readers.
 fn check_session(rt: &impl Abort, session: &Session, seen: Seen, at: &str) {
-    check_packages(rt, session, seen.pushed, at);
-    check_main(rt, session, seen.main, at);
-    check_options(rt, session, at);
-    assert!(rt; session.world().is_some() == seen.chosen, "{at}");
+    assert!(rt; has_packages(session, seen.pushed), "{at}: packages");
+    assert!(rt; has_main(session, seen.main), "{at}: main module");
+    assert!(rt; are_validating(session.options()), "{at}: options");
+    assert!(rt; session.world().is_some() == seen.chosen, "{at}: world");
 }
 
 /// What a call answers where memory may be refused once: its answer, or none for want of memory.

@@ -1,4 +1,4 @@
--- Components of definitions that index meaning knows.
+-- Components of definitions that index meaning knows (Component Model Binary, Component Definitions).
 use Rattle.std.specs.Prelude.{◌≡◌, ℕ, List, map, None}
 use Rattle.binary_grammar.specs.Syntax.{IsTyped}
 use Rattle.component_sections.specs.Component as whole

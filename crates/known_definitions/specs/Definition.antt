@@ -1,4 +1,5 @@
--- The definitions that index meaning knows, without where they lie in memory.
+-- The definitions that index meaning knows, without where they lie in memory (Component Model, Explainer, Component
+-- Definitions).
 use Rattle.std.specs.Prelude.{◌≡◌, ℕ, List, map, Option, nat_le, true}
 use Rattle.std.specs.List.{list_all}
 use Rattle.wit_resolve.specs.World.{ParameterValue, FunctionTypeValue}

@@ -1,5 +1,5 @@
 -- Which definitions index meaning knows: core modules, core instances of core functions, aliases of those, types of functions
--- over `bool` and the integers, lifts and lowerings without options, imports and exports of functions.
+-- over `bool` and the integers, lifts and lowerings without options, imports and exports of functions (Component Model Binary).
 use Rattle.std.specs.Prelude.{ℕ, List, [], ◌∷◌, map, Option, Some, None, option_map}
 use Rattle.wasm_types.specs.declared.types.ExportKind.{ExportKind}
 use Rattle.wasm_types.specs.declared.types.ExportKind.TheVariants as kinds

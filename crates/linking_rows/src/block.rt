@@ -1,7 +1,8 @@
 //! A block: the lines between two blank ones, over one session and one set of files.
 
-use crate::command::{push_reading, push_run};
-use crate::question::{ask, push_text};
+use crate::command::{write_reading, write_run};
+use crate::page::Page;
+use crate::question::ask;
 use crate::row::{Row, UNREADABLE, read_row};
 use crate::setup::hand_over;
 use component_linker::Session;
@@ -18,24 +19,25 @@ struct Desk<'r> {
 }
 
 impl<'r> Desk<'r> {
-    /// Does what a row says, and adds its answer.
-    fn answer(&mut self, row: &'r Row<'_>, out: &mut String) -> Result<(), AllocError> {
+    /// Does what a row says, and writes its answer.
+    fn answer(&mut self, row: &'r Row<'_>, page: &mut Page) {
         let alloc = self.alloc;
         match row {
-            Row::Comment => Ok(()),
-            Row::Unreadable => out.push_str(UNREADABLE),
-            Row::Setup(setup) => hand_over(alloc, &mut self.session, setup, out),
+            Row::Comment => {}
+            Row::Unreadable => page.words(UNREADABLE),
+            Row::Setup(setup) => hand_over(alloc, &mut self.session, setup, page),
             Row::Question(question) => {
-                ask(alloc, &mut self.session, &mut self.built, question, out)
+                ask(alloc, &mut self.session, &mut self.built, question, page);
             }
             Row::File(file) => {
-                self.files.push((file.path, file.bytes.as_slice()))?;
-                Ok(())
+                if self.files.push((file.path, file.bytes.as_slice())).is_err() {
+                    page.refuse();
+                }
             }
-            Row::Line(words) => push_reading(alloc, out, words),
-            Row::Run(words) => push_run(alloc, &self.files, words, out),
-            Row::Link(link) => push_text(out, &link.to_text(alloc)?),
-            Row::Verdict(verdict) => push_text(out, &verdict.to_text(alloc)?),
+            Row::Line(words) => write_reading(alloc, page, words),
+            Row::Run(words) => write_run(alloc, &self.files, words, page),
+            Row::Link(link) => page.made(link.to_text(alloc)),
+            Row::Verdict(verdict) => page.made(verdict.to_text(alloc)),
         }
     }
 }
@@ -57,13 +59,13 @@ fn answers<'r>(alloc: Global, lines: &[String], rows: &'r [Row<'_>]) -> Result<S
         built: None,
         files: Vec::new(alloc),
     };
-    let mut out = String::new(alloc);
+    let mut page = Page::new(alloc);
     for (line, row) in lines.iter().zip(rows) {
-        out.push_str(line)?;
-        out.push('\n')?;
-        desk.answer(row, &mut out)?;
+        page.words(line);
+        page.words("\n");
+        desk.answer(row, &mut page);
     }
-    Ok(out)
+    page.finish()
 }
 
 /// The lines of a block, each with its answer behind it.

@@ -1,10 +1,9 @@
 //! Rows of the program: its words, and what a run over files writes.
 
-use crate::spelling::{
-    RowFault, bytes_of, inside_quotes, push_bytes, push_quoted, readable, unescaped,
-};
+use crate::page::Page;
+use crate::spelling::{RowFault, bytes_of, inside_quotes, readable, unescaped};
 use component_linker::{Action, Input, Line, LineFault, read_line, run};
-use std::alloc::{AllocError, Global};
+use std::alloc::Global;
 
 /// A file that a run can read.
 #[derive(Drop)]
@@ -23,77 +22,81 @@ pub fn file_of<'t>(alloc: Global, words: &'t str) -> Result<File<'t>, RowFault> 
     Ok(File { path, bytes })
 }
 
-/// Adds a line with a word and a text.
-fn push_field(out: &mut String, word: &str, text: &str) -> Result<(), AllocError> {
-    write!(out, "  {word} ")?;
-    push_quoted(out, text)?;
-    out.push('\n')
+/// A line with a word and a text.
+fn write_field(page: &mut Page, word: &str, text: &str) {
+    page.words("  ");
+    page.words(word);
+    page.words(" ");
+    page.quoted(text);
+    page.words("\n");
 }
 
-fn push_input(out: &mut String, input: &Input) -> Result<(), AllocError> {
+fn write_input(page: &mut Page, input: &Input) {
     match input {
-        Input::Text(path) => push_field(out, "text", path),
-        Input::Component(path) => push_field(out, "component", path),
+        Input::Text(path) => write_field(page, "text", path),
+        Input::Component(path) => write_field(page, "component", path),
         Input::Main { world, path } => {
-            out.push_str("  main ")?;
-            push_quoted(out, world)?;
-            out.push(' ')?;
-            push_quoted(out, path)?;
-            out.push('\n')
+            page.words("  main ");
+            page.quoted(world);
+            page.words(" ");
+            page.quoted(path);
+            page.words("\n");
         }
     }
 }
 
-fn push_line(out: &mut String, line: &Line) -> Result<(), AllocError> {
-    out.push_str(match line.action {
-        Action::Build => "  build\n",
-        Action::Links => "  links\n",
-        Action::Audit => "  audit\n",
-    })?;
-    push_field(out, "world", &line.world)?;
+fn write_line(page: &mut Page, line: &Line) {
+    page.line(match line.action {
+        Action::Build => "build",
+        Action::Links => "links",
+        Action::Audit => "audit",
+    });
+    write_field(page, "world", &line.world);
     if let Some(path) = &line.out {
-        push_field(out, "out", path)?;
+        write_field(page, "out", path);
     }
     for input in &line.inputs {
-        push_input(out, input)?;
+        write_input(page, input);
     }
-    Ok(())
 }
 
-/// Adds the line that the words are, or why they are none.
-pub fn push_reading(alloc: Global, out: &mut String, words: &[&str]) -> Result<(), AllocError> {
+/// The line that the words are, or why they are none.
+pub fn write_reading(alloc: Global, page: &mut Page, words: &[&str]) {
     match read_line(alloc, words) {
-        Ok(line) => push_line(out, &line),
-        Err(LineFault::Clap(text)) => push_field(out, "clap", &text),
-        Err(LineFault::Usage) => out.push_str("  usage\n"),
-        Err(LineFault::OutOfMemory) => out.push_str("  out of memory\n"),
+        Ok(line) => write_line(page, &line),
+        Err(LineFault::Clap(text)) => write_field(page, "clap", &text),
+        Err(LineFault::Usage) => page.line("usage"),
+        Err(LineFault::OutOfMemory) => page.line("out of memory"),
     }
 }
 
-/// Adds a line with the bytes that were written.
-fn push_written(
-    alloc: Global,
-    out: &mut String,
-    word: &str,
-    bytes: &[u8],
-) -> Result<(), AllocError> {
-    write!(out, "  {word} ")?;
-    push_bytes(alloc, out, bytes)?;
-    out.push('\n')
+/// A line with the bytes that were written.
+fn write_bytes(page: &mut Page, word: &str, bytes: &[u8]) {
+    page.words("  ");
+    page.words(word);
+    page.words(" ");
+    page.bytes(bytes);
+    page.words("\n");
 }
 
-/// Runs the words over the files, and adds the status and what was written.
-pub fn push_run(
+/// Runs the words over the files, and writes the status and what the run wrote.
+pub fn write_run(alloc: Global, files: &[(&str, &[u8])], words: &[&str], page: &mut Page) {
+    let mut answer = Vec::new(alloc);
+    let mut error = Vec::new(alloc);
+    let status = run_words(alloc, files, words, &mut answer, &mut error);
+    page.number("status", usize::from(status));
+    write_bytes(page, "out", &answer);
+    write_bytes(page, "err", &error);
+}
+
+/// Runs the words over the files, and answers the status.
+fn run_words(
     alloc: Global,
     files: &[(&str, &[u8])],
     words: &[&str],
-    out: &mut String,
-) -> Result<(), AllocError> {
-    let mut answer = Vec::new(alloc);
-    let mut error = Vec::new(alloc);
+    answer: &mut Vec<u8>,
+    error: &mut Vec<u8>,
+) -> u8 {
     let line = read_line(alloc, words);
-    let status = run(alloc, &line, files, &mut answer, &mut error);
-    write!(out, "  status {status}\n")?;
-    push_written(alloc, out, "out", &answer)?;
-    push_written(alloc, out, "err", &error)
+    run(alloc, &line, files, answer, error)
 }

@@ -5,6 +5,7 @@
 
 mod block;
 mod command;
+mod page;
 mod question;
 mod row;
 mod sample;

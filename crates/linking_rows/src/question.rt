@@ -1,10 +1,10 @@
 //! Rows that ask a session.
 
+use crate::page::Page;
 use crate::row::UNREADABLE;
-use crate::setup::push_fault;
 use crate::spelling::{RowFault, bytes_of, quoted, readable};
-use component_linker::{Fault, Link, PackageId, Session, Verdict, audit};
-use std::alloc::{AllocError, Global};
+use component_linker::{Link, PackageId, Session, audit};
+use std::alloc::Global;
 
 /// What a session is asked.
 #[derive(Drop)]
@@ -57,112 +57,95 @@ pub fn question_of(alloc: Global, word: &str, rest: &str) -> Result<Question, Ro
     }
 }
 
-/// Adds the line of a text.
-pub fn push_text(out: &mut String, text: &str) -> Result<(), AllocError> {
-    write!(out, "  {text}\n")
-}
-
-/// Adds the packages with their worlds, each on a line.
-fn push_packages(out: &mut String, session: &Session) -> Result<(), AllocError> {
+/// The packages with their worlds, each on a line.
+fn write_packages(page: &mut Page, session: &Session) {
     if session.packages().is_empty() {
-        return out.push_str("  none\n");
+        page.line("none");
     }
     for package in session.packages() {
-        let namespace = &package.name.namespace;
-        let name = &package.name.name;
-        let world = &package.world.name;
-        write!(out, "  {namespace}:{name}/{world}\n")?;
+        page.words("  ");
+        page.words(&package.name.namespace);
+        page.words(":");
+        page.words(&package.name.name);
+        page.words("/");
+        page.words(&package.world.name);
+        page.words("\n");
     }
-    Ok(())
 }
 
-fn push_selection(
+fn write_selection(
     session: &mut Session,
     packages: &[PackageId],
     text: Option<&str>,
-    out: &mut String,
-) -> Result<(), AllocError> {
+    page: &mut Page,
+) {
     match session.select_world(packages, text) {
-        Ok(world) => {
-            let index = world.index();
-            write!(out, "  world {index}\n")
-        }
-        Err(fault) => push_fault(out, &fault),
+        Ok(world) => page.number("world", world.index()),
+        Err(fault) => page.fault(&fault),
     }
 }
 
-/// Adds links, each on a line.
-fn push_links(
-    alloc: Global,
-    out: &mut String,
-    outcome: Result<Vec<Link>, Fault>,
-) -> Result<(), AllocError> {
-    let links = match outcome {
-        Ok(links) => links,
-        Err(fault) => return push_fault(out, &fault),
-    };
+/// Links, each on a line.
+fn write_links(alloc: Global, page: &mut Page, links: &[Link]) {
     if links.is_empty() {
-        return out.push_str("  none\n");
+        page.line("none");
     }
-    for link in &links {
-        push_text(out, &link.to_text(alloc)?)?;
-    }
-    Ok(())
-}
-
-/// Adds a verdict, or why there is none.
-fn push_verdict(
-    alloc: Global,
-    out: &mut String,
-    outcome: Result<Verdict, Fault>,
-) -> Result<(), AllocError> {
-    match outcome {
-        Ok(verdict) => push_text(out, &verdict.to_text(alloc)?),
-        Err(fault) => push_fault(out, &fault),
+    for link in links {
+        page.made(link.to_text(alloc));
     }
 }
 
-/// Adds the component in hexadecimal and keeps it, or adds why there is none.
-fn push_built(
-    alloc: Global,
-    session: &Session,
-    built: &mut Option<Vec<u8>>,
-    out: &mut String,
-) -> Result<(), AllocError> {
+/// The links of a session, or why it has none.
+fn write_linking(alloc: Global, page: &mut Page, session: &Session) {
+    match session.links() {
+        Ok(links) => write_links(alloc, page, &links),
+        Err(fault) => page.fault(&fault),
+    }
+}
+
+/// The verdict on bytes, or why there is none.
+fn write_verdict(alloc: Global, page: &mut Page, session: &Session, bytes: &[u8]) {
+    match audit(session, bytes) {
+        Ok(verdict) => page.made(verdict.to_text(alloc)),
+        Err(fault) => page.fault(&fault),
+    }
+}
+
+/// The component in hexadecimal, which is kept, or why there is none.
+fn write_built(alloc: Global, session: &Session, built: &mut Option<Vec<u8>>, page: &mut Page) {
     match session.build() {
         Ok(bytes) => {
-            let digits = hex::encode(alloc, bytes.as_slice())?;
+            page.made(hex::encode(alloc, bytes.as_slice()));
             *built = Some(bytes);
-            push_text(out, &digits)
         }
-        Err(fault) => push_fault(out, &fault),
+        Err(fault) => page.fault(&fault),
     }
 }
 
-/// Asks a session, and adds what it answers; `built` is what was built last.
+/// Asks a session, and writes what it answers; `built` is what was built last.
 pub fn ask(
     alloc: Global,
     session: &mut Session,
     built: &mut Option<Vec<u8>>,
     question: &Question,
-    out: &mut String,
-) -> Result<(), AllocError> {
+    page: &mut Page,
+) {
     match question {
-        Question::Packages => push_packages(out, session),
+        Question::Packages => write_packages(page, session),
         Question::Select(packages, text) => {
-            push_selection(
+            write_selection(
                 session,
                 packages,
                 text.as_ref().map(|text| text.as_str()),
-                out,
-            )
+                page,
+            );
         }
-        Question::Links => push_links(alloc, out, session.links()),
-        Question::Build => push_built(alloc, session, built, out),
-        Question::Audit(bytes) => push_verdict(alloc, out, audit(session, bytes)),
+        Question::Links => write_linking(alloc, page, session),
+        Question::Build => write_built(alloc, session, built, page),
+        Question::Audit(bytes) => write_verdict(alloc, page, session, bytes),
         Question::AuditBuilt => match built {
-            Some(bytes) => push_verdict(alloc, out, audit(session, bytes)),
-            None => out.push_str(UNREADABLE),
+            Some(bytes) => write_verdict(alloc, page, session, bytes),
+            None => page.words(UNREADABLE),
         },
     }
 }

@@ -39,15 +39,27 @@ fn words_of<'t>(alloc: Global, text: &'t str) -> Result<Vec<&'t str>, AllocError
     text.split_whitespace().collect(alloc)
 }
 
+/// The row of the link that these words spell.
+fn link_row<'t>(alloc: Global, rest: &str) -> Result<Row<'t>, RowFault> {
+    let words = words_of(alloc, rest)?;
+    let link = link_of(alloc, &words)?;
+    Ok(Row::Link(Box::new(alloc, link)?))
+}
+
+/// The row of the verdict that these words spell.
+fn verdict_row<'t>(alloc: Global, rest: &str) -> Result<Row<'t>, RowFault> {
+    let words = words_of(alloc, rest)?;
+    Ok(Row::Verdict(readable(verdict_of(&words))?))
+}
+
 /// The row of this first word that needs no session.
 fn other_row<'t>(alloc: Global, word: &str, rest: &'t str) -> Result<Row<'t>, RowFault> {
-    let words = words_of(alloc, rest)?;
     match word {
         "file" => Ok(Row::File(file_of(alloc, rest)?)),
-        "line" => Ok(Row::Line(words)),
-        "run" => Ok(Row::Run(words)),
-        "link" => Ok(Row::Link(Box::new(alloc, link_of(alloc, &words)?)?)),
-        "verdict" => Ok(Row::Verdict(readable(verdict_of(&words))?)),
+        "line" => Ok(Row::Line(words_of(alloc, rest)?)),
+        "run" => Ok(Row::Run(words_of(alloc, rest)?)),
+        "link" => link_row(alloc, rest),
+        "verdict" => verdict_row(alloc, rest),
         _ => Err(RowFault::Unreadable),
     }
 }

@@ -45,20 +45,43 @@ fn owner_of(alloc: Global, word: &str) -> Result<Owner, RowFault> {
 /// A link whose texts are absent: its side, owner, kind and encoding.
 fn bare_link(alloc: Global, words: [&str; 4]) -> Result<Link, RowFault> {
     let [side, owner, kind, encoding] = words;
+    let side = readable(side_named(side))?;
+    let kind = readable(kind_named(kind))?;
+    let encoding = readable(encoding_named(encoding))?;
     Ok(Link {
-        side: readable(side_named(side))?,
+        side,
         owner: owner_of(alloc, owner)?,
         module: None,
         name: None,
-        kind: readable(kind_named(kind))?,
+        kind,
         place: None,
         item: None,
         memory: None,
         realloc: None,
-        encoding: readable(encoding_named(encoding))?,
+        encoding,
         post_return: None,
         hook: None,
     })
+}
+
+/// Names the core item and what stands for it: its module, name, place and item.
+fn name_ends(alloc: Global, link: &mut Link, words: [&str; 4]) -> Result<(), RowFault> {
+    let [module, name, place, item] = words;
+    link.module = quoted_or_absent(alloc, module)?;
+    link.name = quoted_or_absent(alloc, name)?;
+    link.place = quoted_or_absent(alloc, place)?;
+    link.item = quoted_or_absent(alloc, item)?;
+    Ok(())
+}
+
+/// Names its options: memory, realloc, post-return and hook.
+fn name_options(alloc: Global, link: &mut Link, words: [&str; 4]) -> Result<(), RowFault> {
+    let [memory, realloc, post_return, hook] = words;
+    link.memory = quoted_or_absent(alloc, memory)?;
+    link.realloc = quoted_or_absent(alloc, realloc)?;
+    link.post_return = quoted_or_absent(alloc, post_return)?;
+    link.hook = quoted_or_absent(alloc, hook)?;
+    Ok(())
 }
 
 /// The link of these words, a field each; an absent one is `-`.
@@ -81,15 +104,9 @@ pub fn link_of(alloc: Global, words: &[&str]) -> Result<Link, RowFault> {
         return Err(RowFault::Unreadable);
     };
     let mut link = bare_link(alloc, [*side, *owner, *kind, *encoding])?;
-    link.module = quoted_or_absent(alloc, module)?;
-    link.name = quoted_or_absent(alloc, name)?;
-    link.place = quoted_or_absent(alloc, place)?;
-    link.item = quoted_or_absent(alloc, item)?;
-    link.memory = quoted_or_absent(alloc, memory)?;
-    link.realloc = quoted_or_absent(alloc, realloc)?;
-    link.post_return = quoted_or_absent(alloc, post_return)?;
-    link.hook = quoted_or_absent(alloc, hook)?;
-    Ok(link)
+    let ends = name_ends(alloc, &mut link, [*module, *name, *place, *item]);
+    let options = name_options(alloc, &mut link, [*memory, *realloc, *post_return, *hook]);
+    ends.and(options).and(Ok(link))
 }
 
 fn finding_named(word: &str) -> Option<FindingKind> {

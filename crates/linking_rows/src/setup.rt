@@ -1,9 +1,10 @@
 //! Rows that hand a session its input; they are answered where they are refused.
 
+use crate::page::Page;
 use crate::row::UNREADABLE;
 use crate::spelling::{RowFault, bytes_of, readable, unescaped};
 use component_linker::{Fault, PackageId, Session, StringEncoding, WorldId};
-use std::alloc::{AllocError, Global};
+use std::alloc::Global;
 
 /// An option that is on or off.
 #[derive(Clone, Copy)]
@@ -83,50 +84,37 @@ fn set(session: &mut Session, setting: Setting, on: bool) {
     };
 }
 
-/// Adds the line of a refusal.
-pub fn push_fault(out: &mut String, fault: &Fault) -> Result<(), AllocError> {
-    write!(out, "  {fault}\n")
-}
-
-/// Adds the line of a refusal, if there is one.
-fn push_refusal(out: &mut String, outcome: Result<(), Fault>) -> Result<(), AllocError> {
-    match outcome {
-        Ok(()) => Ok(()),
-        Err(fault) => push_fault(out, &fault),
+/// The line of a refusal, if there is one.
+fn write_refusal(page: &mut Page, outcome: Result<(), Fault>) {
+    if let Err(fault) = outcome {
+        page.fault(&fault);
     }
 }
 
 /// Hands in the main module, where there is a world for it.
-fn hand_in<'r>(
-    session: &mut Session<'r>,
-    bytes: &'r [u8],
-    out: &mut String,
-) -> Result<(), AllocError> {
+fn hand_in<'r>(session: &mut Session<'r>, bytes: &'r [u8], page: &mut Page) {
     let world = session.world().unwrap_or(WorldId::from_index(0));
     if world.index() >= session.packages().len() {
-        return out.push_str(UNREADABLE);
+        return page.words(UNREADABLE);
     }
-    let outcome = session.module(bytes, world, StringEncoding::UTF8);
-    push_refusal(out, outcome)
+    write_refusal(page, session.module(bytes, world, StringEncoding::UTF8));
 }
 
-/// Hands a session what the row says, and adds the line of a refusal.
+/// Hands a session what the row says, and writes the line of a refusal.
 pub fn hand_over<'r>(
     alloc: Global,
     session: &mut Session<'r>,
     setup: &'r Setup<'_>,
-    out: &mut String,
-) -> Result<(), AllocError> {
+    page: &mut Page,
+) {
     match setup {
-        Setup::Text(text) => match session.push_source("a.wit", text) {
-            Ok(_) => Ok(()),
-            Err(fault) => push_fault(out, &fault),
-        },
-        Setup::World(name) => push_refusal(out, choose(alloc, session, name)),
-        Setup::Main(bytes) => hand_in(session, bytes, out),
-        Setup::Option(setting, on) => {
-            set(session, *setting, *on);
-            Ok(())
+        Setup::Text(text) => {
+            if let Err(fault) = session.push_source("a.wit", text) {
+                page.fault(&fault);
+            }
         }
+        Setup::World(name) => write_refusal(page, choose(alloc, session, name)),
+        Setup::Main(bytes) => hand_in(session, bytes, page),
+        Setup::Option(setting, on) => set(session, *setting, *on),
     }
 }

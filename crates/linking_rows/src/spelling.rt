@@ -94,34 +94,14 @@ pub fn bytes_of(alloc: Global, digits: &str) -> Result<Vec<u8>, RowFault> {
     }
 }
 
-/// Adds a character of a text between quotation marks.
-fn push_escaped(out: &mut String, character: char) -> Result<(), AllocError> {
+/// How a character is spelled between quotation marks where an escape stands for it.
+pub fn escaped(character: char) -> Option<&'static str> {
     match character {
-        '\n' => out.push_str("\\n"),
-        '\r' => out.push_str("\\r"),
-        '\t' => out.push_str("\\t"),
-        '\\' => out.push_str("\\\\"),
-        '"' => out.push_str("\\\""),
-        other => out.push(other),
+        '\n' => Some("\\n"),
+        '\r' => Some("\\r"),
+        '\t' => Some("\\t"),
+        '\\' => Some("\\\\"),
+        '"' => Some("\\\""),
+        _ => None,
     }
-}
-
-/// Adds a text between quotation marks.
-pub fn push_quoted(out: &mut String, text: &str) -> Result<(), AllocError> {
-    out.push('"')?;
-    for character in text.chars() {
-        push_escaped(out, character)?;
-    }
-    out.push('"')
-}
-
-/// Adds bytes: a text between quotation marks, and in hexadecimal where a zero stands in them or they are no text.
-pub fn push_bytes(alloc: Global, out: &mut String, bytes: &[u8]) -> Result<(), AllocError> {
-    if let Ok(text) = str::from_utf8(bytes)
-        && !bytes.contains(&0)
-    {
-        return push_quoted(out, text);
-    }
-    let digits = hex::encode(alloc, bytes)?;
-    out.push_str(&digits)
 }

@@ -1,6 +1,6 @@
 -- The component that is written for a linking, as the list of its definitions. Indices are counted out from this order:
 -- types of the needed imports, the imports, the main module, the lowerings, what the module is given, its instance, its
--- core exports, types of the exports, the lifts, the exports.
+-- core exports, types of the exports, the lifts, the exports (Component Model Binary, Index Spaces).
 use Rattle.std.specs.Prelude.{ℕ, suc, List, [], ◌∷◌, ◌++◌, map, length, None, Bool, ◌&&◌, bytes_eq, if◌then◌else◌}
 use Rattle.std.specs.List.{flat_map, list_any}
 use Rattle.known_definitions.specs.Definition.{ArgumentValue, InlineExportValue, DefinitionValue, core_module_of, instantiation_of, inline_of, alias_of, type_of, lift_of, lower_of, import_of, export_of}

@@ -1,4 +1,4 @@
--- What is written, seen among all definitions of components.
+-- What is written, seen among all definitions of components (Component Model Binary).
 use Rattle.std.specs.Prelude.{List, map}
 use Rattle.component_sections.specs.declared.section.Definition.{Definition}
 use Rattle.component_sections.specs.Component as whole

@@ -217,6 +217,26 @@ fn add_imports<'a>(
     ensures cause { IfErr result (IsLinkCause (view.linking linking.now)) }
 {
     let places = places_of(alloc, &linking.world.imports)?;
+    add_places(linking, &places, table)
+}
+
+/// The same by the places of the world's imports.
+fn add_places<'a>(
+    linking: &Linking<'_, 'a>,
+    places: &IndexMap<&str, Candidates>,
+    table: &mut Table<'a>,
+) -> Result<(), Fault>
+    requires places { Notes (λ f. f.name) (view.linking linking.now).world.imports (candidates places.now) }
+    requires legacy { table.old.legacy ≡ [] }
+    requires standard { table.old.standard ≡ [] }
+    requires imports { table.old.imports.items ≡ [] }
+    ensures legacy { OnOk result (table.new.legacy ≡ names_under (view.linking linking.now) root) }
+    ensures standard { OnOk result (table.new.standard ≡ names_under (view.linking linking.now) standard) }
+    ensures imports { OnOk result (Placed (ImportPlace (view.linking linking.now)) (view.linking linking.now).main.imports table.new.imports.items) }
+    ensures distinct { OnOk result (RepeatsPair (view.linking linking.now).main.imports → ⊥) }
+    ensures exports { OnOk result (table.new.exports ≡ table.old.exports) }
+    ensures cause { IfErr result (IsLinkCause (view.linking linking.now)) }
+{
     for import in &linking.main.imports {
         add_name(table, import)?;
         let place = import_place(linking, places.get(import.name).copied(), import)?;

@@ -1,7 +1,6 @@
 //! Functions and definitions of types.
 
 use crate::writer::Writer;
-use std::alloc::AllocError;
 use wit_syntax::{
     Case, EnumCase, Field, Flag, Func, Gated, Id, NamedFunc, Param, ResourceFunc, Type, TypeDef,
     TypeDefKind,
@@ -9,52 +8,48 @@ use wit_syntax::{
 
 impl Writer {
     /// A name and its type, at the end of a line.
-    fn typed_id(&mut self, id: &Id, ty: &Type) -> Result<(), AllocError> {
-        self.id(id)?;
-        self.words(": ")?;
-        self.ty(ty)?;
-        self.end()
+    fn typed_id(&mut self, id: &Id, ty: &Type) {
+        self.id(id);
+        self.words(": ");
+        self.ty(ty);
+        self.end();
     }
 
     /// Lines for the parameters and for the result.
-    fn signature(&mut self, params: &[Param], answer: &Option<Type>) -> Result<(), AllocError> {
+    fn signature(&mut self, params: &[Param], answer: &Option<Type>) {
         self.go_in();
         for param in params {
-            self.begin("parameter ")?;
-            self.typed_id(&param.name, &param.ty)?;
+            self.begin("parameter ");
+            self.typed_id(&param.name, &param.ty);
         }
-        self.result_line(answer)?;
+        self.result_line(answer);
         self.go_out();
-        Ok(())
     }
 
     /// A line for a result, if there is one.
-    fn result_line(&mut self, answer: &Option<Type>) -> Result<(), AllocError> {
-        match answer {
-            Some(ty) => {
-                self.begin("result ")?;
-                self.ty(ty)?;
-                self.end()
-            }
-            None => Ok(()),
+    fn result_line(&mut self, answer: &Option<Type>) {
+        if let Some(ty) = answer {
+            self.begin("result ");
+            self.ty(ty);
+            self.end();
         }
     }
 
     /// A function, behind words that say what it is to what it stands in.
-    pub fn function(&mut self, words: &str, function: &NamedFunc) -> Result<(), AllocError> {
+    pub fn function(&mut self, words: &str, function: &NamedFunc) {
         let Func {
             async_,
             params,
             result,
         } = &function.func;
-        self.begin(words)?;
-        self.words(if *async_ { "async func " } else { "func " })?;
-        self.last_id(&function.name)?;
-        self.signature(params, result)
+        self.begin(words);
+        self.words(if *async_ { "async func " } else { "func " });
+        self.last_id(&function.name);
+        self.signature(params, result);
     }
 
     /// A definition of a type.
-    pub fn definition(&mut self, definition: &TypeDef) -> Result<(), AllocError> {
+    pub fn definition(&mut self, definition: &TypeDef) {
         let name = &definition.name;
         match &definition.kind {
             TypeDefKind::Alias(ty) => self.alias(name, ty),
@@ -66,99 +61,94 @@ impl Writer {
         }
     }
 
-    fn alias(&mut self, name: &Id, ty: &Type) -> Result<(), AllocError> {
-        self.begin("type ")?;
-        self.typed_id(name, ty)
+    fn alias(&mut self, name: &Id, ty: &Type) {
+        self.begin("type ");
+        self.typed_id(name, ty);
     }
 
-    fn record(&mut self, name: &Id, fields: &[Field]) -> Result<(), AllocError> {
-        self.begin("record ")?;
-        self.last_id(name)?;
+    fn record(&mut self, name: &Id, fields: &[Field]) {
+        self.begin("record ");
+        self.last_id(name);
         self.go_in();
         for field in fields {
-            self.field(field)?;
+            self.field(field);
         }
         self.go_out();
-        Ok(())
     }
 
-    fn field(&mut self, field: &Field) -> Result<(), AllocError> {
-        self.docs(&field.docs)?;
-        self.begin("field ")?;
-        self.typed_id(&field.name, &field.ty)
+    fn field(&mut self, field: &Field) {
+        self.docs(&field.docs);
+        self.begin("field ");
+        self.typed_id(&field.name, &field.ty);
     }
 
-    fn flags(&mut self, name: &Id, flags: &[Flag]) -> Result<(), AllocError> {
-        self.begin("flags ")?;
-        self.last_id(name)?;
+    fn flags(&mut self, name: &Id, flags: &[Flag]) {
+        self.begin("flags ");
+        self.last_id(name);
         self.go_in();
         for flag in flags {
-            self.flag(flag)?;
+            self.flag(flag);
         }
         self.go_out();
-        Ok(())
     }
 
-    fn flag(&mut self, flag: &Flag) -> Result<(), AllocError> {
-        self.docs(&flag.docs)?;
-        self.begin("flag ")?;
-        self.last_id(&flag.name)
+    fn flag(&mut self, flag: &Flag) {
+        self.docs(&flag.docs);
+        self.begin("flag ");
+        self.last_id(&flag.name);
     }
 
-    fn enumeration(&mut self, name: &Id, cases: &[EnumCase]) -> Result<(), AllocError> {
-        self.begin("enum ")?;
-        self.last_id(name)?;
+    fn enumeration(&mut self, name: &Id, cases: &[EnumCase]) {
+        self.begin("enum ");
+        self.last_id(name);
         self.go_in();
         for case in cases {
-            self.enum_case(case)?;
+            self.enum_case(case);
         }
         self.go_out();
-        Ok(())
     }
 
-    fn enum_case(&mut self, case: &EnumCase) -> Result<(), AllocError> {
-        self.docs(&case.docs)?;
-        self.begin("case ")?;
-        self.last_id(&case.name)
+    fn enum_case(&mut self, case: &EnumCase) {
+        self.docs(&case.docs);
+        self.begin("case ");
+        self.last_id(&case.name);
     }
 
-    fn variant(&mut self, name: &Id, cases: &[Case]) -> Result<(), AllocError> {
-        self.begin("variant ")?;
-        self.last_id(name)?;
+    fn variant(&mut self, name: &Id, cases: &[Case]) {
+        self.begin("variant ");
+        self.last_id(name);
         self.go_in();
         for case in cases {
-            self.case(case)?;
+            self.case(case);
         }
         self.go_out();
-        Ok(())
     }
 
-    fn case(&mut self, case: &Case) -> Result<(), AllocError> {
-        self.docs(&case.docs)?;
-        self.begin("case ")?;
+    fn case(&mut self, case: &Case) {
+        self.docs(&case.docs);
+        self.begin("case ");
         match &case.ty {
             Some(ty) => self.typed_id(&case.name, ty),
             None => self.last_id(&case.name),
         }
     }
 
-    fn resource(&mut self, name: &Id, members: &[Gated<ResourceFunc>]) -> Result<(), AllocError> {
-        self.begin("resource ")?;
-        self.last_id(name)?;
+    fn resource(&mut self, name: &Id, members: &[Gated<ResourceFunc>]) {
+        self.begin("resource ");
+        self.last_id(name);
         self.go_in();
         for member in members {
-            self.gates(member)?;
-            self.member(&member.item)?;
+            self.gates(member);
+            self.member(&member.item);
         }
         self.go_out();
-        Ok(())
     }
 
-    fn member(&mut self, member: &ResourceFunc) -> Result<(), AllocError> {
+    fn member(&mut self, member: &ResourceFunc) {
         match member {
             ResourceFunc::Constructor { params, result } => {
-                self.begin("constructor\n")?;
-                self.signature(params, result)
+                self.begin("constructor\n");
+                self.signature(params, result);
             }
             ResourceFunc::Method(function) => self.function("method ", function),
             ResourceFunc::Static(function) => self.function("static ", function),

@@ -2,7 +2,7 @@
 
 use std::alloc::{AllocError, Global};
 use std::fmt::Write;
-use wit_syntax::parse_type;
+use wit_syntax::{Type, parse_type};
 
 /// Types by their texts, in the order of their rows.
 #[derive(Drop)]
@@ -10,15 +10,25 @@ pub struct Types {
     texts: Vec<String>,
 }
 
-/// How two texts are alike as types, which is asked both ways.
-fn likeness(alloc: Global, a: &str, b: &str) -> Option<bool> {
-    let first = parse_type(alloc, a).ok()?;
-    let second = parse_type(alloc, b).ok()?;
-    let equal = first == second;
-    if equal == (second == first) {
-        Some(equal)
-    } else {
-        None
+/// How two types are alike, which is asked both ways.
+fn likeness<'a>(a: &Type<'a>, b: &Type<'a>) -> Option<bool> {
+    let equal = a == b;
+    if equal == (b == a) { Some(equal) } else { None }
+}
+
+/// How the type of a text is like another.
+fn likeness_to<'a>(alloc: Global, a: &Type<'a>, b: &'a str) -> Option<bool> {
+    match parse_type(alloc, b) {
+        Ok(b) => likeness(a, &b),
+        Err(_) => None,
+    }
+}
+
+/// How two texts are alike as types.
+fn text_likeness<'a>(alloc: Global, a: &'a str, b: &'a str) -> Option<bool> {
+    match parse_type(alloc, a) {
+        Ok(a) => likeness_to(alloc, &a, b),
+        Err(_) => None,
     }
 }
 
@@ -37,13 +47,13 @@ impl Types {
         let mut out = format!(in alloc; "{number}. {row}")?;
         for (index, other) in self.texts.iter().enumerate() {
             let number = index.saturating_add(1);
-            match likeness(alloc, other, &text) {
+            match text_likeness(alloc, other, &text) {
                 Some(true) => write!(out, ", equal to {number}")?,
                 Some(false) => {}
                 None => write!(out, "! equal to {number} in one order, or no type")?,
             }
         }
-        if likeness(alloc, &text, &text) != Some(true) {
+        if text_likeness(alloc, &text, &text) != Some(true) {
             out.push_str("! not equal to itself")?;
         }
         self.texts.push(text)?;

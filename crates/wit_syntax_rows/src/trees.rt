@@ -23,8 +23,8 @@ fn tree_at(alloc: Global, text: &str, offset: u32) -> Result<String, AllocError>
     match parse_file(alloc, text, offset) {
         Ok(file) => {
             let mut tree = Writer::new(alloc, offset);
-            tree.file(&file)?;
-            Ok(tree.finish())
+            tree.file(file.package.as_ref(), file.items.as_slice());
+            tree.finish()
         }
         Err(fault) => refused(alloc, fault, offset),
     }
@@ -46,9 +46,9 @@ fn type_tree(alloc: Global, text: &str) -> Result<String, AllocError> {
     match parse_type(alloc, text) {
         Ok(ty) => {
             let mut tree = Writer::new(alloc, 0);
-            tree.ty(&ty)?;
-            tree.end()?;
-            Ok(tree.finish())
+            tree.ty(&ty);
+            tree.end();
+            tree.finish()
         }
         Err(fault) => refused(alloc, fault, 0),
     }
@@ -65,9 +65,9 @@ fn path_tree(alloc: Global, text: &str) -> Result<String, AllocError> {
     match parse_use_path(alloc, text) {
         Ok(path) => {
             let mut tree = Writer::new(alloc, 0);
-            tree.path(&path)?;
-            tree.end()?;
-            Ok(tree.finish())
+            tree.path(&path);
+            tree.end();
+            tree.finish()
         }
         Err(fault) => refused(alloc, fault, 0),
     }

@@ -1,7 +1,6 @@
 //! Types, as WIT has them, where each name and each other type has its place behind it.
 
 use crate::writer::Writer;
-use std::alloc::AllocError;
 use wit_syntax::{Type, TypeKind};
 
 /// The keyword in front of a type.
@@ -51,30 +50,30 @@ fn has_brackets(ty: &TypeKind) -> bool {
 impl Writer {
     /// A type.
     #[cycle(within)]
-    pub fn ty(&mut self, ty: &Type) -> Result<(), AllocError> {
+    pub fn ty(&mut self, ty: &Type) {
         let kind = &ty.kind;
-        self.words(keyword(kind))?;
+        self.words(keyword(kind));
         if has_brackets(kind) {
-            self.words("<")?;
-            self.inside(kind)?;
-            self.words(">")?;
+            self.words("<");
+            self.inside(kind);
+            self.words(">");
         } else {
-            self.inside(kind)?;
+            self.inside(kind);
         }
-        self.place_of(ty)
+        self.place_of(ty);
     }
 
     /// The place of a type behind it; a name has its own.
-    fn place_of(&mut self, ty: &Type) -> Result<(), AllocError> {
+    fn place_of(&mut self, ty: &Type) {
         match ty.kind {
-            TypeKind::Name(_) => Ok(()),
+            TypeKind::Name(_) => {}
             _ => self.span(ty.span),
         }
     }
 
     /// What stands within the brackets of a type, or a type's name.
     #[cycle(within)]
-    fn inside(&mut self, ty: &TypeKind) -> Result<(), AllocError> {
+    fn inside(&mut self, ty: &TypeKind) {
         match ty {
             TypeKind::Name(id) | TypeKind::Own(id) | TypeKind::Borrow(id) => self.id(id),
             TypeKind::List(part)
@@ -82,40 +81,38 @@ impl Writer {
             | TypeKind::Future(Some(part))
             | TypeKind::Stream(Some(part)) => self.ty(part),
             TypeKind::FixedLengthList(part, length) => {
-                self.ty(part)?;
-                self.length(*length)
+                self.ty(part);
+                self.length(*length);
             }
             TypeKind::Tuple(_) => self.tuple_parts(ty),
             TypeKind::Result { .. } => self.result_parts(ty),
-            _ => Ok(()),
+            _ => {}
         }
     }
 
     /// The types in a tuple.
     #[cycle(within)]
-    fn tuple_parts(&mut self, ty: &TypeKind) -> Result<(), AllocError> {
+    fn tuple_parts(&mut self, ty: &TypeKind) {
         if let TypeKind::Tuple(parts) = ty {
             for (index, part) in parts.iter().enumerate() {
-                self.words(if index == 0 { "" } else { ", " })?;
-                self.ty(part)?;
+                self.words(if index == 0 { "" } else { ", " });
+                self.ty(part);
             }
         }
-        Ok(())
     }
 
     /// The types in a result, if there are some.
     #[cycle(within)]
-    fn result_parts(&mut self, ty: &TypeKind) -> Result<(), AllocError> {
+    fn result_parts(&mut self, ty: &TypeKind) {
         let TypeKind::Result { ok, err } = ty else {
-            return Ok(());
+            return;
         };
         if let Some(part) = ok {
-            self.ty(part)?;
+            self.ty(part);
         }
         if let Some(part) = err {
-            self.words(if ok.is_some() { ", " } else { "_, " })?;
-            self.ty(part)?;
+            self.words(if ok.is_some() { ", " } else { "_, " });
+            self.ty(part);
         }
-        Ok(())
     }
 }

@@ -9,6 +9,8 @@ use wit_syntax::{Attribute, Docs, Gate, Gated, Id, PackageName, Span, UseName, U
 pub struct Writer {
     /// What is written.
     out: String,
+    /// Whether a request for memory was refused; `finish` says so.
+    refused: bool,
     /// In how many parts the next line stands.
     depth: usize,
     /// Where the text begins, which places are counted from.
@@ -22,15 +24,24 @@ impl Writer {
     pub fn new(alloc: Global, offset: u32) -> Writer {
         Writer {
             out: String::new(alloc),
+            refused: false,
             depth: 0,
             offset,
             item: None,
         }
     }
 
-    /// What was written.
-    pub fn finish(self) -> String {
-        self.out
+    /// What was written, if all of it found memory.
+    pub fn finish(self) -> Result<String, AllocError> {
+        if self.refused {
+            return Err(AllocError);
+        }
+        Ok(self.out)
+    }
+
+    /// Takes note of whether a part was written.
+    fn note(&mut self, written: Result<(), AllocError>) {
+        self.refused |= written.is_err();
     }
 
     /// The next lines stand in the part of the last one.
@@ -44,148 +55,151 @@ impl Writer {
     }
 
     /// Begins a line; that of an item has its place in front.
-    pub fn begin(&mut self, words: &str) -> Result<(), AllocError> {
+    pub fn begin(&mut self, words: &str) {
         for _ in 0..self.depth {
-            self.out.push_str("    ")?;
+            self.words("    ");
         }
         if let Some(span) = self.item.take() {
-            self.span(span)?;
-            self.out.push(' ')?;
+            self.span(span);
+            self.words(" ");
         }
-        self.out.push_str(words)
+        self.words(words);
     }
 
     /// Goes on with a line.
-    pub fn words(&mut self, words: &str) -> Result<(), AllocError> {
-        self.out.push_str(words)
+    pub fn words(&mut self, words: &str) {
+        let written = self.out.push_str(words);
+        self.note(written);
     }
 
     /// Ends a line.
-    pub fn end(&mut self) -> Result<(), AllocError> {
-        self.out.push('\n')
+    pub fn end(&mut self) {
+        self.words("\n");
     }
 
     /// The length of a list behind its type.
-    pub fn length(&mut self, length: u32) -> Result<(), AllocError> {
-        write!(self.out, ", {length}")
+    pub fn length(&mut self, length: u32) {
+        let written = write!(self.out, ", {length}");
+        self.note(written);
     }
 
     /// A place.
-    pub fn span(&mut self, span: Span) -> Result<(), AllocError> {
+    pub fn span(&mut self, span: Span) {
         let start = span.start.wrapping_sub(self.offset);
         let end = span.end.wrapping_sub(self.offset);
-        write!(self.out, "[{start}..{end}]")
+        let written = write!(self.out, "[{start}..{end}]");
+        self.note(written);
     }
 
     /// A name and its place.
-    pub fn id(&mut self, id: &Id) -> Result<(), AllocError> {
-        self.out.push_str(id.name)?;
-        self.span(id.span)
+    pub fn id(&mut self, id: &Id) {
+        self.words(id.name);
+        self.span(id.span);
     }
 
     /// A name at the end of a line.
-    pub fn last_id(&mut self, id: &Id) -> Result<(), AllocError> {
-        self.id(id)?;
-        self.end()
+    pub fn last_id(&mut self, id: &Id) {
+        self.id(id);
+        self.end();
     }
 
-    fn version(&mut self, version: &Version) -> Result<(), AllocError> {
-        self.out.push_str(version.text)?;
-        self.span(version.span)
+    fn version(&mut self, version: &Version) {
+        self.words(version.text);
+        self.span(version.span);
     }
 
     /// A version behind a name, if there is one.
-    fn at_version(&mut self, version: &Option<Version>) -> Result<(), AllocError> {
-        match version {
-            Some(version) => {
-                self.out.push('@')?;
-                self.version(version)
-            }
-            None => Ok(()),
+    fn at_version(&mut self, version: &Option<Version>) {
+        if let Some(version) = version {
+            self.words("@");
+            self.version(version);
         }
     }
 
     /// The two names of a package.
-    fn package_names(&mut self, name: &PackageName) -> Result<(), AllocError> {
-        self.id(&name.namespace)?;
-        self.out.push(':')?;
-        self.id(&name.name)
+    fn package_names(&mut self, name: &PackageName) {
+        self.id(&name.namespace);
+        self.words(":");
+        self.id(&name.name);
     }
 
     /// `namespace:name` or `namespace:name@version`
-    pub fn package_name(&mut self, name: &PackageName) -> Result<(), AllocError> {
-        self.package_names(name)?;
-        self.at_version(&name.version)
+    pub fn package_name(&mut self, name: &PackageName) {
+        self.package_names(name);
+        self.at_version(&name.version);
     }
 
     /// `name`, or the name of a package with the name in it.
-    pub fn path(&mut self, path: &UsePath) -> Result<(), AllocError> {
+    pub fn path(&mut self, path: &UsePath) {
         match path {
             UsePath::Id(id) => self.id(id),
             UsePath::Package { id, name } => {
-                self.package_names(id)?;
-                self.out.push('/')?;
-                self.id(name)?;
-                self.at_version(&id.version)
+                self.package_names(id);
+                self.words("/");
+                self.id(name);
+                self.at_version(&id.version);
             }
         }
     }
 
     /// Another name behind a name, if there is one, and the end of the line.
-    pub fn as_name(&mut self, other: &Option<Id>) -> Result<(), AllocError> {
+    pub fn as_name(&mut self, other: &Option<Id>) {
         if let Some(other) = other {
-            self.out.push_str(" as ")?;
-            self.id(other)?;
+            self.words(" as ");
+            self.id(other);
         }
-        self.end()
+        self.end();
     }
 
     /// A line for a name that is used.
-    pub fn used_name(&mut self, name: &UseName) -> Result<(), AllocError> {
-        self.begin("name ")?;
-        self.id(&name.name)?;
-        self.as_name(&name.as_)
+    pub fn used_name(&mut self, name: &UseName) {
+        self.begin("name ");
+        self.id(&name.name);
+        self.as_name(&name.as_);
     }
 
     /// A line for each comment.
-    pub fn docs(&mut self, docs: &Docs) -> Result<(), AllocError> {
+    pub fn docs(&mut self, docs: &Docs) {
         for comment in &docs.comments {
-            self.begin("docs ")?;
-            self.span(comment.span)?;
+            self.begin("docs ");
+            self.span(comment.span);
             let text = comment.text;
-            writeln!(self.out, " {text:?}")?;
+            let written = writeln!(self.out, " {text:?}");
+            self.note(written);
         }
-        Ok(())
     }
 
     /// The lines that stand in front of an item: its docs and its attributes.
-    pub fn gates<T>(&mut self, gated: &Gated<T>) -> Result<(), AllocError> {
-        self.docs(&gated.docs)?;
+    pub fn gates<T>(&mut self, gated: &Gated<T>) {
+        self.docs(&gated.docs);
         for attribute in &gated.attributes {
-            self.attribute(attribute)?;
+            self.attribute(attribute);
         }
         self.item = Some(gated.span);
-        Ok(())
     }
 
-    fn attribute(&mut self, attribute: &Attribute) -> Result<(), AllocError> {
-        self.begin("@")?;
-        self.gate(&attribute.gate)?;
-        self.out.push(' ')?;
-        self.span(attribute.span)?;
-        self.end()
+    fn attribute(&mut self, attribute: &Attribute) {
+        self.begin("@");
+        self.gate(&attribute.gate);
+        self.words(" ");
+        self.span(attribute.span);
+        self.end();
     }
 
-    fn gate(&mut self, gate: &Gate) -> Result<(), AllocError> {
-        let (words, version) = match gate {
-            Gate::Since(version) => ("since ", version),
-            Gate::Deprecated(version) => ("deprecated ", version),
-            Gate::Unstable(feature) => {
-                self.out.push_str("unstable ")?;
-                return self.id(feature);
+    fn gate(&mut self, gate: &Gate) {
+        match gate {
+            Gate::Since(version) => {
+                self.words("since ");
+                self.version(version);
             }
-        };
-        self.out.push_str(words)?;
-        self.version(version)
+            Gate::Deprecated(version) => {
+                self.words("deprecated ");
+                self.version(version);
+            }
+            Gate::Unstable(feature) => {
+                self.words("unstable ");
+                self.id(feature);
+            }
+        }
     }
 }

@@ -1,6 +1,8 @@
 //! Rows of arenas.
 
+use crate::row_fault::RowFault;
 use std::alloc::{AllocError, Global};
+use std::fmt::Write;
 use wit_types::{Arena, Stored};
 
 /// A name in an arena.
@@ -16,25 +18,41 @@ impl Stored for Named {
     type Tag = NamedTag;
 }
 
-/// The answer to a row.
-pub fn answer(alloc: Global, row: &str) -> Result<Option<String>, AllocError> {
-    let mut arena = Arena::new(alloc);
-    let mut out = String::new(alloc);
-    for word in row.split_whitespace() {
-        let name = String::from_str(alloc, word)?;
-        let id = arena.alloc(Named { name })?;
-        let index = id.index();
-        let found = arena.get(id).name.as_str();
-        out.push_str(format!(in alloc; "{index} {found}, ")?.as_str())?;
-    }
-    let len = arena.len();
-    out.push_str(format!(in alloc; "{len}:")?.as_str())?;
-    push_all(&arena, &mut out)?;
-    Ok(Some(out))
+/// Puts a name into an arena, and writes its id and what stands there.
+fn push_one(
+    alloc: Global,
+    arena: &mut Arena<Named>,
+    out: &mut String,
+    word: &str,
+) -> Result<(), AllocError> {
+    let name = String::from_str(alloc, word)?;
+    let id = arena.alloc(Named { name })?;
+    let index = id.index();
+    let found = arena.get(id).name.as_str();
+    write!(out, "{index} {found}, ")
 }
 
-/// Writes the names of an arena, each behind a blank.
+/// Puts names into an arena, and writes each.
+fn arena_of(alloc: Global, words: &str, out: &mut String) -> Result<Arena<Named>, AllocError> {
+    let mut arena = Arena::new(alloc);
+    for word in words.split_whitespace() {
+        push_one(alloc, &mut arena, out, word)?;
+    }
+    Ok(arena)
+}
+
+/// The answer to a row.
+pub fn answer(alloc: Global, row: &str) -> Result<String, RowFault> {
+    let mut out = String::new(alloc);
+    let arena = arena_of(alloc, row, &mut out)?;
+    push_all(&arena, &mut out)?;
+    Ok(out)
+}
+
+/// Writes how many names an arena has, and these, each behind a blank.
 fn push_all(arena: &Arena<Named>, out: &mut String) -> Result<(), AllocError> {
+    let len = arena.len();
+    write!(out, "{len}:")?;
     for named in arena.iter() {
         out.push(' ')?;
         out.push_str(named.name.as_str())?;

@@ -1,5 +1,6 @@
 //! Rows of functions.
 
+use crate::row_fault::{RowFault, made, readable};
 use crate::samples::{function_of, somewhere};
 use std::alloc::{AllocError, Global};
 use wit_types::{Function, FunctionKind, Id, Mangling, Param, Type, TypeId};
@@ -49,26 +50,24 @@ fn sort_and_name(row: &str) -> Option<(FunctionKind, &str)> {
 }
 
 /// The name of an item.
-fn item_name(alloc: Global, row: &str) -> Result<Option<String>, AllocError> {
+fn item_name(alloc: Global, row: &str) -> Result<String, RowFault> {
     let Some((kind, name)) = sort_and_name(row) else {
-        return Ok(None);
+        return Err(RowFault::Unreadable);
     };
     let function = function_of(alloc, name, kind)?;
-    Ok(Some(String::from_str(alloc, function.item_name())?))
+    made(String::from_str(alloc, function.item_name()))
 }
 
 /// The names of a core export: by the two calls, and by the one that is told the mangling.
-fn core_export(alloc: Global, row: &str) -> Result<Option<String>, AllocError> {
-    let Some((interface, name)) = row.split_once(' ') else {
-        return Ok(None);
-    };
+fn core_export(alloc: Global, row: &str) -> Result<String, RowFault> {
+    let (interface, name) = readable(row.split_once(' '))?;
     let interface = if interface == "-" {
         None
     } else {
         Some(interface)
     };
     let function = function_of(alloc, name, FunctionKind::Freestanding)?;
-    Ok(Some(names_text(alloc, &function, interface)?))
+    made(names_text(alloc, &function, interface))
 }
 
 /// The names of a function's core export.
@@ -112,10 +111,8 @@ fn place_text(alloc: Global, resource: Option<TypeId>) -> Result<String, AllocEr
 }
 
 /// What is said of a sort of function.
-fn sort(alloc: Global, row: &str) -> Result<Option<String>, AllocError> {
-    let Some(mut kind) = kind_of(row, Id::from_index(7)) else {
-        return Ok(None);
-    };
+fn sort(alloc: Global, row: &str) -> Result<String, RowFault> {
+    let mut kind = readable(kind_of(row, Id::from_index(7)))?;
     let turn = if kind.is_async() {
         "async"
     } else {
@@ -126,7 +123,7 @@ fn sort(alloc: Global, row: &str) -> Result<Option<String>, AllocError> {
         *resource = Id::from_index(8);
     }
     let after = place_text(alloc, kind.resource())?;
-    Ok(Some(format!(in alloc; "{turn}, {before}, {after}")?))
+    made(format!(in alloc; "{turn}, {before}, {after}"))
 }
 
 /// The type of a word.
@@ -170,9 +167,8 @@ fn params_of(alloc: Global, words: &str) -> Result<Vec<Param>, AllocError> {
 
 /// The function of those parameters and that result.
 fn function_by(alloc: Global, params: &str, word: &str) -> Result<Function, AllocError> {
-    let params = params_of(alloc, params)?;
     let mut function = function_of(alloc, "f", FunctionKind::Freestanding)?;
-    function.params = params;
+    function.params = params_of(alloc, params)?;
     function.result = type_by(word);
     Ok(function)
 }
@@ -198,16 +194,14 @@ fn words_text(alloc: Global, function: &Function) -> Result<String, AllocError> 
 }
 
 /// What the types of a function give one by one.
-fn types(alloc: Global, row: &str) -> Result<Option<String>, AllocError> {
-    let Some((params, result)) = row.split_once("-> ") else {
-        return Ok(None);
-    };
+fn types(alloc: Global, row: &str) -> Result<String, RowFault> {
+    let (params, result) = readable(row.split_once("-> "))?;
     let function = function_by(alloc, params, result)?;
-    Ok(Some(words_text(alloc, &function)?))
+    made(words_text(alloc, &function))
 }
 
 /// The answer to a row.
-pub fn answer(alloc: Global, question: Question, row: &str) -> Result<Option<String>, AllocError> {
+pub fn answer(alloc: Global, question: Question, row: &str) -> Result<String, RowFault> {
     match question {
         Question::ItemName => item_name(alloc, row),
         Question::CoreExport => core_export(alloc, row),

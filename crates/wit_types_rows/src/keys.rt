@@ -1,21 +1,18 @@
 //! Rows of the keys of worlds.
 
+use crate::row_fault::{RowFault, made, readable};
 use std::alloc::{AllocError, Global};
 use std::hash::{DefaultHasher, Hash, Hasher};
 use wit_types::{Id, WorldKey};
 
 /// The key of a text: `name NAME` or `interface PLACE`.
-fn key_of(alloc: Global, text: &str) -> Result<Option<WorldKey>, AllocError> {
+fn key_of(alloc: Global, text: &str) -> Result<WorldKey, RowFault> {
     if let Some(name) = text.strip_prefix("name ") {
-        return Ok(Some(WorldKey::Name(String::from_str(alloc, name)?)));
+        return Ok(WorldKey::Name(String::from_str(alloc, name)?));
     }
-    let Some(digits) = text.strip_prefix("interface ") else {
-        return Ok(None);
-    };
-    match digits.parse::<usize>() {
-        Ok(index) => Ok(Some(WorldKey::Interface(Id::from_index(index)))),
-        Err(_) => Ok(None),
-    }
+    let digits = readable(text.strip_prefix("interface "))?;
+    let index = readable(digits.parse::<usize>().ok())?;
+    Ok(WorldKey::Interface(Id::from_index(index)))
 }
 
 fn hash_of(key: &WorldKey) -> u64 {
@@ -43,19 +40,26 @@ fn unwrapped(key: WorldKey) -> Option<String> {
     None
 }
 
+/// What is said of a key.
+fn key_text(alloc: Global, key: WorldKey) -> Result<String, AllocError> {
+    let text = key.to_text(alloc)?;
+    match unwrapped(key) {
+        Some(name) => format!(in alloc; "{text}, of the name {name}"),
+        None => Ok(text),
+    }
+}
+
+/// How the keys of two texts are alike.
+fn text_likeness(alloc: Global, first: &str, second: &str) -> Result<&'static str, RowFault> {
+    let a = key_of(alloc, first)?;
+    let b = key_of(alloc, second)?;
+    Ok(likeness(&a, &b))
+}
+
 /// The answer to a row.
-pub fn answer(alloc: Global, row: &str) -> Result<Option<String>, AllocError> {
-    let Some((first, second)) = row.split_once(" ~ ") else {
-        return Ok(None);
-    };
-    let (Some(a), Some(b)) = (key_of(alloc, first)?, key_of(alloc, second)?) else {
-        return Ok(None);
-    };
-    let likeness = likeness(&a, &b);
-    let text = a.to_text(alloc)?;
-    let answer = match unwrapped(a) {
-        Some(name) => format!(in alloc; "{likeness}, {text}, of the name {name}"),
-        None => format!(in alloc; "{likeness}, {text}"),
-    };
-    Ok(Some(answer?))
+pub fn answer(alloc: Global, row: &str) -> Result<String, RowFault> {
+    let (first, second) = readable(row.split_once(" ~ "))?;
+    let likeness = text_likeness(alloc, first, second)?;
+    let text = key_text(alloc, key_of(alloc, first)?)?;
+    made(format!(in alloc; "{likeness}, {text}"))
 }

@@ -1,6 +1,7 @@
 //! Rows of what types are called.
 
-use std::alloc::{AllocError, Global};
+use crate::row_fault::{RowFault, made, readable};
+use std::alloc::Global;
 use wit_types::{Enum, Flags, Handle, Id, Record, Result_, Tuple, Type, TypeDefKind, Variant};
 
 /// A type that has parts, with none.
@@ -65,9 +66,7 @@ fn kind_by(alloc: Global, word: &str) -> Option<TypeDefKind> {
 }
 
 /// The answer to a row.
-pub fn answer(alloc: Global, row: &str) -> Result<Option<String>, AllocError> {
-    match kind_by(alloc, row) {
-        Some(kind) => Ok(Some(String::from_str(alloc, kind.as_str())?)),
-        None => Ok(None),
-    }
+pub fn answer(alloc: Global, row: &str) -> Result<String, RowFault> {
+    let kind = readable(kind_by(alloc, row))?;
+    made(String::from_str(alloc, kind.as_str()))
 }

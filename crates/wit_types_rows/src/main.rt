@@ -13,16 +13,18 @@ mod kinds;
 mod members;
 mod order;
 mod packages;
+mod row_fault;
 mod samples;
 mod shorthands;
 mod sizes;
 
 use asked::Asked;
+use row_fault::RowFault;
 use std::alloc::{AllocError, Global};
 use std::io;
 
-/// The answer to a row, where it can be read.
-fn answer(alloc: Global, asked: Asked<'_>, row: &str) -> Result<Option<String>, AllocError> {
+/// The answer to a row.
+fn answer(alloc: Global, asked: Asked<'_>, row: &str) -> Result<String, RowFault> {
     match asked {
         Asked::Order(kind) => order::answer(alloc, kind, row),
         Asked::Size(question) => sizes::answer(alloc, question, row),
@@ -52,9 +54,10 @@ fn answered<'a>(
     let Some(asked) = *asked else {
         return format!(in alloc; "{line}\n! nothing is asked of this row");
     };
-    match answer(alloc, asked, line)? {
-        Some(answer) => format!(in alloc; "{line} => {answer}"),
-        None => format!(in alloc; "{line}\n! cannot read this row"),
+    match answer(alloc, asked, line) {
+        Ok(answer) => format!(in alloc; "{line} => {answer}"),
+        Err(RowFault::Unreadable) => format!(in alloc; "{line}\n! cannot read this row"),
+        Err(RowFault::OutOfMemory) => Err(AllocError),
     }
 }
 

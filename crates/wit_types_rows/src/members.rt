@@ -1,5 +1,6 @@
 //! Rows of docs, stabilities and the items of worlds.
 
+use crate::row_fault::{RowFault, made, readable};
 use crate::samples::{function_of, type_of};
 use semver::Version;
 use std::alloc::{AllocError, Global};
@@ -33,91 +34,93 @@ fn stability_text(stability: &Stability) -> &'static str {
     }
 }
 
+/// Where each item stands.
+const PLACE: Span = Span { start: 3, end: 9 };
+
+/// A function of that stability.
+fn function_item(alloc: Global, stability: Stability) -> Result<WorldItem, AllocError> {
+    let mut function = function_of(alloc, "f", FunctionKind::Freestanding)?;
+    function.stability = stability;
+    function.span = PLACE;
+    Ok(WorldItem::Function(function))
+}
+
+/// A type of that stability.
+fn type_item(types: &mut Arena<TypeDef>, stability: Stability) -> Result<WorldItem, AllocError> {
+    let mut ty = type_of(TypeDefKind::Resource);
+    ty.stability = stability;
+    let id = types.alloc(ty)?;
+    Ok(WorldItem::TypeItem { id, span: PLACE })
+}
+
 /// The item that a word names, of that stability: `interface`, `function` or `type`.
 fn item_by(
     alloc: Global,
+    types: &mut Arena<TypeDef>,
     word: &str,
     stability: Stability,
-) -> Result<(WorldItem, Arena<TypeDef>), AllocError> {
-    let span = Span { start: 3, end: 9 };
-    let mut types = Arena::new(alloc);
-    let item = match word {
-        "interface" => WorldItem::Interface {
+) -> Result<WorldItem, AllocError> {
+    match word {
+        "interface" => Ok(WorldItem::Interface {
             id: Id::from_index(0),
             stability,
-            span,
-        },
-        "function" => {
-            let mut function = function_of(alloc, "f", FunctionKind::Freestanding)?;
-            function.stability = stability;
-            function.span = span;
-            WorldItem::Function(function)
-        }
-        _ => {
-            let mut ty = type_of(TypeDefKind::Resource);
-            ty.stability = stability;
-            let id = types.alloc(ty)?;
-            WorldItem::TypeItem { id, span }
-        }
-    };
-    Ok((item, types))
+            span: PLACE,
+        }),
+        "function" => function_item(alloc, stability),
+        _ => type_item(types, stability),
+    }
 }
 
 /// The answer to a row.
-pub fn answer(alloc: Global, row: &str) -> Result<Option<String>, AllocError> {
+pub fn answer(alloc: Global, row: &str) -> Result<String, RowFault> {
     if row == "no docs" {
-        return docs_text(alloc, None);
+        return made(docs_text(alloc, None));
     }
-    if let Some(text) = row.strip_prefix("docs ") {
-        return docs_text(alloc, Some(String::from_str(alloc, text)?));
+    match row.strip_prefix("docs ") {
+        Some(text) => made(docs_text(alloc, Some(String::from_str(alloc, text)?))),
+        None => stability_or_item(alloc, row),
     }
-    let Some((what, word)) = row.split_once(' ') else {
-        return Ok(None);
-    };
-    let Some(stability) = stability_by(alloc, word) else {
-        return Ok(None);
-    };
+}
+
+/// What is said of a stability, or of an item of one.
+fn stability_or_item(alloc: Global, row: &str) -> Result<String, RowFault> {
+    let (what, word) = readable(row.split_once(' '))?;
+    let stability = readable(stability_by(alloc, word))?;
     if what == "stability" {
-        return Ok(Some(String::from_str(alloc, stability_text(&stability))?));
+        made(String::from_str(alloc, stability_text(&stability)))
+    } else {
+        item_text(alloc, what, stability)
     }
-    item_text(alloc, what, stability)
 }
 
 /// Whether docs are empty.
-fn docs_text(alloc: Global, contents: Option<String>) -> Result<Option<String>, AllocError> {
+fn docs_text(alloc: Global, contents: Option<String>) -> Result<String, AllocError> {
     let docs = Docs { contents };
     let text = if docs.is_empty() {
         "empty"
     } else {
         "not empty"
     };
-    Ok(Some(String::from_str(alloc, text)?))
+    String::from_str(alloc, text)
 }
 
 /// The stability and the place of an item.
-fn item_text(
-    alloc: Global,
-    word: &str,
-    stability: Stability,
-) -> Result<Option<String>, AllocError> {
-    let (item, types) = item_by(alloc, word, stability)?;
+fn item_text(alloc: Global, word: &str, stability: Stability) -> Result<String, RowFault> {
+    let mut types = Arena::new(alloc);
+    let item = item_by(alloc, &mut types, word, stability)?;
     described(alloc, &item, &types)
 }
 
 /// What is said of an item.
-fn described(
-    alloc: Global,
-    item: &WorldItem,
-    types: &Arena<TypeDef>,
-) -> Result<Option<String>, AllocError> {
+fn described(alloc: Global, item: &WorldItem, types: &Arena<TypeDef>) -> Result<String, RowFault> {
     let span = item.span();
     let start = span.start;
     let end = span.end;
     if let WorldItem::TypeItem { id, .. } = item {
         if id.index() >= types.len() {
-            return Ok(None);
+            return Err(RowFault::Unreadable);
         }
     }
     let text = stability_text(item.stability(types));
-    Ok(Some(format!(in alloc; "{text}, at {start}..{end}")?))
+    made(format!(in alloc; "{text}, at {start}..{end}"))
 }

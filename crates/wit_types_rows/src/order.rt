@@ -1,5 +1,6 @@
 //! Rows of names that need one another.
 
+use crate::row_fault::{RowFault, made, readable};
 use indexmap::IndexMap;
 use std::alloc::{AllocError, Global};
 use wit_types::{Need, OrderFault, toposort};
@@ -23,22 +24,28 @@ fn needs_of(alloc: Global, words: &str, from: u32) -> Result<Vec<Need<'_>>, Allo
     Ok(needs)
 }
 
-/// The table of a row.
-fn table_of<'a>(
+/// Adds a name with its needs, of which the first is the how manyth of the row, and answers that of the next.
+fn add_entry<'a>(
     alloc: Global,
-    row: &'a str,
-) -> Result<Option<IndexMap<&'a str, Vec<Need<'a>>>>, AllocError> {
+    table: &mut IndexMap<&'a str, Vec<Need<'a>>>,
+    part: &'a str,
+    from: u32,
+) -> Result<u32, RowFault> {
+    let (name, words) = readable(entry_of(part.trim_end_matches(']')))?;
+    let needs = needs_of(alloc, words, from)?;
+    let count = u32::try_from(needs.len()).unwrap_or(0);
+    table.insert(name, needs)?;
+    Ok(from.saturating_add(count))
+}
+
+/// The table of a row.
+fn table_of<'a>(alloc: Global, row: &'a str) -> Result<IndexMap<&'a str, Vec<Need<'a>>>, RowFault> {
     let mut table = IndexMap::new(alloc);
     let mut from = 0u32;
     for part in row.split("], ") {
-        let Some((name, words)) = entry_of(part.trim_end_matches(']')) else {
-            return Ok(None);
-        };
-        let needs = needs_of(alloc, words, from)?;
-        from = from.saturating_add(u32::try_from(needs.len()).unwrap_or(0));
-        table.insert(name, needs)?;
+        from = add_entry(alloc, &mut table, part, from)?;
     }
-    Ok(Some(table))
+    Ok(table)
 }
 
 /// The names with commas between them.
@@ -62,13 +69,20 @@ fn fault_text(alloc: Global, fault: OrderFault<'_>) -> Result<String, AllocError
     }
 }
 
-/// The answer to a row.
-pub fn answer(alloc: Global, kind: &str, row: &str) -> Result<Option<String>, AllocError> {
-    let Some(table) = table_of(alloc, row)? else {
-        return Ok(None);
-    };
-    match toposort(alloc, kind, &table) {
-        Ok(names) => Ok(Some(names_text(alloc, names.as_slice())?)),
-        Err(fault) => Ok(Some(fault_text(alloc, fault)?)),
+/// The order of a table, or why it has none.
+fn order_text(
+    alloc: Global,
+    kind: &str,
+    table: &IndexMap<&str, Vec<Need<'_>>>,
+) -> Result<String, AllocError> {
+    match toposort(alloc, kind, table) {
+        Ok(names) => names_text(alloc, names.as_slice()),
+        Err(fault) => fault_text(alloc, fault),
     }
+}
+
+/// The answer to a row.
+pub fn answer(alloc: Global, kind: &str, row: &str) -> Result<String, RowFault> {
+    let table = table_of(alloc, row)?;
+    made(order_text(alloc, kind, &table))
 }

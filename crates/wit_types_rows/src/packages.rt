@@ -1,5 +1,6 @@
 //! Rows of versions, packages and manglings.
 
+use crate::row_fault::{RowFault, made, readable};
 use semver::Version;
 use std::alloc::{AllocError, Global};
 use wit_types::{Mangling, PackageName};
@@ -26,23 +27,26 @@ pub fn question_by(words: &str) -> Option<Question> {
     }
 }
 
-/// A suffix in words.
-fn suffix_text(alloc: Global, suffix: Option<String>) -> Result<String, AllocError> {
+/// The text of a version's track, and what stands behind that.
+fn track_text(alloc: Global, version: &Version) -> Result<String, AllocError> {
+    let (text, suffix) = PackageName::version_compat_track_string(alloc, version)?;
     match suffix {
-        Some(suffix) => format!(in alloc; "and {suffix}"),
-        None => String::from_str(alloc, "and nothing"),
+        Some(suffix) => format!(in alloc; "{text} and {suffix}"),
+        None => format!(in alloc; "{text} and nothing"),
     }
 }
 
+/// What is said of a version's track.
+fn both_tracks(alloc: Global, version: &Version) -> Result<String, AllocError> {
+    let text = track_text(alloc, version)?;
+    let (track, _) = PackageName::version_compat_track(alloc, version)?;
+    format!(in alloc; "{text}, as {track}")
+}
+
 /// The track of a version.
-fn track(alloc: Global, row: &str) -> Result<Option<String>, AllocError> {
-    let Ok(version) = Version::parse(alloc, row) else {
-        return Ok(None);
-    };
-    let (text, suffix) = PackageName::version_compat_track_string(alloc, &version)?;
-    let (track, _) = PackageName::version_compat_track(alloc, &version)?;
-    let suffix = suffix_text(alloc, suffix)?;
-    Ok(Some(format!(in alloc; "{text} {suffix}, as {track}")?))
+fn track(alloc: Global, row: &str) -> Result<String, RowFault> {
+    let version = readable(version_of(alloc, row))?;
+    made(both_tracks(alloc, &version))
 }
 
 /// The version of a word, where `-` is none.
@@ -59,16 +63,14 @@ fn words_of(row: &str) -> Option<(&str, &str, &str, &str)> {
 }
 
 /// The texts of a package and of an interface.
-fn package(alloc: Global, row: &str) -> Result<Option<String>, AllocError> {
-    let Some((namespace, name, version, interface)) = words_of(row) else {
-        return Ok(None);
-    };
+fn package(alloc: Global, row: &str) -> Result<String, RowFault> {
+    let (namespace, name, version, interface) = readable(words_of(row))?;
     let package = PackageName {
         namespace: String::from_str(alloc, namespace)?,
         name: String::from_str(alloc, name)?,
         version: version_of(alloc, version),
     };
-    Ok(Some(package_text(alloc, &package, interface)?))
+    made(package_text(alloc, &package, interface))
 }
 
 /// The texts of a package and of an interface of it.
@@ -98,10 +100,10 @@ fn mangling_text(row: &str) -> &'static str {
 }
 
 /// The answer to a row.
-pub fn answer(alloc: Global, question: Question, row: &str) -> Result<Option<String>, AllocError> {
+pub fn answer(alloc: Global, question: Question, row: &str) -> Result<String, RowFault> {
     match question {
         Question::Track => track(alloc, row),
         Question::Package => package(alloc, row),
-        Question::Mangling => Ok(Some(String::from_str(alloc, mangling_text(row))?)),
+        Question::Mangling => made(String::from_str(alloc, mangling_text(row))),
     }
 }

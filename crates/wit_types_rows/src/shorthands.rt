@@ -1,8 +1,9 @@
 //! Rows of constructors.
 
 use crate::functions::kind_of;
+use crate::row_fault::{RowFault, readable};
 use crate::samples::{function_of, type_of};
-use std::alloc::{AllocError, Global};
+use std::alloc::Global;
 use wit_types::{Arena, Function, Handle, Id, Type, TypeDef, TypeDefKind, TypeId};
 
 /// The id that digits spell.
@@ -26,48 +27,48 @@ fn kind_by(word: &str) -> Option<TypeDefKind> {
 }
 
 /// The types that words say.
-fn types_of(alloc: Global, words: &str) -> Result<Option<Arena<TypeDef>>, AllocError> {
+fn types_of(alloc: Global, words: &str) -> Result<Arena<TypeDef>, RowFault> {
     let mut types = Arena::new(alloc);
     for word in words.split_whitespace() {
-        let Some(kind) = kind_by(word) else {
-            return Ok(None);
-        };
-        types.alloc(type_of(kind))?;
+        add_type(&mut types, word)?;
     }
-    Ok(Some(types))
+    Ok(types)
+}
+
+/// Adds the type that a word says.
+fn add_type(types: &mut Arena<TypeDef>, word: &str) -> Result<(), RowFault> {
+    let kind = readable(kind_by(word))?;
+    types.alloc(type_of(kind))?;
+    Ok(())
 }
 
 /// The function that words say: `SORT-PLACE -> PLACE`, where `-` is no result.
-fn function_by(alloc: Global, words: &str) -> Result<Option<Function>, AllocError> {
-    let Some((sort, result)) = words.split_once(" -> ") else {
-        return Ok(None);
-    };
-    let Some((word, digits)) = sort.split_once('-') else {
-        return Ok(None);
-    };
-    let Some(kind) = id_of(digits).and_then(|id| kind_of(word, id)) else {
-        return Ok(None);
-    };
+fn function_by(alloc: Global, words: &str) -> Result<Function, RowFault> {
+    let (sort, result) = readable(words.split_once(" -> "))?;
+    let (word, digits) = readable(sort.split_once('-'))?;
+    let resource = readable(id_of(digits))?;
+    let kind = readable(kind_of(word, resource))?;
     let mut function = function_of(alloc, "f", kind)?;
     if let Some(id) = id_of(result) {
         function.result = Some(Type::Id(id));
     }
-    Ok(Some(function))
+    Ok(function)
+}
+
+/// Whether the function that words say is a shorthand among the types that other words say.
+fn is_shorthand(alloc: Global, types: &str, function: &str) -> Result<bool, RowFault> {
+    let types = types_of(alloc, types)?;
+    let function = function_by(alloc, function)?;
+    Ok(function.is_constructor_shorthand(&types))
 }
 
 /// The answer to a row.
-pub fn answer(alloc: Global, row: &str) -> Result<Option<String>, AllocError> {
-    let Some((words, function)) = row.split_once(" ~ ") else {
-        return Ok(None);
-    };
-    let (Some(types), Some(function)) = (types_of(alloc, words)?, function_by(alloc, function)?)
-    else {
-        return Ok(None);
-    };
-    let text = if function.is_constructor_shorthand(&types) {
+pub fn answer(alloc: Global, row: &str) -> Result<String, RowFault> {
+    let (types, function) = readable(row.split_once(" ~ "))?;
+    let text = if is_shorthand(alloc, types, function)? {
         "shorthand"
     } else {
         "no shorthand"
     };
-    Ok(Some(String::from_str(alloc, text)?))
+    Ok(String::from_str(alloc, text)?)
 }

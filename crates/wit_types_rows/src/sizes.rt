@@ -1,5 +1,6 @@
 //! Rows of how many flags or cases there are.
 
+use crate::row_fault::{RowFault, made, readable};
 use crate::samples::{no_docs, somewhere};
 use std::alloc::{AllocError, Global};
 use wit_types::{Case, Enum, EnumCase, Flag, Flags, FlagsRepr, Int, Variant};
@@ -89,14 +90,11 @@ fn repr_text(alloc: Global, repr: FlagsRepr) -> Result<String, AllocError> {
 }
 
 /// The answer to a row.
-pub fn answer(alloc: Global, question: Question, row: &str) -> Result<Option<String>, AllocError> {
-    let Ok(count) = row.parse::<u32>() else {
-        return Ok(None);
-    };
-    let answer = match question {
+pub fn answer(alloc: Global, question: Question, row: &str) -> Result<String, RowFault> {
+    let count = readable(row.parse::<u32>().ok())?;
+    made(match question {
         Question::Flags => repr_text(alloc, flags(alloc, count)?.repr()),
         Question::Enum => String::from_str(alloc, int_text(enum_of(alloc, count)?.tag())),
         Question::Variant => String::from_str(alloc, int_text(variant_of(alloc, count)?.tag())),
-    };
-    Ok(Some(answer?))
+    })
 }

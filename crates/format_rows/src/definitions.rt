@@ -91,21 +91,36 @@ pub fn push_imported(out: &mut String, found: &CoreModule) -> Result<(), AllocEr
 
 /// Adds what is of the module's own.
 pub fn push_own(alloc: Global, out: &mut String, found: &CoreModule) -> Result<(), AllocError> {
+    push_functions(out, found)?;
+    push_tables(out, found)?;
+    push_memories(out, found)?;
+    push_globals(alloc, out, found)
+}
+
+fn push_functions(out: &mut String, found: &CoreModule) -> Result<(), AllocError> {
     for function in &found.functions {
         let ty = function.0;
         write!(out, "  function of type {ty}\n")?;
     }
+    Ok(())
+}
+
+fn push_tables(out: &mut String, found: &CoreModule) -> Result<(), AllocError> {
     for table in &found.tables {
         out.push_str("  ")?;
         push_table(out, *table)?;
         out.push('\n')?;
     }
+    Ok(())
+}
+
+fn push_memories(out: &mut String, found: &CoreModule) -> Result<(), AllocError> {
     for limits in &found.memories {
         out.push_str("  ")?;
         push_memory(out, *limits)?;
         out.push('\n')?;
     }
-    push_globals(alloc, out, found)
+    Ok(())
 }
 
 fn push_globals(alloc: Global, out: &mut String, found: &CoreModule) -> Result<(), AllocError> {

@@ -1,12 +1,20 @@
-//! Rows of components: reads lines from standard input, and prints each with its answer behind it. What each line asks is
-//! said at the head of the input.
+//! Rows of the binary formats: core modules, components and generated modules. Reads lines from standard input, and prints each
+//! with its answer behind it. What each line asks is said at the head of the input.
 #![tactic(auto)]
 
 mod component;
+mod definitions;
+mod faults;
+mod generated;
+mod instructions;
+mod module;
+mod names;
 
 use std::alloc::{AllocError, Global};
 use std::io;
-use std::io::{BufRead, BufReader};
+
+/// The answer to a line that is none of the rows.
+const UNREADABLE: &str = "! cannot read this row\n";
 
 /// Adds the answer to a row of these bytes.
 fn push_asked(
@@ -16,16 +24,18 @@ fn push_asked(
     bytes: &[u8],
 ) -> Result<(), AllocError> {
     match asked {
+        "module" => module::push(alloc, out, bytes),
         "component" => component::push(alloc, out, bytes),
         "written" => component::push_written(alloc, out, bytes),
-        _ => out.push_str("! cannot read this row\n"),
+        "generated" => generated::push(alloc, out, bytes),
+        _ => out.push_str(UNREADABLE),
     }
 }
 
 /// Adds the answer to a row.
 fn push_answer(alloc: Global, out: &mut String, row: &str) -> Result<(), AllocError> {
     let Some((asked, digits)) = row.split_once(' ') else {
-        return out.push_str("! cannot read this row\n");
+        return out.push_str(UNREADABLE);
     };
     match hex::decode(alloc, digits) {
         Ok(bytes) => push_asked(alloc, out, asked, &bytes),
@@ -45,9 +55,9 @@ fn transcript(alloc: Global, line: &str) -> Result<String, AllocError> {
 }
 
 fn main(rt: HostRuntime) -> io::Result<()> {
-    for line in BufReader::new(rt.alloc(), rt.reader())?.lines(rt.alloc()) {
-        let line = line?;
-        print!(rt; "{}", transcript(rt.alloc(), &line)?)?;
+    let input = io::read_to_string(rt.alloc(), rt.stdin())?;
+    for line in input.lines() {
+        rt.print(transcript(rt.alloc(), line)?)?;
     }
     Ok(())
 }

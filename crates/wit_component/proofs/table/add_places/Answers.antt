@@ -2,24 +2,21 @@ use Rattle.std.proofs.Common.{◌≡◌, ◌+◌, List, map, take, drop, sym, ap
 use Rattle.std.proofs.lemmas.Result.{err_from_is_err_and}
 use Rattle.wasm_types.specs.Entries.{import_value}
 use Rattle.wasm_format.specs.Module.{module_value}
-use Rattle.wit_resolve.specs.declared.world.Function.{Function}
-use Rattle.wit_component.specs.Candidates.{candidates, names_in, Notes}
+use Rattle.wit_component.specs.Candidates.{candidates, names_in}
 use Rattle.wit_component.specs.Cause.{RepeatsPair, IsImportCause}
 use Rattle.wit_component.specs.CoreNames.{root, standard}
 use Rattle.wit_component.specs.Linking.{CoreImport, core_import}
 use Rattle.wit_component.specs.Places.{Placed, ImportPlace}
 use Rattle.wit_component.specs.View as view
-use Rattle.wit_resolve.specs.World.{FunctionItem, function_item}
+use Rattle.wit_resolve.specs.World.{FunctionItem}
 use Rattle.wit_component.proofs.PlacesCauses.{import_cause, name_cause}
 use Rattle.wit_component.proofs.PlacesLists.{looked_up, any_seen, seen_more, seen_parts, placed_push}
 use Rattle.wit_component.proofs.PlacesRepeats.{legacy_more, standard_more, distinct_more}
-use Rattle.wit_component.proofs.table.add_imports.Goals as goal
+use Rattle.wit_component.proofs.table.add_places.Goals as goal
 
 pub import_place-requires-clause-stands : goal.import_place-requires-clause-stands
 import_place-requires-clause-stands c =
-    let look = candidates c.in_ok-places.places in
-    let notes = subst (λ (fs : List Function). Notes (λ (f : FunctionItem). f.name) (map function_item fs) look) c.deref.ensures.value c.in_ok-places.ensures in
-    looked_up (λ (f : FunctionItem). f.name) (view.linking c.args.linking.now).world.imports look _ c.copied.result notes (c.copied.ensures ∙ c.get.ensures.value)
+    looked_up (λ (f : FunctionItem). f.name) (view.linking c.args.linking.now).world.imports (candidates c.args.places.now) _ c.copied.result c.requires.places (c.copied.ensures ∙ c.get.ensures.value)
 
 pub returns-in_err-place-clause-cause : goal.returns-in_err-place-clause-cause
 returns-in_err-place-clause-cause c =
@@ -35,7 +32,7 @@ returns-in_err-add_name-clause-cause c =
     let g = core_import (module_value c.args.linking.now.main) in
     let items = c.args.linking.now.main.imports.items in
     let k = c.loop-import.import-index in
-    let p = err_from_is_err_and c.from_residual-in_err-add_name.result c.from_residual-in_err-add_name.ensures.1 in
+    let p = err_from_is_err_and c.from_residual.result c.from_residual.ensures.1 in
     rw (p.1, p.2) (name_cause l c.in_err-add_name.field-0.0 (map g (map import_value (take k items))) (map g (map import_value (drop (k + 1) items))) _ c.loop-import.table
     c.loop-import.invariant.legacy c.loop-import.invariant.standard
     (seen_parts import_value g c.deref-import-items.result.now items k _ c.deref-import-items.ensures.value c.loop-import-test.true)

@@ -7,7 +7,7 @@ use Rattle.wit_component.specs.CoreNames.{root, standard}
 use Rattle.wit_component.specs.Linking.{core_import}
 use Rattle.wit_component.specs.Places.{Placed, ImportPlace}
 use Rattle.wit_component.specs.View as view
-use Rattle.wit_component.proofs.table.add_imports.Given as goal
+use Rattle.wit_component.proofs.table.add_places.Given as goal
 
 abbrev pub invariant-loop-import : goal.invariant-loop-import
 invariant-loop-import l =

@@ -1,12 +1,8 @@
-//! Rows of generated modules: reads lines from standard input, and prints each with its answer behind it. What each line asks
-//! is said at the head of the input.
-#![tactic(auto)]
+//! What was read of a generated module, in lines.
 
 use generated_modules::{GeneratedModule, Parts, generated_shape};
 use std::alloc::{AllocError, Global};
 use std::fmt::Debug;
-use std::io;
-use std::io::{BufRead, BufReader};
 
 /// Adds each of these in a line, behind what they are.
 fn push_each<T: Debug>(out: &mut String, what: &str, items: &[T]) -> Result<(), AllocError> {
@@ -47,32 +43,10 @@ fn push_shape(out: &mut String, module: &GeneratedModule) -> Result<(), AllocErr
     Ok(())
 }
 
-/// Adds the answer to a row.
-fn push_answer(alloc: Global, out: &mut String, row: &str) -> Result<(), AllocError> {
-    match hex::decode(alloc, row) {
-        Ok(bytes) => match generated_shape(alloc, &bytes)? {
-            Some(module) => push_shape(out, &module),
-            None => out.push_str("  no generated module\n"),
-        },
-        Err(hex::FromHexError::OutOfMemory) => Err(AllocError),
-        Err(_) => out.push_str("! cannot read these bytes\n"),
+/// Reads a generated module, and adds its shape, if it has one.
+pub fn push(alloc: Global, out: &mut String, bytes: &[u8]) -> Result<(), AllocError> {
+    match generated_shape(alloc, bytes)? {
+        Some(module) => push_shape(out, &module),
+        None => out.push_str("  no generated module\n"),
     }
-}
-
-/// A line, with its answer behind it where it is a row.
-fn transcript(alloc: Global, line: &str) -> Result<String, AllocError> {
-    let mut out = String::from_str(alloc, line)?;
-    out.push('\n')?;
-    if !line.is_empty() && !line.starts_with('#') {
-        push_answer(alloc, &mut out, line)?;
-    }
-    Ok(out)
-}
-
-fn main(rt: HostRuntime) -> io::Result<()> {
-    for line in BufReader::new(rt.alloc(), rt.reader())?.lines(rt.alloc()) {
-        let line = line?;
-        print!(rt; "{}", transcript(rt.alloc(), &line)?)?;
-    }
-    Ok(())
 }

@@ -1,0 +1,109 @@
+//! What is printed.
+
+use crate::spelling::escaped;
+use component_linker::Fault;
+use std::alloc::{AllocError, Global};
+use std::fmt::Write;
+
+/// What is printed of a block, as it is written.
+#[derive(Drop)]
+pub struct Page {
+    alloc: Global,
+    out: String,
+    /// Whether a request for memory was refused; `finish` says so.
+    refused: bool,
+}
+
+impl Page {
+    /// An empty page.
+    pub fn new(alloc: Global) -> Page {
+        Page {
+            alloc,
+            out: String::new(alloc),
+            refused: false,
+        }
+    }
+
+    /// What was written, if all of it found memory.
+    pub fn finish(self) -> Result<String, AllocError> {
+        if self.refused {
+            return Err(AllocError);
+        }
+        Ok(self.out)
+    }
+
+    /// Takes note of whether a part was written.
+    fn note(&mut self, written: Result<(), AllocError>) {
+        self.refused |= written.is_err();
+    }
+
+    /// Takes note of a request for memory that was refused.
+    pub fn refuse(&mut self) {
+        self.refused = true;
+    }
+
+    /// Words, wherever they stand in a line.
+    pub fn words(&mut self, words: &str) {
+        let written = self.out.push_str(words);
+        self.note(written);
+    }
+
+    /// A line of an answer.
+    pub fn line(&mut self, text: &str) {
+        self.words("  ");
+        self.words(text);
+        self.words("\n");
+    }
+
+    /// A line of an answer, if its text found memory.
+    pub fn made(&mut self, text: Result<String, AllocError>) {
+        match text {
+            Ok(text) => self.line(&text),
+            Err(_) => self.refuse(),
+        }
+    }
+
+    /// The line of a refusal.
+    pub fn fault(&mut self, fault: &Fault) {
+        let written = write!(self.out, "  {fault}\n");
+        self.note(written);
+    }
+
+    /// A line with a word and a number.
+    pub fn number(&mut self, word: &str, number: usize) {
+        let written = write!(self.out, "  {word} {number}\n");
+        self.note(written);
+    }
+
+    /// A text between quotation marks.
+    pub fn quoted(&mut self, text: &str) {
+        self.words("\"");
+        for character in text.chars() {
+            match escaped(character) {
+                Some(spelled) => self.words(spelled),
+                None => self.character(character),
+            }
+        }
+        self.words("\"");
+    }
+
+    fn character(&mut self, character: char) {
+        let written = self.out.push(character);
+        self.note(written);
+    }
+
+    /// Bytes: a text between quotation marks, and in hexadecimal where a zero stands in them or they are no text.
+    pub fn bytes(&mut self, bytes: &[u8]) {
+        match str::from_utf8(bytes) {
+            Ok(text) if !bytes.contains(&0) => self.quoted(text),
+            _ => self.hexadecimal(bytes),
+        }
+    }
+
+    fn hexadecimal(&mut self, bytes: &[u8]) {
+        match hex::encode(self.alloc, bytes) {
+            Ok(digits) => self.words(&digits),
+            Err(_) => self.refuse(),
+        }
+    }
+}
