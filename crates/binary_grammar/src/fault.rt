@@ -30,8 +30,6 @@ pub enum Rule {
     Duplicate,
     /// A form of the standard that is never read here.
     Unsupported,
-    /// A section or form that is still to come.
-    NotYet,
 }
 
 /// A broken rule, and how many bytes are left from where it is.

@@ -18,7 +18,6 @@ fn rule_name(rule: Rule) -> &'static str {
         Rule::Order => "Order",
         Rule::Duplicate => "Duplicate",
         Rule::Unsupported => "Unsupported",
-        Rule::NotYet => "NotYet",
     }
 }
 

@@ -1,10 +1,10 @@
 -- A shape that is read, by the law of grammars.
 use Rattle.std.proofs.Common.{◌≡◌, ◌∙◌, ℕ, sym, ap, subst, List, Option, Some, None, Result, Ok, Err, IfOk, IfSome}
 use Rattle.binary_grammar.specs.Syntax.{meaning}
-use Rattle.binary_grammar.specs.declared.fault.Fault.{Fault}
 use Rattle.binary_grammar.proofs.Laws.{ok_is}
 use Rattle.binary_grammar.proofs.Lawful.{lawful}
-use Rattle.generated_sections.specs.Sections.{SectionValue, file, nothing}
+use Rattle.wasm_sections.specs.Module.{nothing}
+use Rattle.generated_sections.specs.Sections.{SectionValue, file}
 use Rattle.generated_modules.specs.Parts.{PartsValue, parts_of}
 use Rattle.generated_modules.specs.Shape.{Shape, IsShape, IsGenerated}
 

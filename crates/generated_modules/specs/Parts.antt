@@ -84,6 +84,14 @@ parts_of ss = record {
   global_space = global_space_of (flat_map imports_in ss) (flat_map globals_in ss);
 }
 
+-- with its index spaces
+abbrev pub numbered : PartsValue → PartsValue
+numbered p = record p {
+  function_space = function_space_of p.imports p.functions;
+  table_space = table_space_of p.imports p.tables;
+  global_space = global_space_of p.imports p.globals;
+}
+
 -- before index spaces are gathered
 abbrev pub gathered : List SectionValue → PartsValue
 gathered ss = record (parts_of ss) { function_space = []; table_space = []; global_space = [] }

@@ -5,7 +5,6 @@ use Rattle.std.specs.Cmp.Lexicographic.{pointwise}
 use Rattle.binary_grammar.specs.Syntax.{meaning}
 use Rattle.wasm_types.specs.declared.types.ValType.{ValType}
 use Rattle.wasm_types.specs.declared.types.ValType.TheVariants as values
-use Rattle.wasm_types.specs.declared.types.Mutability.TheVariants as mutabilities
 use Rattle.wasm_types.specs.declared.types.ExportKind.TheVariants as kinds
 use Rattle.wasm_types.specs.Types.{FuncTypeValue, val_type_byte, mutability_byte}
 use Rattle.wasm_types.specs.Entries.{ExportValue}
@@ -18,9 +17,9 @@ use Rattle.wasm_bodies.specs.Generated.{BodyShape, trap_stub, table_stand_in, re
 use Rattle.wasm_bodies.specs.Segments.{ElementValue, active, active_in, declared, functions_in}
 use Rattle.generated_sections.specs.declared.types.Held.TheVariants as helds
 use Rattle.generated_sections.specs.declared.types.HeldGlobal.{HeldGlobal}
-use Rattle.generated_sections.specs.declared.types.SlotTable.{SlotTable}
 use Rattle.generated_sections.specs.declared.types.SlotGlobal.{SlotGlobal}
-use Rattle.generated_sections.specs.Sections.{SectionValue, file, nothing}
+use Rattle.wasm_sections.specs.Module.{nothing}
+use Rattle.generated_sections.specs.Sections.{SectionValue, file}
 use Rattle.generated_modules.specs.Parts.{PartsValue, parts_of, parts_value}
 use Rattle.generated_modules.specs.declared.module.GeneratedModule.{GeneratedModule}
 

@@ -70,18 +70,30 @@ impl<'a> Parts<'a> {
         ensures { OnOk result (parts_value self.new ≡ spec.with_section (parts_value self.old) (section_value section.entry)) }
     {
         match section {
-            Section::Custom(_) => {}
-            Section::Types(mut types) => self.types.append(&mut types)?,
-            Section::Imports(mut imports) => self.imports.append(&mut imports)?,
-            Section::Functions(mut functions) => self.functions.append(&mut functions)?,
-            Section::Tables(mut tables) => self.tables.append(&mut tables)?,
-            Section::Memories(mut memories) => self.memories.append(&mut memories)?,
-            Section::Globals(mut globals) => self.globals.append(&mut globals)?,
-            Section::Exports(mut exports) => self.exports.append(&mut exports)?,
-            Section::Start(function) => self.start = self.start.or(Some(function)),
-            Section::Elements(mut elements) => self.elements.append(&mut elements)?,
-            Section::Bodies(mut code) => self.code.append(&mut code)?,
+            Section::Custom(_) => Ok(()),
+            Section::Types(mut types) => self.types.append(&mut types),
+            Section::Imports(mut imports) => self.imports.append(&mut imports),
+            Section::Functions(mut functions) => self.functions.append(&mut functions),
+            Section::Tables(mut tables) => self.tables.append(&mut tables),
+            Section::Memories(mut memories) => self.memories.append(&mut memories),
+            Section::Globals(mut globals) => self.globals.append(&mut globals),
+            Section::Exports(mut exports) => self.exports.append(&mut exports),
+            Section::Start(function) => {
+                self.start = self.start.or(Some(function));
+                Ok(())
+            }
+            Section::Elements(mut elements) => self.elements.append(&mut elements),
+            Section::Bodies(mut code) => self.code.append(&mut code),
         }
+    }
+
+    /// Gathers the index spaces.
+    fn number(&mut self, alloc: Global) -> Result<(), AllocError>
+        ensures { OnOk result (parts_value self.new ≡ spec.numbered (parts_value self.old)) }
+    {
+        self.function_space = function_space(alloc, &self.imports, &self.functions)?;
+        self.table_space = table_space(alloc, &self.imports, &self.tables)?;
+        self.global_space = global_space(alloc, &self.imports, &self.globals)?;
         Ok(())
     }
 }
@@ -154,8 +166,5 @@ pub fn parts_of<'a>(alloc: Global, sections: Vec<Section<'a>>) -> Result<Parts<'
     for section in sections {
         parts.add(section)?;
     }
-    parts.function_space = function_space(alloc, &parts.imports, &parts.functions)?;
-    parts.table_space = table_space(alloc, &parts.imports, &parts.tables)?;
-    parts.global_space = global_space(alloc, &parts.imports, &parts.globals)?;
-    Ok(parts)
+    parts.number(alloc).and(Ok(parts))
 }

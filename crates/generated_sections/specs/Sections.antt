@@ -1,5 +1,5 @@
 -- Sections of generated modules (WebAssembly Core, Binary Format, Modules).
-use Rattle.std.specs.Prelude.{ℕ, ◌+◌, max, List, [], ◌∷◌, map, length, filter, Result, Ok, Err, Bool, nat_lt, ◌==◌, ◌||◌, bytes_eq, ◌<◌, ◌^◌}
+use Rattle.std.specs.Prelude.{ℕ, ◌+◌, max, List, [], ◌∷◌, map, length, filter, Result, Ok, Err, Bool, ◌==◌, bytes_eq}
 use Rattle.binary_grammar.specs.declared.fault.Rule.{Rule}
 use Rattle.binary_grammar.specs.declared.fault.Rule.TheVariants as rules
 use Rattle.binary_grammar.specs.Syntax.{Syntax, unbounded, bounded, ◌◂◌, ◌>>=◌, some_name, some_bytes, gives, refuses, tested, vec, sized, where_known, exactly, begins, keeping, steps}
@@ -11,7 +11,8 @@ use Rattle.wasm_types.specs.Types.{index, kind_byte, FuncTypeValue, func_type_va
 use Rattle.wasm_types.specs.Entries.{ExportValue, export_value, type_index_value, export_entry, type_index}
 use Rattle.wasm_sections.specs.declared.section.SectionId.{SectionId}
 use Rattle.wasm_sections.specs.declared.section.SectionId.TheVariants as id
-use Rattle.wasm_sections.specs.Module.{section_id_of, section_byte, rank_of, header}
+use Rattle.wasm_sections.specs.declared.sections.Progress.{Progress}
+use Rattle.wasm_sections.specs.Module.{section_id_of, section_byte, rank_of, is_in_order, header}
 use Rattle.wasm_bodies.specs.declared.instructions.BodyInstruction.{BodyInstruction}
 use Rattle.wasm_bodies.specs.Bodies.{body, body_value}
 use Rattle.wasm_bodies.specs.Segments.{ElementValue, element, element_value}
@@ -20,7 +21,6 @@ use Rattle.generated_sections.specs.declared.types.SlotGlobal.{SlotGlobal}
 use Rattle.generated_sections.specs.Types.{ImportValue, import_value, import_entry, slot_table, slot_global, kind_of_import}
 use Rattle.generated_sections.specs.declared.sections.Section.{Section}
 use Rattle.generated_sections.specs.declared.sections.Section.TheVariants as code
-use Rattle.generated_sections.specs.declared.sections.Progress.{Progress}
 
 -- a section, by what it holds
 pub data SectionValue : Type 0 where
@@ -163,16 +163,8 @@ spaces_with there (memories ms) = record there { memories = there.memories + len
 spaces_with there (globals gs) = record there { globals = there.globals + length gs }
 spaces_with there _ = there
 
--- 64 bits say each count
-abbrev pub Fits : Spaces → Type 0
-Fits there = (there.types < 2 ^ 64) × (there.functions < 2 ^ 64) × (there.tables < 2 ^ 64) × (there.memories < 2 ^ 64) × (there.globals < 2 ^ 64)
-
 abbrev pub progress_with : Progress → SectionValue → Progress
 progress_with p s = record { spaces = spaces_with p.spaces s; rank = max p.rank (rank_of (id_of s)) }
-
--- custom sections stand anywhere, the others behind lower ones alone
-abbrev pub is_in_order : SectionId → Progress → Bool
-is_in_order i p = (rank_of i == 0) || nat_lt p.rank (rank_of i)
 
 abbrev pub behind : Result SectionId Rule → Syntax unbounded Progress SectionValue
 behind (Err rule) = refuses rule
@@ -185,10 +177,6 @@ next b = behind (section_id_of b)
 
 abbrev pub byte_of : SectionValue → ℕ
 byte_of s = section_byte (id_of s)
-
--- where no section stands yet
-abbrev pub nothing : Progress
-nothing = record { spaces = record { types = 0; functions = 0; tables = 0; memories = 0; globals = 0 }; rank = 0 }
 
 unfoldable pub file : Syntax bounded Progress (List SectionValue)
 file = do

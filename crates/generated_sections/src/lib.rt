@@ -4,5 +4,5 @@
 mod sections;
 mod types;
 
-pub use sections::{Progress, Section, read_sections};
+pub use sections::{Section, read_sections};
 pub use types::{Held, HeldForm, HeldGlobal, Import, ImportType, SlotGlobal, SlotTable};

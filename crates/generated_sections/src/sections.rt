@@ -4,6 +4,7 @@ ghost use Rattle.std.specs.Prelude.{◌≡◌, map, IfSome, IsSome};
 ghost use Rattle.binary_grammar.specs.Fault.{Gives};
 ghost use Rattle.binary_grammar.specs.Syntax.{meaning, exactly, sized, vec};
 ghost use Rattle.wasm_sections.specs.declared.section.SectionId.TheVariants as id;
+ghost use Rattle.wasm_sections.specs.Module.{Fits, nothing};
 ghost use Rattle.generated_sections.specs.Types.{import_value, kind_of_import};
 ghost use Rattle.generated_sections.specs.Sections as spec;
 
@@ -11,7 +12,10 @@ use crate::types::{Import, ImportType, SlotGlobal, SlotTable};
 use binary_grammar::{Part, ReadError, Reader, Rule, Step, bounded_of, broken_at, steps_of};
 use std::alloc::Global;
 use wasm_bodies::{Body, Bounded, ElementSegment};
-use wasm_sections::{CustomName, Items, Kept, SectionId, Start, rank_of, section_id_of};
+use wasm_sections::{
+    CustomName, HEADER, Items, Kept, Progress, SectionId, Start, is_in_order, rank_of,
+    section_id_of,
+};
 use wasm_types::{Code, Export, ExportKind, FuncType, Limits, Spaces, TypeIndex};
 
 /// A section of a generated module, by what it holds (WebAssembly Core, Binary Format, Modules, Sections).
@@ -130,7 +134,7 @@ fn imported(kind: ExportKind, imports: &[Import<'_>]) -> usize
 
 fn spaces_with_imports(there: Spaces, imports: &[Import<'_>]) -> Option<Spaces>
     ensures value { IfSome result (λ s. s ≡ spec.spaces_with there (spec.imports (map import_value imports.now))) }
-    ensures fits { spec.Fits (spec.spaces_with there (spec.imports (map import_value imports.now))) → IsSome result }
+    ensures fits { Fits (spec.spaces_with there (spec.imports (map import_value imports.now))) → IsSome result }
 {
     let functions = imported(ExportKind::Func, imports);
     let tables = imported(ExportKind::Table, imports);
@@ -148,7 +152,7 @@ fn spaces_with_imports(there: Spaces, imports: &[Import<'_>]) -> Option<Spaces>
 /// What is there with a section, unless that can't be counted.
 fn spaces_with(there: Spaces, section: &Section<'_>) -> Option<Spaces>
     ensures value { IfSome result (λ s. s ≡ spec.spaces_with there (spec.section_value section.now)) }
-    ensures fits { spec.Fits (spec.spaces_with there (spec.section_value section.now)) → IsSome result }
+    ensures fits { Fits (spec.spaces_with there (spec.section_value section.now)) → IsSome result }
 {
     let mut spaces = there;
     match section {
@@ -171,22 +175,6 @@ fn spaces_with(there: Spaces, section: &Section<'_>) -> Option<Spaces>
     Some(spaces)
 }
 
-/// What is known where a section stands.
-#[derive(Clone, Copy, Debug, PartialEq, Eq)]
-pub struct Progress {
-    /// How many of each sort there are.
-    pub spaces: Spaces,
-    /// How far in the order of sections it is.
-    pub rank: u8,
-}
-
-/// Whether a section of this sort may stand here.
-fn is_in_order(id: SectionId, there: Progress) -> bool
-    ensures { result ≡ spec.is_in_order id there }
-{
-    rank_of(id) == 0 || there.rank < rank_of(id)
-}
-
 /// A section of this sort, where sections before it are known.
 #[tactic(auto, unfolding(crate::specs::Sections::next))]
 fn section_of<'a>(
@@ -207,7 +195,7 @@ fn section_of<'a>(
 impl<'a> Step<'a> for Section<'a> {
     type State = Progress;
 
-    ghost use Rattle.generated_sections.specs.declared.sections.Progress.{Progress};
+    ghost use Rattle.wasm_sections.specs.declared.sections.Progress.{Progress};
     ghost use Rattle.generated_sections.specs.Sections as spec;
 
     ghost Value = { spec.SectionValue };
@@ -239,30 +227,17 @@ impl<'a> Step<'a> for Section<'a> {
     }
 }
 
-const HEADER: [u8; 8] = [0, 0x61, 0x73, 0x6d, 1, 0, 0, 0];
-
-const NO_SPACES: Spaces = Spaces {
-    types: 0,
-    functions: 0,
-    tables: 0,
-    memories: 0,
-    globals: 0,
-};
-
 /// The sections of the generated module that the bytes are, in their order. Bytes that have no such sections break a rule, and
 /// are refused by the first that they break, and its place.
 #[tactic(auto, unfolding(crate::specs::Sections::file))]
 pub fn read_sections(alloc: Global, bytes: &[u8]) -> Result<Vec<Section<'_>>, ReadError>
-    ensures { Gives (λ v. map spec.section_value v.items) result ((meaning spec.file spec.nothing).read bytes.now) }
+    ensures { Gives (λ v. map spec.section_value v.items) result ((meaning spec.file nothing).read bytes.now) }
 {
     let mut from = Reader::new(alloc, bytes);
     let at = from.left();
     if from.bytes(8)? != HEADER.as_slice() {
         return Err(broken_at(Rule::Header, at));
     }
-    let mut progress = Progress {
-        spaces: NO_SPACES,
-        rank: 0,
-    };
+    let mut progress = Progress::new();
     steps_of(&mut progress, &mut from)
 }

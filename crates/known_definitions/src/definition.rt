@@ -3,35 +3,35 @@
 use wit_resolve::PrimitiveType;
 
 /// A parameter of a function.
-#[derive(Clone, Copy, Debug)]
+#[derive(Clone, Copy)]
 pub struct Parameter<'a> {
     pub name: &'a str,
     pub ty: PrimitiveType,
 }
 
 /// A function's parameters, in order, and its result.
-#[derive(Debug, Drop)]
+#[derive(Drop)]
 pub struct FunctionType<'a> {
     pub params: Vec<Parameter<'a>>,
     pub result: Option<PrimitiveType>,
 }
 
 /// The core instance that an instantiation is given under a name.
-#[derive(Clone, Copy, Debug)]
+#[derive(Clone, Copy)]
 pub struct Argument<'a> {
     pub name: &'a str,
     pub instance: u32,
 }
 
 /// The core function that an inline core instance exports under a name.
-#[derive(Clone, Copy, Debug)]
+#[derive(Clone, Copy)]
 pub struct InlineExport<'a> {
     pub name: &'a str,
     pub func: u32,
 }
 
 /// A definition that index meaning knows. Each index speaks of a definition before it.
-#[derive(Debug, Drop)]
+#[derive(Drop)]
 pub enum KnownKind<'a> {
     /// A core module: its bytes.
     CoreModule(&'a [u8]),
@@ -72,7 +72,7 @@ pub enum KnownKind<'a> {
 }
 
 /// Such a definition, and where it begins, counted in bytes from the start of the component.
-#[derive(Debug, Drop)]
+#[derive(Drop)]
 pub struct KnownDefinition<'a> {
     pub offset: usize,
     pub kind: KnownKind<'a>,

@@ -2,12 +2,11 @@
 
 ghost use Rattle.std.specs.Prelude.{◌≡◌};
 ghost use Rattle.binary_grammar.specs.Fault.{Gives};
-ghost use Rattle.binary_grammar.specs.Signed.{signed};
 ghost use Rattle.binary_grammar.specs.Syntax.{meaning};
 ghost use Rattle.wasm_bodies.specs.Instructions as spec;
 
 use binary_grammar::{Instruction, ReadError, Reader, Rule, WriteFault, put_number, put_signed};
-use wasm_types::Spaces;
+use wasm_types::{Spaces, signed_32};
 
 /// An instruction of a generated function (WebAssembly Core, Binary Format, Instructions).
 #[derive(Clone, Copy, Debug, PartialEq, Eq)]
@@ -30,15 +29,6 @@ pub enum BodyInstruction {
     I32Const(i32),
     /// `ref.func`
     RefFunc(u32),
-}
-
-/// A signed number of 32 bits.
-pub fn signed_32(from: &mut Reader<'_>) -> Result<i32, ReadError>
-    ensures gives { Gives (λ x. (x, from.new.left)) result ((signed 32).read from.old.left) }
-    ensures end { from.new.end ≡ from.old.end }
-{
-    let number = from.signed(32)?;
-    Ok(number as i32)
 }
 
 fn call_indirect(there: Spaces, from: &mut Reader<'_>) -> Result<BodyInstruction, ReadError>

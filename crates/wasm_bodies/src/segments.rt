@@ -5,13 +5,12 @@ ghost use Rattle.binary_grammar.specs.Fault.{Gives};
 ghost use Rattle.binary_grammar.specs.Syntax.{meaning, bytes, IsTyped};
 ghost use Rattle.wasm_bodies.specs.Segments as spec;
 
-use crate::instructions::signed_32;
 use binary_grammar::{
     Part, ReadError, Reader, Rule, WriteFault, broken_at, put_number, put_signed, put_vec,
     put_with_length, vec_of,
 };
 use wasm_sections::{Items, SectionId, SectionItem};
-use wasm_types::Spaces;
+use wasm_types::{Spaces, signed_32};
 
 /// The place of a function.
 #[derive(Clone, Copy, Debug, PartialEq, Eq)]

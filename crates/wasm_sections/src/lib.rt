@@ -10,7 +10,7 @@ mod writer;
 pub use contents::{CustomName, Framed, Globals, Items, Start};
 pub use kept::Kept;
 pub use section::{Holding, Section, SectionId, rank_of, section_id_of};
-pub use sections::read_sections;
+pub use sections::{HEADER, Progress, is_in_order, read_sections};
 pub use writer::{
     ExportSection, FunctionSection, GlobalSection, ImportSection, MemorySection, SectionItem,
     SectionWriter, StartSection, TableSection, TypeSection, put_section,

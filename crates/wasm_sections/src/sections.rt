@@ -86,8 +86,8 @@ pub struct Progress {
     pub rank: u8,
 }
 
-/// Whether a section of this sort may stand here.
-fn is_in_order(id: SectionId, there: Progress) -> bool
+/// Whether a section of this sort may stand here: a custom one anywhere, the others behind lower ones alone.
+pub fn is_in_order(id: SectionId, there: Progress) -> bool
     ensures { result ≡ spec.is_in_order id there }
 {
     rank_of(id) == 0 || there.rank < rank_of(id)
@@ -145,15 +145,26 @@ impl<'a> Step<'a> for Section<'a> {
     }
 }
 
-const HEADER: [u8; 8] = [0, 0x61, 0x73, 0x6d, 1, 0, 0, 0];
+/// What a core module begins with.
+pub const HEADER: [u8; 8] = [0, 0x61, 0x73, 0x6d, 1, 0, 0, 0];
 
-const NO_SPACES: Spaces = Spaces {
-    types: 0,
-    functions: 0,
-    tables: 0,
-    memories: 0,
-    globals: 0,
-};
+impl Progress {
+    /// Where no section stands yet.
+    pub fn new() -> Progress
+        ensures { result ≡ spec.nothing }
+    {
+        Progress {
+            spaces: Spaces {
+                types: 0,
+                functions: 0,
+                tables: 0,
+                memories: 0,
+                globals: 0,
+            },
+            rank: 0,
+        }
+    }
+}
 
 #[tactic(auto, unfolding(crate::specs::Module::file, crate::specs::Module::sections))]
 fn sections_of(alloc: Global, bytes: &[u8]) -> Result<Vec<Section<'_>>, ReadError>
@@ -164,10 +175,7 @@ fn sections_of(alloc: Global, bytes: &[u8]) -> Result<Vec<Section<'_>>, ReadErro
     if from.bytes(8)? != HEADER.as_slice() {
         return Err(broken_at(Rule::Header, at));
     }
-    let mut progress = Progress {
-        spaces: NO_SPACES,
-        rank: 0,
-    };
+    let mut progress = Progress::new();
     steps_of(&mut progress, &mut from)
 }
 

@@ -62,8 +62,8 @@ pub struct Expression<'a> {
     pub instructions: Vec<ConstantInstruction<'a>>,
 }
 
-/// A signed number of 32 bits.
-fn signed_32(from: &mut Reader<'_>) -> Result<i32, ReadError>
+/// A signed number of 32 bits (WebAssembly Core, Binary Format, Integers).
+pub fn signed_32(from: &mut Reader<'_>) -> Result<i32, ReadError>
     ensures gives { Gives (λ x. (x, from.new.left)) result ((signed 32).read from.old.left) }
     ensures end { from.new.end ≡ from.old.end }
 {

@@ -9,7 +9,7 @@ mod types;
 
 pub use code::{Code, coded_of};
 pub use entries::{Export, Global, Import, TypeIndex};
-pub use expression::{ConstantInstruction, Expression, HeapType};
+pub use expression::{ConstantInstruction, Expression, HeapType, signed_32};
 pub use spaces::Spaces;
 pub use types::{
     EntityType, ExportKind, FuncType, GlobalType, Limits, Mutability, RefType, TableType, ValType,

@@ -1,12 +1,12 @@
-use Rattle.std.proofs.Common.{◌≡◌, ◌∙◌, sym, ap, subst, List, Option, IfOk, IfSome, Some, map, option_map}
+use Rattle.std.proofs.Common.{subst, map}
 use Rattle.binary_grammar.specs.declared.fault.ReadError.{ReadError}
 use Rattle.binary_grammar.specs.Fault.{Fails}
 use Rattle.binary_grammar.specs.Syntax.{meaning}
 use Rattle.binary_grammar.proofs.Lawful.{lawful}
-use Rattle.generated_modules.specs.declared.module.GeneratedModule.{GeneratedModule}
-use Rattle.generated_sections.specs.Sections.{SectionValue, section_value, file, nothing}
-use Rattle.generated_modules.specs.Parts.{PartsValue, parts_of, parts_value}
-use Rattle.generated_modules.specs.Shape.{Shape, IsShape, IsGenerated, shape_value}
+use Rattle.wasm_sections.specs.Module.{nothing}
+use Rattle.generated_sections.specs.Sections.{section_value, file}
+use Rattle.generated_modules.specs.Parts.{parts_value}
+use Rattle.generated_modules.specs.Shape.{shape_value}
 use Rattle.generated_modules.proofs.Owning.{not_both}
 use Rattle.generated_modules.proofs.Gathering.{found_all, parts_are}
 use Rattle.generated_modules.proofs.reading.generated_shape.Goals as goal
