@@ -6,4 +6,4 @@ mod output;
 mod pieces;
 
 pub use builder::{ComponentBuilder, WriteToFault, write_definitions};
-pub use output::EmitFault;
+pub use output::{EmitFault, emit};

@@ -16,7 +16,7 @@ use Rattle.component_linker.specs.declared.line.Input.{Input}
 use Rattle.component_linker.specs.declared.line.Input.TheVariants as inputs
 use Rattle.wit_component.specs.declared.fault.Fault.{Fault}
 use Rattle.component_linker.specs.declared.line.Line.{Line}
-use Rattle.component_linker.specs.declared.output.EmitFault.{EmitFault}
+use Rattle.component_builder.specs.declared.output.EmitFault.{EmitFault}
 use Rattle.component_linker.specs.declared.program.Stop.{Stop}
 use Rattle.component_linker.specs.declared.program.Stop.TheVariants as stops
 use Rattle.component_linker.specs.Program.{file_at, missing_path, textless_path, input_fault, file_fault}

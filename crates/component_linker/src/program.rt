@@ -9,9 +9,9 @@ ghost use Rattle.component_linker.specs.Cause.{IsCause, IsBuildCause};
 ghost use Rattle.component_linker.specs.Judged.{IsAuditCause};
 
 use crate::line::{Action, Input, Line, LineFault};
-use crate::output::{EmitFault, emit};
 use crate::session::{Session, audit};
 use component_audit::Verdict;
+use component_builder::{EmitFault, emit};
 use std::alloc::{AllocError, AllocFailed, Global};
 use std::io::Write;
 use std::str;

@@ -1,7 +1,7 @@
 //! The program's own example.
 
-use crate::output::emit;
 use crate::session::{Session, audit};
+use component_builder::emit;
 use std::alloc::Global;
 use std::io::Write;
 use wit_component::{Fault, StringEncoding, lines_of};
