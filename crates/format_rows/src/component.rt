@@ -1,66 +1,85 @@
 //! What was read of a component, in lines, and what is written of it.
 
-use binary_grammar::{Fault, ReadError, WriteFault};
+use crate::page::Page;
+use binary_grammar::{ReadError, WriteFault};
 use component_builder::ComponentBuilder;
 use component_sections::{PlacedDefinition, read_definitions};
-use std::alloc::{AllocError, Global};
+use std::alloc::Global;
 
-/// Adds definitions, a line each: where it begins, and what it is.
-fn push_definitions(
-    out: &mut String,
-    definitions: &[PlacedDefinition<'_>],
-) -> Result<(), AllocError> {
+/// Definitions, a line each: where it begins, and what it is.
+fn write_definitions(page: &mut Page, definitions: &[PlacedDefinition<'_>]) {
     if definitions.is_empty() {
-        return out.push_str("  nothing\n");
+        page.words("  nothing\n");
     }
     for placed in definitions {
-        let offset = placed.offset;
-        let definition = &placed.definition;
-        write!(out, "  {offset} {definition:?}\n")?;
-    }
-    Ok(())
-}
-
-/// Adds the rule that is broken, and where: counted in bytes from the start.
-fn push_fault(out: &mut String, length: usize, fault: Fault) -> Result<(), AllocError> {
-    let rule = fault.rule;
-    let offset = length.saturating_sub(fault.left);
-    write!(out, "  ! {rule:?} at {offset}\n")
-}
-
-/// Reads a component, and adds what was read, or why nothing was.
-pub fn push(alloc: Global, out: &mut String, bytes: &[u8]) -> Result<(), AllocError> {
-    match read_definitions(alloc, bytes) {
-        Ok(definitions) => push_definitions(out, &definitions),
-        Err(ReadError::Malformed(fault)) => push_fault(out, bytes.len(), fault),
-        Err(ReadError::Memory) => Err(AllocError),
+        write_definition(page, placed);
     }
 }
 
-/// Adds the bytes that are written of definitions.
-fn push_bytes(
-    alloc: Global,
-    out: &mut String,
-    definitions: Vec<PlacedDefinition<'_>>,
+fn write_definition(page: &mut Page, placed: &PlacedDefinition<'_>) {
+    page.words("  ");
+    page.shown(&placed.offset);
+    page.words(" ");
+    page.spelled(&placed.definition);
+    page.words("\n");
+}
+
+/// Why nothing was read of bytes of this length.
+fn write_error(page: &mut Page, length: usize, error: &ReadError) {
+    match error {
+        ReadError::Malformed(fault) => {
+            page.words("  ! ");
+            page.fault(length, fault);
+            page.words("\n");
+        }
+        ReadError::Memory => page.refuse(),
+    }
+}
+
+/// Reads a component, and writes what was read, or why nothing was.
+pub fn answer(page: &mut Page, bytes: &[u8]) {
+    let read = read_definitions(page.alloc, bytes);
+    match &read {
+        Ok(definitions) => write_definitions(page, definitions),
+        Err(error) => write_error(page, bytes.len(), error),
+    }
+}
+
+/// Adds definitions to a component.
+fn add_all<'a>(
+    builder: &mut ComponentBuilder<'a>,
+    definitions: Vec<PlacedDefinition<'a>>,
 ) -> Result<(), WriteFault> {
-    let mut builder = ComponentBuilder::new(alloc);
     for placed in definitions {
         builder.add(placed.definition)?;
     }
-    let bytes = builder.finish(alloc)?;
-    write!(out, "  {}\n", hex::encode(alloc, &bytes)?)?;
     Ok(())
 }
 
-/// Reads a component, and adds the bytes that are written of what was read, or why nothing was.
-pub fn push_written(alloc: Global, out: &mut String, bytes: &[u8]) -> Result<(), AllocError> {
-    match read_definitions(alloc, bytes) {
-        Ok(definitions) => match push_bytes(alloc, out, definitions) {
-            Ok(()) => Ok(()),
-            Err(WriteFault::TooLarge) => out.push_str("  ! too large\n"),
-            Err(WriteFault::OutOfMemory) => Err(AllocError),
-        },
-        Err(ReadError::Malformed(fault)) => push_fault(out, bytes.len(), fault),
-        Err(ReadError::Memory) => Err(AllocError),
+/// The bytes that are written of definitions.
+fn bytes_of(alloc: Global, definitions: Vec<PlacedDefinition<'_>>) -> Result<Vec<u8>, WriteFault> {
+    let mut builder = ComponentBuilder::new(alloc);
+    add_all(&mut builder, definitions)?;
+    builder.finish(alloc)
+}
+
+/// A line with the bytes that are written of definitions.
+fn write_bytes(page: &mut Page, definitions: Vec<PlacedDefinition<'_>>) {
+    match bytes_of(page.alloc, definitions) {
+        Ok(bytes) => {
+            page.words("  ");
+            page.hexadecimal(&bytes);
+            page.words("\n");
+        }
+        Err(WriteFault::TooLarge) => page.words("  ! too large\n"),
+        Err(WriteFault::OutOfMemory) => page.refuse(),
+    }
+}
+
+/// Reads a component, and writes the bytes that are written of what was read, or why nothing was.
+pub fn answer_written(page: &mut Page, bytes: &[u8]) {
+    match read_definitions(page.alloc, bytes) {
+        Ok(definitions) => write_bytes(page, definitions),
+        Err(error) => write_error(page, bytes.len(), &error),
     }
 }

@@ -1,142 +1,137 @@
 //! What a core module defines, in lines.
 
+use crate::page::Page;
 use crate::{instructions, names};
-use std::alloc::{AllocError, Global};
 use wasm_format::{
-    CoreModule, EntityType, Export, FuncType, GlobalType, Import, Limits, TableType, ValType,
+    CoreModule, EntityType, Export, FuncType, Global, GlobalType, Import, Limits, TableType,
+    ValType,
 };
 
-/// Adds types, each behind a space.
-fn push_values(out: &mut String, values: &[ValType]) -> Result<(), AllocError> {
+/// Types, each behind a space.
+fn write_values(page: &mut Page, values: &[ValType]) {
     for ty in values {
-        let name = names::value(*ty);
-        write!(out, " {name}")?;
-    }
-    Ok(())
-}
-
-fn push_type(out: &mut String, ty: &FuncType) -> Result<(), AllocError> {
-    push_values(out, &ty.params)?;
-    out.push_str(" ->")?;
-    push_values(out, &ty.results)
-}
-
-fn push_limits(out: &mut String, limits: Limits) -> Result<(), AllocError> {
-    let minimum = limits.minimum;
-    match limits.maximum {
-        Some(maximum) => write!(out, " {minimum}..{maximum}"),
-        None => write!(out, " {minimum}.."),
+        page.words(" ");
+        page.words(names::value(*ty));
     }
 }
 
-fn push_table(out: &mut String, table: TableType) -> Result<(), AllocError> {
-    out.push_str("table ")?;
-    out.push_str(names::reference(table.element))?;
-    push_limits(out, table.limits)
+fn write_type(page: &mut Page, ty: &FuncType) {
+    write_values(page, &ty.params);
+    page.words(" ->");
+    write_values(page, &ty.results);
 }
 
-fn push_memory(out: &mut String, limits: Limits) -> Result<(), AllocError> {
-    out.push_str("memory")?;
-    push_limits(out, limits)
+fn write_limits(page: &mut Page, limits: Limits) {
+    page.words(" ");
+    page.shown(&limits.minimum);
+    page.words("..");
+    if let Some(maximum) = limits.maximum {
+        page.shown(&maximum);
+    }
 }
 
-fn push_global(out: &mut String, global: GlobalType) -> Result<(), AllocError> {
-    let mutability = names::mutability(global.mutability);
-    let value = names::value(global.value);
-    write!(out, "global {mutability} {value}")
+fn write_table(page: &mut Page, table: TableType) {
+    page.words("table ");
+    page.words(names::reference(table.element));
+    write_limits(page, table.limits);
 }
 
-fn push_entity(out: &mut String, entity: EntityType) -> Result<(), AllocError> {
+fn write_memory(page: &mut Page, limits: Limits) {
+    page.words("memory");
+    write_limits(page, limits);
+}
+
+fn write_global(page: &mut Page, global: GlobalType) {
+    page.words("global ");
+    page.words(names::mutability(global.mutability));
+    page.words(" ");
+    page.words(names::value(global.value));
+}
+
+fn write_function(page: &mut Page, ty: u32) {
+    page.words("function of type ");
+    page.shown(&ty);
+}
+
+fn write_entity(page: &mut Page, entity: EntityType) {
     match entity {
-        EntityType::Function(ty) => write!(out, "function of type {ty}"),
-        EntityType::Table(table) => push_table(out, table),
-        EntityType::Memory(limits) => push_memory(out, limits),
-        EntityType::Global(global) => push_global(out, global),
+        EntityType::Function(ty) => write_function(page, ty),
+        EntityType::Table(table) => write_table(page, table),
+        EntityType::Memory(limits) => write_memory(page, limits),
+        EntityType::Global(global) => write_global(page, global),
     }
 }
 
-fn push_import(out: &mut String, import: &Import) -> Result<(), AllocError> {
-    let module = import.module;
-    let name = import.name;
-    write!(out, "  import {module:?} {name:?} ")?;
-    push_entity(out, import.ty)?;
-    out.push('\n')
+fn type_line(page: &mut Page, ty: &FuncType) {
+    page.words("  type");
+    write_type(page, ty);
+    page.words("\n");
 }
 
-/// Adds an export, a function with its type.
-fn push_export(out: &mut String, found: &CoreModule, export: &Export) -> Result<(), AllocError> {
-    let name = export.name;
-    let index = export.index;
-    let sort = names::sort(export.kind);
-    write!(out, "  export {name:?} {sort} {index}")?;
+fn import_line(page: &mut Page, import: &Import) {
+    page.words("  import ");
+    page.spelled(&import.module);
+    page.words(" ");
+    page.spelled(&import.name);
+    page.words(" ");
+    write_entity(page, import.ty);
+    page.words("\n");
+}
+
+/// What is of the module's own, but for globals.
+fn own_line(page: &mut Page, entity: EntityType) {
+    page.words("  ");
+    write_entity(page, entity);
+    page.words("\n");
+}
+
+fn global_line(page: &mut Page, global: &Global) {
+    page.words("  ");
+    write_global(page, global.ty);
+    instructions::write(page, &global.init.instructions);
+    page.words("\n");
+}
+
+/// An export, a function with its type.
+fn export_line(page: &mut Page, found: &CoreModule, export: &Export) {
+    page.words("  export ");
+    page.spelled(&export.name);
+    page.words(" ");
+    page.words(names::sort(export.kind));
+    page.words(" ");
+    page.shown(&export.index);
     if let Some(ty) = found.exported_type(export) {
-        out.push(':')?;
-        push_type(out, ty)?;
+        page.words(":");
+        write_type(page, ty);
     }
-    out.push('\n')
+    page.words("\n");
 }
 
-/// Adds types and imports.
-pub fn push_imported(out: &mut String, found: &CoreModule) -> Result<(), AllocError> {
+/// Types, imports, and what is of the module's own but globals.
+pub fn write_entities(page: &mut Page, found: &CoreModule) {
     for ty in &found.types {
-        out.push_str("  type")?;
-        push_type(out, ty)?;
-        out.push('\n')?;
+        type_line(page, ty);
     }
     for import in &found.imports {
-        push_import(out, import)?;
+        import_line(page, import);
     }
-    Ok(())
-}
-
-/// Adds what is of the module's own.
-pub fn push_own(alloc: Global, out: &mut String, found: &CoreModule) -> Result<(), AllocError> {
-    push_functions(out, found)?;
-    push_tables(out, found)?;
-    push_memories(out, found)?;
-    push_globals(alloc, out, found)
-}
-
-fn push_functions(out: &mut String, found: &CoreModule) -> Result<(), AllocError> {
     for function in &found.functions {
-        let ty = function.0;
-        write!(out, "  function of type {ty}\n")?;
+        own_line(page, EntityType::Function(function.0));
     }
-    Ok(())
-}
-
-fn push_tables(out: &mut String, found: &CoreModule) -> Result<(), AllocError> {
     for table in &found.tables {
-        out.push_str("  ")?;
-        push_table(out, *table)?;
-        out.push('\n')?;
+        own_line(page, EntityType::Table(*table));
     }
-    Ok(())
-}
-
-fn push_memories(out: &mut String, found: &CoreModule) -> Result<(), AllocError> {
     for limits in &found.memories {
-        out.push_str("  ")?;
-        push_memory(out, *limits)?;
-        out.push('\n')?;
+        own_line(page, EntityType::Memory(*limits));
     }
-    Ok(())
 }
 
-fn push_globals(alloc: Global, out: &mut String, found: &CoreModule) -> Result<(), AllocError> {
+/// Globals and exports.
+pub fn write_globals_and_exports(page: &mut Page, found: &CoreModule) {
     for global in &found.globals {
-        out.push_str("  ")?;
-        push_global(out, global.ty)?;
-        instructions::push(alloc, out, &global.init.instructions)?;
-        out.push('\n')?;
+        global_line(page, global);
     }
-    Ok(())
-}
-
-/// Adds exports.
-pub fn push_exported(out: &mut String, found: &CoreModule) -> Result<(), AllocError> {
     for export in &found.exports {
-        push_export(out, found, export)?;
+        export_line(page, found, export);
     }
-    Ok(())
 }

@@ -1,52 +1,50 @@
 //! What was read of a generated module, in lines.
 
+use crate::page::Page;
 use generated_modules::{GeneratedModule, Parts, generated_shape};
-use std::alloc::{AllocError, Global};
 use std::fmt::Debug;
 
-/// Adds each of these in a line, behind what they are.
-fn push_each<T: Debug>(out: &mut String, what: &str, items: &[T]) -> Result<(), AllocError> {
-    for item in items {
-        write!(out, "  {what} {item:?}\n")?;
-    }
-    Ok(())
-}
-
-fn push_parts(out: &mut String, parts: &Parts) -> Result<(), AllocError> {
-    push_each(out, "type", &parts.types)?;
-    push_each(out, "import", &parts.imports)?;
-    push_each(out, "table", &parts.tables)?;
-    push_each(out, "memory", &parts.memories)
-}
-
-fn push_slots(out: &mut String, parts: &Parts) -> Result<(), AllocError> {
-    push_each(out, "global", &parts.globals)?;
-    push_each(out, "export", &parts.exports)?;
-    push_each(out, "segment", &parts.elements)?;
-    match parts.start {
-        Some(function) => write!(out, "  start {function}\n"),
-        None => Ok(()),
+fn write_parts(page: &mut Page, parts: &Parts) {
+    page.each("  type ", &parts.types);
+    page.each("  import ", &parts.imports);
+    page.each("  table ", &parts.tables);
+    page.each("  memory ", &parts.memories);
+    page.each("  global ", &parts.globals);
+    page.each("  export ", &parts.exports);
+    page.each("  segment ", &parts.elements);
+    if let Some(function) = parts.start {
+        page.words("  start ");
+        page.shown(&function);
+        page.words("\n");
     }
 }
 
-/// Adds a shape.
-fn push_shape(out: &mut String, module: &GeneratedModule) -> Result<(), AllocError> {
-    out.push_str("  generated\n")?;
-    push_parts(out, &module.parts)?;
-    push_slots(out, &module.parts)?;
+/// A function of this type that does this.
+fn write_body(page: &mut Page, ty: u32, body: &impl Debug) {
+    page.words("  function of type ");
+    page.shown(&ty);
+    page.words(": ");
+    page.spelled(body);
+    page.words("\n");
+}
+
+/// A shape.
+fn write_shape(page: &mut Page, module: &GeneratedModule) {
+    page.words("  generated\n");
+    write_parts(page, &module.parts);
     for (place, body) in module.bodies.iter().enumerate() {
         if let Some(ty) = module.parts.functions.get(place) {
-            let ty = ty.0;
-            write!(out, "  function of type {ty}: {body:?}\n")?;
+            write_body(page, ty.0, body);
         }
     }
-    Ok(())
 }
 
-/// Reads a generated module, and adds its shape, if it has one.
-pub fn push(alloc: Global, out: &mut String, bytes: &[u8]) -> Result<(), AllocError> {
-    match generated_shape(alloc, bytes)? {
-        Some(module) => push_shape(out, &module),
-        None => out.push_str("  no generated module\n"),
+/// Reads a generated module, and writes its shape, if it has one.
+pub fn answer(page: &mut Page, bytes: &[u8]) {
+    let shape = generated_shape(page.alloc, bytes);
+    match &shape {
+        Ok(Some(module)) => write_shape(page, module),
+        Ok(None) => page.words("  no generated module\n"),
+        Err(_) => page.refuse(),
     }
 }

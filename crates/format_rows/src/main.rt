@@ -4,54 +4,46 @@
 
 mod component;
 mod definitions;
-mod faults;
 mod generated;
 mod instructions;
 mod module;
 mod names;
+mod page;
 
+use page::Page;
 use std::alloc::{AllocError, Global};
 use std::io;
 
-/// The answer to a line that is none of the rows.
-const UNREADABLE: &str = "! cannot read this row\n";
-
-/// Adds the answer to a row of these bytes.
-fn push_asked(
-    alloc: Global,
-    out: &mut String,
-    asked: &str,
-    bytes: &[u8],
-) -> Result<(), AllocError> {
+/// The answer to a row of these bytes.
+fn answer_bytes(page: &mut Page, asked: &str, bytes: &[u8]) {
     match asked {
-        "module" => module::push(alloc, out, bytes),
-        "component" => component::push(alloc, out, bytes),
-        "written" => component::push_written(alloc, out, bytes),
-        "generated" => generated::push(alloc, out, bytes),
-        _ => out.push_str(UNREADABLE),
+        "module" => module::answer(page, bytes),
+        "component" => component::answer(page, bytes),
+        "written" => component::answer_written(page, bytes),
+        "generated" => generated::answer(page, bytes),
+        _ => page.words("! cannot read this row\n"),
     }
 }
 
-/// Adds the answer to a row.
-fn push_answer(alloc: Global, out: &mut String, row: &str) -> Result<(), AllocError> {
-    let Some((asked, digits)) = row.split_once(' ') else {
-        return out.push_str(UNREADABLE);
-    };
-    match hex::decode(alloc, digits) {
-        Ok(bytes) => push_asked(alloc, out, asked, &bytes),
-        Err(hex::FromHexError::OutOfMemory) => Err(AllocError),
-        Err(_) => out.push_str("! cannot read these bytes\n"),
+/// The answer to a row.
+fn answer(page: &mut Page, row: &str) {
+    let (asked, digits) = row.split_once(' ').unwrap_or(("", ""));
+    match hex::decode(page.alloc, digits) {
+        Ok(bytes) => answer_bytes(page, asked, &bytes),
+        Err(hex::FromHexError::OutOfMemory) => page.refuse(),
+        Err(_) => page.words("! cannot read these bytes\n"),
     }
 }
 
 /// A line, with its answer behind it where it is a row.
 fn transcript(alloc: Global, line: &str) -> Result<String, AllocError> {
-    let mut out = String::from_str(alloc, line)?;
-    out.push('\n')?;
+    let mut page = Page::new(alloc);
+    page.words(line);
+    page.words("\n");
     if !line.is_empty() && !line.starts_with('#') {
-        push_answer(alloc, &mut out, line)?;
+        answer(&mut page, line);
     }
-    Ok(out)
+    page.finish()
 }
 
 fn main(rt: HostRuntime) -> io::Result<()> {
