@@ -74,8 +74,8 @@ pub fn whole_vec_of<'a, T: Part<'a>>(
     Ok(items)
 }
 
-/// Adds the section of this sort with this content (WebAssembly Core, Binary Format, Modules, Sections); `room` is emptied
-/// and then holds its bytes. Answers `TooLarge` only where 32 bits can't say the size, or the content doesn't fit.
+/// Adds the section of this sort with this content (WebAssembly Core, Binary Format, Modules, Sections); the content is
+/// made in `room`, which is emptied for it. Answers `TooLarge` only where 32 bits can't say the size, or the content doesn't fit.
 pub fn put_content<'a, T: Content<'a>>(
     id: u8,
     content: &T,

@@ -92,8 +92,8 @@ pub fn put_vec<'a, T: Part<'a>>(items: &[T], out: &mut Vec<u8>) -> Result<(), Wr
     Ok(())
 }
 
-/// Adds the section of this sort with a vector of these items (Modules, Sections); `room` is emptied and then holds its
-/// content. Answers `TooLarge` only where 32 bits can't say the count or the size, or an item doesn't fit.
+/// Adds the section of this sort with a vector of these items (Modules, Sections); its content is made in `room`,
+/// which is emptied for it. Answers `TooLarge` only where 32 bits can't say the count or the size, or an item doesn't fit.
 pub fn put_section<'a, T: Part<'a>>(
     id: u8,
     items: &[T],

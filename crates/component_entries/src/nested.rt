@@ -134,8 +134,8 @@ fn entries_of<'a>(
     Ok(entries)
 }
 
-/// Adds the sections of entries, neighbours of one kind in one; `room` is emptied and then holds the content of the last.
-/// Answers `TooLarge` only where 32 bits can't say a count or a size, or an entry doesn't fit.
+/// Adds the sections of entries, neighbours of one kind in one; each content is made in `room`, which is emptied for
+/// it. Answers `TooLarge` only where 32 bits can't say a count or a size, or an entry doesn't fit.
 fn put_sections(
     entries: &[Entry<'_>],
     room: &mut Vec<u8>,

@@ -91,7 +91,7 @@ fn put_items<T: Grouped>(first: &T, more: &[T], out: &mut Vec<u8>) -> Result<(),
 }
 
 /// Adds the section of a vector that begins with an item and has those behind it that share its section; answers how many
-/// these are in all. `room` is emptied and then holds the content.
+/// these are in all. The content is made in `room`, which is emptied for it.
 pub fn put_first<T: Grouped>(
     first: &T,
     more: &[T],
@@ -111,8 +111,8 @@ pub fn put_first<T: Grouped>(
     Ok(1 + run_length(first.section_byte(), more))
 }
 
-/// Adds the first section of items that stand in vectors; answers how many stand in it. `room` is emptied and then holds the
-/// content. Answers `TooLarge` only where 32 bits can't say the count or the size, or an item doesn't fit.
+/// Adds the first section of items that stand in vectors; answers how many stand in it. the content is made in `room`, which is
+/// emptied for it. Answers `TooLarge` only where 32 bits can't say the count or the size, or an item doesn't fit.
 pub fn put_vector<T: Grouped>(
     items: &[T],
     room: &mut Vec<u8>,

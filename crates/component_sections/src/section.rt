@@ -215,7 +215,7 @@ fn put_own_section(definition: &Definition<'_>, out: &mut Vec<u8>) -> Result<(),
 }
 
 /// Adds the section that begins with a definition and has those behind it that share it; answers how many these are in all.
-/// `room` is emptied and then holds the content of a vector. Answers `TooLarge` only where 32 bits can't say the count or the
+/// The content of a vector is made in `room`, which is emptied for it. Answers `TooLarge` only where 32 bits can't say the count or the
 /// size, or a definition doesn't fit.
 #[tactic(auto, using(crate::proofs::WholeSections::own_front, crate::proofs::WholeSections::vector_spelled, crate::proofs::WholeSections::vector_typed, crate::proofs::WholeSections::typed_vector))]
 pub fn put_section<'a>(

@@ -31,8 +31,8 @@ pub trait SectionItem {
         ensures { result ≡ id };
 }
 
-/// Adds a section (WebAssembly Core, Binary Format, Modules, Sections): its sort, its size and its content; `room` is emptied
-/// and then holds the content's bytes. Answers `TooLarge` only where 32 bits can't say the size, or the content doesn't fit.
+/// Adds a section (WebAssembly Core, Binary Format, Modules, Sections): its sort, its size and its content; the content
+/// is made in `room`, which is emptied for it. Answers `TooLarge` only where 32 bits can't say the size, or the content doesn't fit.
 pub fn put_section<'a, T: SectionWriter<'a>>(
     content: &T,
     room: &mut Vec<u8>,
