@@ -1,0 +1,8 @@
+use Rattle.std.proofs.Common.{map, take}
+use Rattle.wit_syntax.specs.AstView as view
+use Rattle.wit_scopes.specs.Paths.{item_uses}
+use Rattle.wit_scopes.specs.View as seen
+use Rattle.wit_scopes.proofs.paths.FileUses.new.Given as goal
+
+abbrev pub invariant-loop-gated : goal.invariant-loop-gated
+invariant-loop-gated l = seen.AreUses (view.package_name l.me) (item_uses (map (view.gated view.file_item) (take l.gated-index l.items))) l.uses

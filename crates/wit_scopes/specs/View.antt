@@ -1,0 +1,97 @@
+-- What the scopes of the code stand for.
+use Rattle.std.specs.Prelude.{◌≡◌, ℕ, List, [], map, option_map, Option, Some, None, bytes_eq}
+use Rattle.std.specs.Borrow.{Bor}
+use Rattle.std.specs.HashMap.{get_by}
+use Rattle.wit_words.specs.Slice.{Slice}
+use Rattle.wit_words.specs.declared.docs.Docs.{Docs}
+use Rattle.wit_syntax.specs.Ast.{PackageNameTree, ToplevelUseTree}
+use Rattle.wit_syntax.specs.AstView as view
+use Rattle.wit_syntax.specs.TypeView.{type_tree}
+use Rattle.wit_scopes.specs.declared.paths.Target.{Target}
+use Rattle.wit_scopes.specs.declared.paths.Target.TheVariants as targets
+use Rattle.wit_scopes.specs.declared.paths.FileUses.{FileUses}
+use Rattle.wit_scopes.specs.declared.members.Member.{Member}
+use Rattle.wit_scopes.specs.declared.members.MemberKind.{MemberKind as Kind}
+use Rattle.wit_scopes.specs.declared.members.MemberKind.TheVariants as kinds
+use Rattle.wit_scopes.specs.declared.worlds.ExternKind.{ExternKind as Extern}
+use Rattle.wit_scopes.specs.declared.worlds.ExternKind.TheVariants as externs
+use Rattle.wit_scopes.specs.declared.worlds.Listed.{Listed}
+use Rattle.wit_scopes.specs.declared.worlds.Included.{Included}
+use Rattle.wit_scopes.specs.declared.worlds.WorldMember.{WorldMember}
+use Rattle.wit_scopes.specs.declared.worlds.WorldMember.TheVariants as world_members
+use Rattle.wit_scopes.specs.declared.scopes.InterfaceScope.{InterfaceScope as Interface}
+use Rattle.wit_scopes.specs.declared.scopes.WorldScope.{WorldScope as World}
+use Rattle.wit_scopes.specs.declared.scopes.ItemScope.{ItemScope as Item}
+use Rattle.wit_scopes.specs.declared.scopes.ItemScope.TheVariants as items
+use Rattle.wit_scopes.specs.declared.gates.Gates.{Gates}
+use Rattle.wit_scopes.specs.declared.gates.Gates.TheVariants as gates_of_code
+use Rattle.wit_scopes.specs.Gates as gates_tree
+use Rattle.wit_scopes.specs.Gates.{GatesTree}
+use Rattle.wit_scopes.specs.Paths as tree
+use Rattle.wit_scopes.specs.Paths.{TargetTree, used_target}
+use Rattle.wit_scopes.specs.Members as member_tree
+use Rattle.wit_scopes.specs.Members.{MemberKind, MemberTree}
+use Rattle.wit_scopes.specs.Scopes as scope_tree
+use Rattle.wit_scopes.specs.Scopes.{ExternKind, ListedTree, IncludedTree, WorldMemberTree, InterfaceScope, WorldScope, ItemScope}
+
+abbrev pub target : Target → TargetTree
+target (targets.Own n) = tree.own (view.id n)
+target (targets.Foreign p n) = tree.foreign (view.package_name p) (view.id n)
+
+-- what is known under a name
+abbrev pub known_target : FileUses → List ℕ → Option TargetTree
+known_target f name = option_map target (get_by (λ k. bytes_eq name k.now) f.known)
+
+-- it has what these statements make known in a package of that name
+pub record AreUses (me : PackageNameTree) (us : List ToplevelUseTree) (f : FileUses) : Type 0 where
+  pub package_is : view.package_name f.me ≡ me
+  pub known : (name : List ℕ) → known_target f name ≡ used_target me us name
+
+abbrev pub member_kind : Kind → MemberKind
+member_kind (kinds.Used t n) = member_tree.used (target t) (view.id n)
+member_kind (kinds.Defined k) = member_tree.defined (view.type_def_kind k.now)
+member_kind (kinds.Function f) = member_tree.function (view.func f.now)
+member_kind (kinds.Method r f) = member_tree.method (view.id r) (view.func f.now)
+member_kind (kinds.Static r f) = member_tree.static (view.id r) (view.func f.now)
+member_kind (kinds.Constructor r ps t) = member_tree.constructor (view.id r) (map view.param ps.now) (option_map type_tree t.now)
+
+abbrev pub docs_behind : Option (Bor Docs) → List Slice
+docs_behind None = []
+docs_behind (Some d) = view.docs d.now
+
+abbrev pub member : Member → MemberTree
+member m = record { name = view.id m.name; kind = member_kind m.kind; docs = docs_behind m.docs; attributes = map view.attribute m.attributes.now; span = m.span }
+
+abbrev pub members : List Member → List MemberTree
+members ms = map member ms
+
+abbrev pub extern_kind : Extern → ExternKind
+extern_kind (externs.Function f) = scope_tree.function (view.func f.now)
+extern_kind (externs.Interface ms) = scope_tree.ExternKind.interface (members ms.items)
+extern_kind (externs.Item t) = scope_tree.item (target t)
+
+abbrev pub listed : Listed → ListedTree
+listed l = record { side = l.side; name = view.id l.name; kind = extern_kind l.kind; docs = view.docs l.docs.now; attributes = map view.attribute l.attributes.now; span = l.span }
+
+abbrev pub included : Included → IncludedTree
+included i = record { world = target i.world; names = map view.include_name i.names.now; attributes = map view.attribute i.attributes.now; span = i.span }
+
+abbrev pub world_member : WorldMember → WorldMemberTree
+world_member (world_members.Member m) = scope_tree.member (member m)
+world_member (world_members.Listed l) = scope_tree.listed (listed l)
+world_member (world_members.Included i) = scope_tree.included (included i)
+
+abbrev pub interface_scope : Interface → InterfaceScope
+interface_scope i = record { name = view.id i.name; members = members i.members.items; docs = view.docs i.docs.now; attributes = map view.attribute i.attributes.now; span = i.span }
+
+abbrev pub world_scope : World → WorldScope
+world_scope w = record { name = view.id w.name; members = map world_member w.members.items; docs = view.docs w.docs.now; attributes = map view.attribute w.attributes.now; span = w.span }
+
+abbrev pub item_scope : Item → ItemScope
+item_scope (items.Interface i) = scope_tree.ItemScope.interface (interface_scope i)
+item_scope (items.World w) = scope_tree.world (world_scope w)
+
+abbrev pub gates : Gates → GatesTree
+gates gates_of_code.Ungated = gates_tree.ungated
+gates (gates_of_code.OfFeature f d) = gates_tree.of_feature (view.id f) (option_map view.version d)
+gates (gates_of_code.FromVersion v d) = gates_tree.from_version (view.version v) (option_map view.version d)

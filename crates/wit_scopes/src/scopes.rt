@@ -1,0 +1,174 @@
+//! The interfaces and worlds of a package.
+
+ghost use Rattle.std.specs.Prelude.{◌≡◌, List, ◌++◌, ◌∷◌, [], map, IfOk, OnOk};
+ghost use Rattle.wit_syntax.specs.Ast.{ToplevelUseTree};
+ghost use Rattle.wit_syntax.specs.AstView as view;
+ghost use Rattle.wit_scopes.specs.Scopes as spec;
+ghost use Rattle.wit_scopes.specs.View as seen;
+
+use crate::members::{Member, add_members};
+use crate::paths::FileUses;
+use crate::worlds::{WorldMember, world_members};
+use std::alloc::{AllocError, Global};
+use wit_syntax::{
+    AstItem, Attribute, Docs, File, FileItem, Gated, Id, Interface, PackageName, Span, World,
+};
+
+/// An interface of a package, with all that it declares (WIT, Item: `interface`).
+#[derive(Drop)]
+pub struct InterfaceScope<'t, 'a> {
+    /// Its name.
+    pub name: Id<'a>,
+    /// What it declares, in the order of the text.
+    pub members: Vec<Member<'t, 'a>>,
+    /// The docs in front of it.
+    pub docs: &'t Docs<'a>,
+    /// The attributes in front of it.
+    pub attributes: &'t [Attribute<'a>],
+    /// Where it stands.
+    pub span: Span,
+}
+
+/// A world of a package, with all that it declares (WIT, Item: `world`).
+#[derive(Drop)]
+pub struct WorldScope<'t, 'a> {
+    /// Its name.
+    pub name: Id<'a>,
+    /// What it declares, in the order of the text.
+    pub members: Vec<WorldMember<'t, 'a>>,
+    /// The docs in front of it.
+    pub docs: &'t Docs<'a>,
+    /// The attributes in front of it.
+    pub attributes: &'t [Attribute<'a>],
+    /// Where it stands.
+    pub span: Span,
+}
+
+/// An interface or a world of a package.
+#[derive(Drop)]
+pub enum ItemScope<'t, 'a> {
+    /// An interface.
+    Interface(InterfaceScope<'t, 'a>),
+    /// A world.
+    World(WorldScope<'t, 'a>),
+}
+
+/// An interface with all that it declares.
+fn interface_scope<'t, 'a, T>(
+    alloc: Global,
+    uses: &FileUses<'a>,
+    gated: &'t Gated<'a, T>,
+    interface: &'t Interface<'a>,
+) -> Result<ItemScope<'t, 'a>, AllocError>
+    ensures { (us : List ToplevelUseTree) → seen.AreUses (view.package_name uses.now.me) us uses.now → IfOk result (λ s. seen.item_scope s ≡ spec.ItemScope.interface (spec.interface_scope (view.package_name uses.now.me) us (view.gated (λ x. x) gated.entry.now) (view.interface interface.entry.now))) }
+{
+    let mut members = Vec::new(alloc);
+    add_members(&mut members, uses, interface.items.as_slice())?;
+    Ok(ItemScope::Interface(InterfaceScope {
+        name: interface.name,
+        members,
+        docs: &gated.docs,
+        attributes: gated.attributes.as_slice(),
+        span: gated.span,
+    }))
+}
+
+/// A world with all that it declares.
+fn world_scope<'t, 'a, T>(
+    alloc: Global,
+    uses: &FileUses<'a>,
+    gated: &'t Gated<'a, T>,
+    world: &'t World<'a>,
+) -> Result<ItemScope<'t, 'a>, AllocError>
+    ensures { (us : List ToplevelUseTree) → seen.AreUses (view.package_name uses.now.me) us uses.now → IfOk result (λ s. seen.item_scope s ≡ spec.world (spec.world_scope (view.package_name uses.now.me) us (view.gated (λ x. x) gated.entry.now) (view.world world.entry.now))) }
+{
+    let members = world_members(alloc, uses, world.items.as_slice())?;
+    Ok(ItemScope::World(WorldScope {
+        name: world.name,
+        members,
+        docs: &gated.docs,
+        attributes: gated.attributes.as_slice(),
+        span: gated.span,
+    }))
+}
+
+/// Adds an interface with all that it declares.
+fn add_interface<'t, 'a>(
+    alloc: Global,
+    found: &mut Vec<ItemScope<'t, 'a>>,
+    uses: &FileUses<'a>,
+    gated: &'t Gated<'a, FileItem<'a>>,
+    interface: &'t Interface<'a>,
+) -> Result<(), AllocError>
+    ensures { (us : List ToplevelUseTree) → seen.AreUses (view.package_name uses.now.me) us uses.now → OnOk result (map seen.item_scope found.new.items ≡ map seen.item_scope found.old.items ++ spec.ItemScope.interface (spec.interface_scope (view.package_name uses.now.me) us (view.gated view.file_item gated.entry.now) (view.interface interface.entry.now)) ∷ []) }
+{
+    let scope = interface_scope(alloc, uses, gated, interface)?;
+    found.push(scope)?;
+    Ok(())
+}
+
+/// Adds a world with all that it declares.
+fn add_world<'t, 'a>(
+    alloc: Global,
+    found: &mut Vec<ItemScope<'t, 'a>>,
+    uses: &FileUses<'a>,
+    gated: &'t Gated<'a, FileItem<'a>>,
+    world: &'t World<'a>,
+) -> Result<(), AllocError>
+    ensures { (us : List ToplevelUseTree) → seen.AreUses (view.package_name uses.now.me) us uses.now → OnOk result (map seen.item_scope found.new.items ≡ map seen.item_scope found.old.items ++ spec.world (spec.world_scope (view.package_name uses.now.me) us (view.gated view.file_item gated.entry.now) (view.world world.entry.now)) ∷ []) }
+{
+    let scope = world_scope(alloc, uses, gated, world)?;
+    found.push(scope)?;
+    Ok(())
+}
+
+/// Adds the interface or world that an item of a file is.
+fn add_item<'t, 'a>(
+    alloc: Global,
+    found: &mut Vec<ItemScope<'t, 'a>>,
+    uses: &FileUses<'a>,
+    gated: &'t Gated<'a, FileItem<'a>>,
+) -> Result<(), AllocError>
+    ensures { (us : List ToplevelUseTree) → seen.AreUses (view.package_name uses.now.me) us uses.now → OnOk result (map seen.item_scope found.new.items ≡ map seen.item_scope found.old.items ++ spec.file_item_scopes (view.package_name uses.now.me) us (view.gated view.file_item gated.entry.now) (view.file_item gated.entry.now.item)) }
+{
+    match &gated.item {
+        FileItem::Item(AstItem::Interface(interface)) => {
+            add_interface(alloc, found, uses, gated, interface)
+        }
+        FileItem::Item(AstItem::World(world)) => add_world(alloc, found, uses, gated, world),
+        FileItem::Item(AstItem::Use(_)) | FileItem::Package(_) => Ok(()),
+    }
+}
+
+/// Adds the interfaces and worlds of a file.
+fn add_file<'t, 'a>(
+    alloc: Global,
+    found: &mut Vec<ItemScope<'t, 'a>>,
+    me: PackageName<'a>,
+    items: &'t [Gated<'a, FileItem<'a>>],
+) -> Result<(), AllocError>
+    ensures { OnOk result (map seen.item_scope found.new.items ≡ map seen.item_scope found.old.items ++ spec.items_scopes (view.package_name me.entry) (map (view.gated view.file_item) items.entry.now)) }
+{
+    let uses = FileUses::new(alloc, me, items)?;
+    for gated in items {
+        add_item(alloc, found, &uses, gated)?;
+    }
+    Ok(())
+}
+
+/// The interfaces and worlds of a package of that name, in the order of its files and of their texts: each with all that
+/// it declares, one name at a time, and with what the paths in it name. A package that is nested in a file is none of the
+/// file's own.
+pub fn package_scopes<'t, 'a>(
+    alloc: Global,
+    me: PackageName<'a>,
+    files: &'t [File<'a>],
+) -> Result<Vec<ItemScope<'t, 'a>>, AllocError>
+    ensures { IfOk result (λ v. map seen.item_scope v.items ≡ spec.package_scopes (view.package_name me.entry) (map view.file files.entry.now)) }
+{
+    let mut found = Vec::new(alloc);
+    for file in files {
+        add_file(alloc, &mut found, me, file.items.as_slice())?;
+    }
+    Ok(found)
+}
