@@ -2,6 +2,7 @@
 #![tactic(auto)]
 
 mod gates;
+mod growing;
 mod members;
 mod paths;
 mod repeats;

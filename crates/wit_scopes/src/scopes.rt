@@ -6,6 +6,7 @@ ghost use Rattle.wit_syntax.specs.AstView as view;
 ghost use Rattle.wit_scopes.specs.Scopes as spec;
 ghost use Rattle.wit_scopes.specs.View as seen;
 
+use crate::growing::push_to;
 use crate::members::{Member, add_members};
 use crate::paths::FileUses;
 use crate::worlds::{WorldMember, world_members};
@@ -103,8 +104,7 @@ fn add_interface<'t, 'a>(
     ensures { (us : List ToplevelUseTree) → seen.AreUses (view.package_name uses.now.me) us uses.now → OnOk result (map seen.item_scope found.new.items ≡ map seen.item_scope found.old.items ++ spec.ItemScope.interface (spec.interface_scope (view.package_name uses.now.me) us (view.gated view.file_item gated.entry.now) (view.interface interface.entry.now)) ∷ []) }
 {
     let scope = interface_scope(alloc, uses, gated, interface)?;
-    found.push(scope)?;
-    Ok(())
+    push_to(found, scope)
 }
 
 /// Adds a world with all that it declares.
@@ -118,8 +118,7 @@ fn add_world<'t, 'a>(
     ensures { (us : List ToplevelUseTree) → seen.AreUses (view.package_name uses.now.me) us uses.now → OnOk result (map seen.item_scope found.new.items ≡ map seen.item_scope found.old.items ++ spec.world (spec.world_scope (view.package_name uses.now.me) us (view.gated view.file_item gated.entry.now) (view.world world.entry.now)) ∷ []) }
 {
     let scope = world_scope(alloc, uses, gated, world)?;
-    found.push(scope)?;
-    Ok(())
+    push_to(found, scope)
 }
 
 /// Adds the interface or world that an item of a file is.
@@ -156,6 +155,21 @@ fn add_file<'t, 'a>(
     Ok(())
 }
 
+/// Adds the interfaces and worlds of files.
+fn add_files<'t, 'a>(
+    alloc: Global,
+    found: &mut Vec<ItemScope<'t, 'a>>,
+    me: PackageName<'a>,
+    files: &'t [File<'a>],
+) -> Result<(), AllocError>
+    ensures { OnOk result (map seen.item_scope found.new.items ≡ map seen.item_scope found.old.items ++ spec.package_scopes (view.package_name me.entry) (map view.file files.entry.now)) }
+{
+    for file in files {
+        add_file(alloc, found, me, file.items.as_slice())?;
+    }
+    Ok(())
+}
+
 /// The interfaces and worlds of a package of that name, in the order of its files and of their texts: each with all that
 /// it declares, one name at a time, and with what the paths in it name. A package that is nested in a file is none of the
 /// file's own.
@@ -167,8 +181,5 @@ pub fn package_scopes<'t, 'a>(
     ensures { IfOk result (λ v. map seen.item_scope v.items ≡ spec.package_scopes (view.package_name me.entry) (map view.file files.entry.now)) }
 {
     let mut found = Vec::new(alloc);
-    for file in files {
-        add_file(alloc, &mut found, me, file.items.as_slice())?;
-    }
-    Ok(found)
+    add_files(alloc, &mut found, me, files).and(Ok(found))
 }

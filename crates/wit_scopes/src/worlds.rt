@@ -7,6 +7,7 @@ ghost use Rattle.wit_scopes.specs.Members.{type_members, uses_members};
 ghost use Rattle.wit_scopes.specs.Scopes as spec;
 ghost use Rattle.wit_scopes.specs.View as seen;
 
+use crate::growing::push_to;
 use crate::members::{Member, add_members, add_type, add_uses};
 use crate::paths::{FileUses, Target, last_name};
 use std::alloc::{AllocError, Global};
@@ -151,7 +152,7 @@ fn add_plain<'t, 'a>(
     ensures { OnOk result (map seen.world_member found.new.items ≡ map seen.world_member found.old.items ++ map spec.member (seen.members members.now)) }
 {
     for member in members {
-        found.push(WorldMember::Member(*member))?;
+        push_to(found, WorldMember::Member(*member))?;
     }
     Ok(())
 }
@@ -168,8 +169,7 @@ fn add_listed<'t, 'a>(
     ensures { (us : List ToplevelUseTree) → seen.AreUses (view.package_name uses.now.me) us uses.now → OnOk result (map seen.world_member found.new.items ≡ map seen.world_member found.old.items ++ spec.listed (spec.listed_of (view.package_name uses.now.me) us (view.gated view.world_item gated.entry.now) side (view.extern_kind item.entry.now)) ∷ []) }
 {
     let member = listed_item(alloc, uses, gated, side, item)?;
-    found.push(member)?;
-    Ok(())
+    push_to(found, member)
 }
 
 /// Adds the names that a `use` takes.
@@ -216,8 +216,7 @@ fn add_included<'t, 'a>(
 ) -> Result<(), AllocError>
     ensures { (us : List ToplevelUseTree) → seen.AreUses (view.package_name uses.now.me) us uses.now → OnOk result (map seen.world_member found.new.items ≡ map seen.world_member found.old.items ++ spec.included (spec.included_of (view.package_name uses.now.me) us (view.gated view.world_item gated.entry.now) (view.include include.entry.now)) ∷ []) }
 {
-    found.push(included_world(uses, gated, include))?;
-    Ok(())
+    push_to(found, included_world(uses, gated, include))
 }
 
 /// Adds what an item of a world declares.

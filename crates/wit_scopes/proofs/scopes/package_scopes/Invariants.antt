@@ -1,8 +1,0 @@
-use Rattle.std.proofs.Common.{◌≡◌, map, take}
-use Rattle.wit_syntax.specs.AstView as view
-use Rattle.wit_scopes.specs.Scopes as spec
-use Rattle.wit_scopes.specs.View as seen
-use Rattle.wit_scopes.proofs.scopes.package_scopes.Given as goal
-
-abbrev pub invariant-loop-file : goal.invariant-loop-file
-invariant-loop-file l = map seen.item_scope l.found.items ≡ spec.package_scopes (view.package_name l.me) (map view.file (take l.file-index l.files))
