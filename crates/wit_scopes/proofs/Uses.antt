@@ -21,11 +21,6 @@ pub known_more : (old new : List ℕ → Option Target) (me : PackageNameTree) (
 known_more old new me u k x key absent same inserted n =
     rw (inserted n) (step me u n x (bytes_eq k n) (old n) (ap (λ j. bytes_eq j n) key) (λ h. ap (λ j. is_some (old j)) (sym ((bytes_eq-Decides k n).0 h)) ∙ absent) same)
 
--- what is known by itself stays
-pub or_none : (o : Option TargetTree) → or_target o None ≡ o
-or_none None = refl
-or_none (Some t) = refl
-
 one_first : (b : Bool) (x : TargetTree) (o p : Option TargetTree) → cond b (Some x) (or_target o p) ≡ or_target (cond b (Some x) o) p
 one_first true x o p = refl
 one_first false x o p = refl

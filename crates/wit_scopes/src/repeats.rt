@@ -1,7 +1,7 @@
 //! Names that stand again in their scope.
 
 ghost use Rattle.std.specs.Prelude.{◌≡◌, map, IfOk, MatchOption};
-ghost use Rattle.wit_scopes.specs.Names.{AreDistinct, IsRepeat};
+ghost use Rattle.wit_scopes.specs.Names.{AreDistinct, IsFirstRepeat};
 
 use indexmap::IndexSet;
 use std::alloc::{AllocError, Global};
@@ -9,7 +9,7 @@ use wit_words::NameKey;
 
 /// The place of the first name whose key is that of one before it, if there is one (Component Model, Name Uniqueness).
 pub fn first_repeat(alloc: Global, names: &[&str]) -> Result<Option<usize>, AllocError>
-    ensures { IfOk result (λ r. MatchOption r (AreDistinct (map (λ n. n.now) names.now)) (IsRepeat (map (λ n. n.now) names.now))) }
+    ensures { IfOk result (λ r. MatchOption r (AreDistinct (map (λ n. n.now) names.now)) (IsFirstRepeat (map (λ n. n.now) names.now))) }
 {
     let mut keys: IndexSet<NameKey> = IndexSet::new(alloc);
     for (place, name) in names.iter().enumerate() {

@@ -7,7 +7,10 @@ pub returns-then-not-is_new : goal.returns-then-not-is_new
 returns-then-not-is_new c =
     let there : c.loop-place.place < length c.args.names.now = search rules in
     let names : List (List ℕ) = map (λ (n : Bor (List ℕ)). n.now) c.args.names.now in
-    repeated names c.loop-place.place _ c.of.result c.loop-place.keys.keys c.in_ok-is_new.is_new c.of.ensures c.loop-place.invariant.0 (named_at c.args.names.now c.loop-place.place _ there) c.in_ok-is_new.ensures.added c.if-not-is_new.true
+    record {
+      repeat = repeated names c.loop-place.place _ c.of.result c.loop-place.keys.keys c.in_ok-is_new.is_new c.of.ensures c.loop-place.invariant.0 (named_at c.args.names.now c.loop-place.place _ there) c.in_ok-is_new.ensures.added c.if-not-is_new.true;
+      first = c.loop-place.invariant.1;
+    }
 
 pub loop-place-preserved : goal.loop-place-preserved
 loop-place-preserved c =
