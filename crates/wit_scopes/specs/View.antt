@@ -23,10 +23,6 @@ use Rattle.wit_scopes.specs.declared.scopes.InterfaceScope.{InterfaceScope as In
 use Rattle.wit_scopes.specs.declared.scopes.WorldScope.{WorldScope as World}
 use Rattle.wit_scopes.specs.declared.scopes.ItemScope.{ItemScope as Item}
 use Rattle.wit_scopes.specs.declared.scopes.ItemScope.TheVariants as items
-use Rattle.wit_scopes.specs.declared.gates.Gates.{Gates}
-use Rattle.wit_scopes.specs.declared.gates.Gates.TheVariants as gates_of_code
-use Rattle.wit_scopes.specs.Gates as gates_tree
-use Rattle.wit_scopes.specs.Gates.{GatesTree}
 use Rattle.wit_scopes.specs.Paths as tree
 use Rattle.wit_scopes.specs.Paths.{TargetTree, used_target}
 use Rattle.wit_scopes.specs.Members as member_tree
@@ -90,8 +86,3 @@ world_scope w = record { name = view.id w.name; members = map world_member w.mem
 abbrev pub item_scope : Item → ItemScope
 item_scope (items.Interface i) = scope_tree.ItemScope.interface (interface_scope i)
 item_scope (items.World w) = scope_tree.world (world_scope w)
-
-abbrev pub gates : Gates → GatesTree
-gates gates_of_code.Ungated = gates_tree.ungated
-gates (gates_of_code.OfFeature f d) = gates_tree.of_feature (view.id f) (option_map view.version d)
-gates (gates_of_code.FromVersion v d) = gates_tree.from_version (view.version v) (option_map view.version d)

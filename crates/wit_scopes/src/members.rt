@@ -15,7 +15,7 @@ use wit_syntax::{
 
 /// What a name of a scope is (WIT, Item: `interface`, Use, Item: `resource`).
 #[derive(Clone, Copy)]
-pub enum MemberKind<'t, 'a> {
+pub enum MemberKind<'a> {
     /// A type that is taken from an interface, where it has that name.
     Used {
         /// The interface.
@@ -24,54 +24,54 @@ pub enum MemberKind<'t, 'a> {
         name: Id<'a>,
     },
     /// A definition of a type.
-    Defined(&'t TypeDefKind<'a>),
+    Defined(&'a TypeDefKind<'a>),
     /// A function.
-    Function(&'t Func<'a>),
+    Function(&'a Func<'a>),
     /// A method of a resource.
     Method {
         /// The resource.
         resource: Id<'a>,
         /// The function.
-        func: &'t Func<'a>,
+        func: &'a Func<'a>,
     },
     /// A static function of a resource.
     Static {
         /// The resource.
         resource: Id<'a>,
         /// The function.
-        func: &'t Func<'a>,
+        func: &'a Func<'a>,
     },
     /// A constructor of a resource.
     Constructor {
         /// The resource.
         resource: Id<'a>,
         /// The parameters in their order.
-        params: &'t [Param<'a>],
+        params: &'a [Param<'a>],
         /// The type behind the arrow, if there is one.
-        result: &'t Option<Type<'a>>,
+        result: &'a Option<Type<'a>>,
     },
 }
 
 /// A name of a scope and what it is.
 #[derive(Clone, Copy)]
-pub struct Member<'t, 'a> {
+pub struct Member<'a> {
     /// The name; a constructor's is that of its resource.
     pub name: Id<'a>,
     /// What it is.
-    pub kind: MemberKind<'t, 'a>,
+    pub kind: MemberKind<'a>,
     /// The docs in front of it.
-    pub docs: Option<&'t Docs<'a>>,
+    pub docs: Option<&'a Docs<'a>>,
     /// The attributes in front of it, or of the `use` that names it.
-    pub attributes: &'t [Attribute<'a>],
+    pub attributes: &'a [Attribute<'a>],
     /// Where it stands.
     pub span: Span,
 }
 
 /// Adds the names that a `use` takes.
-pub fn add_uses<'t, 'a>(
-    found: &mut Vec<Member<'t, 'a>>,
+pub fn add_uses<'a>(
+    found: &mut Vec<Member<'a>>,
     from: Target<'a>,
-    attributes: &'t [Attribute<'a>],
+    attributes: &'a [Attribute<'a>],
     names: &[UseName<'a>],
 ) -> Result<(), AllocError>
     ensures { OnOk result (seen.members found.new.items ≡ seen.members found.old.items ++ map (spec.used_member (seen.target from.entry) (map view.attribute attributes.entry.now)) (map view.use_name names.now)) }
@@ -103,7 +103,7 @@ fn resource_func_name<'a>(resource: Id<'a>, func: &ResourceFunc<'a>) -> Id<'a>
 }
 
 /// What a function of a resource is.
-fn resource_func_kind<'t, 'a>(resource: Id<'a>, func: &'t ResourceFunc<'a>) -> MemberKind<'t, 'a>
+fn resource_func_kind<'a>(resource: Id<'a>, func: &'a ResourceFunc<'a>) -> MemberKind<'a>
     ensures { seen.member_kind result ≡ spec.resource_member_kind (view.id resource.entry) (view.resource_func func.entry.now) }
 {
     match func {
@@ -124,10 +124,10 @@ fn resource_func_kind<'t, 'a>(resource: Id<'a>, func: &'t ResourceFunc<'a>) -> M
 }
 
 /// Adds the functions of a resource.
-fn add_functions<'t, 'a>(
-    found: &mut Vec<Member<'t, 'a>>,
+fn add_functions<'a>(
+    found: &mut Vec<Member<'a>>,
     resource: Id<'a>,
-    funcs: &'t [Gated<'a, ResourceFunc<'a>>],
+    funcs: &'a [Gated<'a, ResourceFunc<'a>>],
 ) -> Result<(), AllocError>
     ensures { OnOk result (seen.members found.new.items ≡ seen.members found.old.items ++ map (spec.resource_member (view.id resource.entry)) (map (view.gated view.resource_func) funcs.entry.now)) }
 {
@@ -144,10 +144,10 @@ fn add_functions<'t, 'a>(
 }
 
 /// Adds a definition of a type and, of a resource, its functions.
-pub fn add_type<'t, 'a, T>(
-    found: &mut Vec<Member<'t, 'a>>,
-    gated: &'t Gated<'a, T>,
-    def: &'t TypeDef<'a>,
+pub fn add_type<'a, T>(
+    found: &mut Vec<Member<'a>>,
+    gated: &'a Gated<'a, T>,
+    def: &'a TypeDef<'a>,
 ) -> Result<(), AllocError>
     ensures { OnOk result (seen.members found.new.items ≡ seen.members found.old.items ++ spec.type_members (view.gated (λ x. x) gated.entry.now) (view.type_def def.entry.now)) }
 {
@@ -165,10 +165,10 @@ pub fn add_type<'t, 'a, T>(
 }
 
 /// Adds what an item of an interface declares.
-fn add_item<'t, 'a>(
-    found: &mut Vec<Member<'t, 'a>>,
+fn add_item<'a>(
+    found: &mut Vec<Member<'a>>,
     uses: &FileUses<'a>,
-    gated: &'t Gated<'a, InterfaceItem<'a>>,
+    gated: &'a Gated<'a, InterfaceItem<'a>>,
 ) -> Result<(), AllocError>
     ensures { (us : List ToplevelUseTree) → seen.AreUses (view.package_name uses.now.me) us uses.now → OnOk result (seen.members found.new.items ≡ seen.members found.old.items ++ spec.interface_item_members (view.package_name uses.now.me) us (view.gated view.interface_item gated.entry.now) (view.interface_item gated.entry.now.item)) }
 {
@@ -194,10 +194,10 @@ fn add_item<'t, 'a>(
 }
 
 /// Adds all that the items of an interface declare, in their order.
-pub fn add_members<'t, 'a>(
-    found: &mut Vec<Member<'t, 'a>>,
+pub fn add_members<'a>(
+    found: &mut Vec<Member<'a>>,
     uses: &FileUses<'a>,
-    items: &'t [Gated<'a, InterfaceItem<'a>>],
+    items: &'a [Gated<'a, InterfaceItem<'a>>],
 ) -> Result<(), AllocError>
     ensures { (us : List ToplevelUseTree) → seen.AreUses (view.package_name uses.now.me) us uses.now → OnOk result (seen.members found.new.items ≡ seen.members found.old.items ++ spec.interface_members (view.package_name uses.now.me) us (map (view.gated view.interface_item) items.entry.now)) }
 {

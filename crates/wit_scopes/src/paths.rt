@@ -25,7 +25,7 @@ pub enum Target<'a> {
 }
 
 /// Whether two names are those of one package: by their texts.
-fn is_same_package<'a>(a: &PackageName<'a>, b: &PackageName<'a>) -> bool
+pub fn is_same_package<'a>(a: &PackageName<'a>, b: &PackageName<'a>) -> bool
     ensures { result ≡ spec.same_package (view.package_name a.now) (view.package_name b.now) }
 {
     a.namespace == b.namespace && a.name == b.name && a.version == b.version

@@ -17,50 +17,50 @@ use wit_syntax::{
 
 /// An interface of a package, with all that it declares (WIT, Item: `interface`).
 #[derive(Drop)]
-pub struct InterfaceScope<'t, 'a> {
+pub struct InterfaceScope<'a> {
     /// Its name.
     pub name: Id<'a>,
     /// What it declares, in the order of the text.
-    pub members: Vec<Member<'t, 'a>>,
+    pub members: Vec<Member<'a>>,
     /// The docs in front of it.
-    pub docs: &'t Docs<'a>,
+    pub docs: &'a Docs<'a>,
     /// The attributes in front of it.
-    pub attributes: &'t [Attribute<'a>],
+    pub attributes: &'a [Attribute<'a>],
     /// Where it stands.
     pub span: Span,
 }
 
 /// A world of a package, with all that it declares (WIT, Item: `world`).
 #[derive(Drop)]
-pub struct WorldScope<'t, 'a> {
+pub struct WorldScope<'a> {
     /// Its name.
     pub name: Id<'a>,
     /// What it declares, in the order of the text.
-    pub members: Vec<WorldMember<'t, 'a>>,
+    pub members: Vec<WorldMember<'a>>,
     /// The docs in front of it.
-    pub docs: &'t Docs<'a>,
+    pub docs: &'a Docs<'a>,
     /// The attributes in front of it.
-    pub attributes: &'t [Attribute<'a>],
+    pub attributes: &'a [Attribute<'a>],
     /// Where it stands.
     pub span: Span,
 }
 
 /// An interface or a world of a package.
 #[derive(Drop)]
-pub enum ItemScope<'t, 'a> {
+pub enum ItemScope<'a> {
     /// An interface.
-    Interface(InterfaceScope<'t, 'a>),
+    Interface(InterfaceScope<'a>),
     /// A world.
-    World(WorldScope<'t, 'a>),
+    World(WorldScope<'a>),
 }
 
 /// An interface with all that it declares.
-fn interface_scope<'t, 'a, T>(
+fn interface_scope<'a, T>(
     alloc: Global,
     uses: &FileUses<'a>,
-    gated: &'t Gated<'a, T>,
-    interface: &'t Interface<'a>,
-) -> Result<ItemScope<'t, 'a>, AllocError>
+    gated: &'a Gated<'a, T>,
+    interface: &'a Interface<'a>,
+) -> Result<ItemScope<'a>, AllocError>
     ensures { (us : List ToplevelUseTree) → seen.AreUses (view.package_name uses.now.me) us uses.now → IfOk result (λ s. seen.item_scope s ≡ spec.ItemScope.interface (spec.interface_scope (view.package_name uses.now.me) us (view.gated (λ x. x) gated.entry.now) (view.interface interface.entry.now))) }
 {
     let mut members = Vec::new(alloc);
@@ -75,12 +75,12 @@ fn interface_scope<'t, 'a, T>(
 }
 
 /// A world with all that it declares.
-fn world_scope<'t, 'a, T>(
+fn world_scope<'a, T>(
     alloc: Global,
     uses: &FileUses<'a>,
-    gated: &'t Gated<'a, T>,
-    world: &'t World<'a>,
-) -> Result<ItemScope<'t, 'a>, AllocError>
+    gated: &'a Gated<'a, T>,
+    world: &'a World<'a>,
+) -> Result<ItemScope<'a>, AllocError>
     ensures { (us : List ToplevelUseTree) → seen.AreUses (view.package_name uses.now.me) us uses.now → IfOk result (λ s. seen.item_scope s ≡ spec.world (spec.world_scope (view.package_name uses.now.me) us (view.gated (λ x. x) gated.entry.now) (view.world world.entry.now))) }
 {
     let members = world_members(alloc, uses, world.items.as_slice())?;
@@ -94,12 +94,12 @@ fn world_scope<'t, 'a, T>(
 }
 
 /// Adds an interface with all that it declares.
-fn add_interface<'t, 'a>(
+fn add_interface<'a>(
     alloc: Global,
-    found: &mut Vec<ItemScope<'t, 'a>>,
+    found: &mut Vec<ItemScope<'a>>,
     uses: &FileUses<'a>,
-    gated: &'t Gated<'a, FileItem<'a>>,
-    interface: &'t Interface<'a>,
+    gated: &'a Gated<'a, FileItem<'a>>,
+    interface: &'a Interface<'a>,
 ) -> Result<(), AllocError>
     ensures { (us : List ToplevelUseTree) → seen.AreUses (view.package_name uses.now.me) us uses.now → OnOk result (map seen.item_scope found.new.items ≡ map seen.item_scope found.old.items ++ spec.ItemScope.interface (spec.interface_scope (view.package_name uses.now.me) us (view.gated view.file_item gated.entry.now) (view.interface interface.entry.now)) ∷ []) }
 {
@@ -108,12 +108,12 @@ fn add_interface<'t, 'a>(
 }
 
 /// Adds a world with all that it declares.
-fn add_world<'t, 'a>(
+fn add_world<'a>(
     alloc: Global,
-    found: &mut Vec<ItemScope<'t, 'a>>,
+    found: &mut Vec<ItemScope<'a>>,
     uses: &FileUses<'a>,
-    gated: &'t Gated<'a, FileItem<'a>>,
-    world: &'t World<'a>,
+    gated: &'a Gated<'a, FileItem<'a>>,
+    world: &'a World<'a>,
 ) -> Result<(), AllocError>
     ensures { (us : List ToplevelUseTree) → seen.AreUses (view.package_name uses.now.me) us uses.now → OnOk result (map seen.item_scope found.new.items ≡ map seen.item_scope found.old.items ++ spec.world (spec.world_scope (view.package_name uses.now.me) us (view.gated view.file_item gated.entry.now) (view.world world.entry.now)) ∷ []) }
 {
@@ -122,11 +122,11 @@ fn add_world<'t, 'a>(
 }
 
 /// Adds the interface or world that an item of a file is.
-fn add_item<'t, 'a>(
+fn add_item<'a>(
     alloc: Global,
-    found: &mut Vec<ItemScope<'t, 'a>>,
+    found: &mut Vec<ItemScope<'a>>,
     uses: &FileUses<'a>,
-    gated: &'t Gated<'a, FileItem<'a>>,
+    gated: &'a Gated<'a, FileItem<'a>>,
 ) -> Result<(), AllocError>
     ensures { (us : List ToplevelUseTree) → seen.AreUses (view.package_name uses.now.me) us uses.now → OnOk result (map seen.item_scope found.new.items ≡ map seen.item_scope found.old.items ++ spec.file_item_scopes (view.package_name uses.now.me) us (view.gated view.file_item gated.entry.now) (view.file_item gated.entry.now.item)) }
 {
@@ -140,11 +140,11 @@ fn add_item<'t, 'a>(
 }
 
 /// Adds the interfaces and worlds of a file.
-fn add_file<'t, 'a>(
+fn add_file<'a>(
     alloc: Global,
-    found: &mut Vec<ItemScope<'t, 'a>>,
+    found: &mut Vec<ItemScope<'a>>,
     me: PackageName<'a>,
-    items: &'t [Gated<'a, FileItem<'a>>],
+    items: &'a [Gated<'a, FileItem<'a>>],
 ) -> Result<(), AllocError>
     ensures { OnOk result (map seen.item_scope found.new.items ≡ map seen.item_scope found.old.items ++ spec.items_scopes (view.package_name me.entry) (map (view.gated view.file_item) items.entry.now)) }
 {
@@ -156,11 +156,11 @@ fn add_file<'t, 'a>(
 }
 
 /// Adds the interfaces and worlds of files.
-fn add_files<'t, 'a>(
+fn add_files<'a>(
     alloc: Global,
-    found: &mut Vec<ItemScope<'t, 'a>>,
+    found: &mut Vec<ItemScope<'a>>,
     me: PackageName<'a>,
-    files: &'t [File<'a>],
+    files: &'a [File<'a>],
 ) -> Result<(), AllocError>
     ensures { OnOk result (map seen.item_scope found.new.items ≡ map seen.item_scope found.old.items ++ spec.package_scopes (view.package_name me.entry) (map view.file files.entry.now)) }
 {
@@ -173,11 +173,11 @@ fn add_files<'t, 'a>(
 /// The interfaces and worlds of a package of that name, in the order of its files and of their texts: each with all that
 /// it declares, one name at a time, and with what the paths in it name. A package that is nested in a file is none of the
 /// file's own.
-pub fn package_scopes<'t, 'a>(
+pub fn package_scopes<'a>(
     alloc: Global,
     me: PackageName<'a>,
-    files: &'t [File<'a>],
-) -> Result<Vec<ItemScope<'t, 'a>>, AllocError>
+    files: &'a [File<'a>],
+) -> Result<Vec<ItemScope<'a>>, AllocError>
     ensures { IfOk result (λ v. map seen.item_scope v.items ≡ spec.package_scopes (view.package_name me.entry) (map view.file files.entry.now)) }
 {
     let mut found = Vec::new(alloc);

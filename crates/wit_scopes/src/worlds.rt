@@ -27,54 +27,54 @@ pub enum Side {
 
 /// What a world imports or exports.
 #[derive(Drop)]
-pub enum ExternKind<'t, 'a> {
+pub enum ExternKind<'a> {
     /// A function.
-    Function(&'t Func<'a>),
+    Function(&'a Func<'a>),
     /// An interface that stands in the world, with all that it declares.
-    Interface(Vec<Member<'t, 'a>>),
+    Interface(Vec<Member<'a>>),
     /// An interface of a package.
     Item(Target<'a>),
 }
 
 /// An import or export of a world.
 #[derive(Drop)]
-pub struct Listed<'t, 'a> {
+pub struct Listed<'a> {
     /// Which of the two it is.
     pub side: Side,
     /// Its label, or the last name of its path.
     pub name: Id<'a>,
     /// What it is.
-    pub kind: ExternKind<'t, 'a>,
+    pub kind: ExternKind<'a>,
     /// The docs in front of it.
-    pub docs: &'t Docs<'a>,
+    pub docs: &'a Docs<'a>,
     /// The attributes in front of it.
-    pub attributes: &'t [Attribute<'a>],
+    pub attributes: &'a [Attribute<'a>],
     /// Where it stands.
     pub span: Span,
 }
 
 /// A world that another includes.
 #[derive(Clone, Copy)]
-pub struct Included<'t, 'a> {
+pub struct Included<'a> {
     /// The world.
     pub world: Target<'a>,
     /// The names that change.
-    pub names: &'t [IncludeName<'a>],
+    pub names: &'a [IncludeName<'a>],
     /// The attributes in front of it.
-    pub attributes: &'t [Attribute<'a>],
+    pub attributes: &'a [Attribute<'a>],
     /// Where it stands.
     pub span: Span,
 }
 
 /// What a world declares.
 #[derive(Drop)]
-pub enum WorldMember<'t, 'a> {
+pub enum WorldMember<'a> {
     /// A type or a function of a resource.
-    Member(Member<'t, 'a>),
+    Member(Member<'a>),
     /// An import or export.
-    Listed(Listed<'t, 'a>),
+    Listed(Listed<'a>),
     /// A world that is included.
-    Included(Included<'t, 'a>),
+    Included(Included<'a>),
 }
 
 /// The label of an import or export, or the last name of its path.
@@ -89,11 +89,11 @@ fn extern_name<'a>(item: &ExternSyntax<'a>) -> Id<'a>
 }
 
 /// What stands behind `import` or `export`.
-fn extern_kind<'t, 'a>(
+fn extern_kind<'a>(
     alloc: Global,
     uses: &FileUses<'a>,
-    item: &'t ExternSyntax<'a>,
-) -> Result<ExternKind<'t, 'a>, AllocError>
+    item: &'a ExternSyntax<'a>,
+) -> Result<ExternKind<'a>, AllocError>
     ensures { (us : List ToplevelUseTree) → seen.AreUses (view.package_name uses.now.me) us uses.now → IfOk result (λ k. seen.extern_kind k ≡ spec.extern_kind (view.package_name uses.now.me) us (view.extern_kind item.entry.now)) }
 {
     match item {
@@ -108,13 +108,13 @@ fn extern_kind<'t, 'a>(
 }
 
 /// An import or export.
-fn listed_item<'t, 'a>(
+fn listed_item<'a>(
     alloc: Global,
     uses: &FileUses<'a>,
-    gated: &'t Gated<'a, WorldItem<'a>>,
+    gated: &'a Gated<'a, WorldItem<'a>>,
     side: Side,
-    item: &'t ExternSyntax<'a>,
-) -> Result<WorldMember<'t, 'a>, AllocError>
+    item: &'a ExternSyntax<'a>,
+) -> Result<WorldMember<'a>, AllocError>
     ensures { (us : List ToplevelUseTree) → seen.AreUses (view.package_name uses.now.me) us uses.now → IfOk result (λ m. seen.world_member m ≡ spec.listed (spec.listed_of (view.package_name uses.now.me) us (view.gated view.world_item gated.entry.now) side (view.extern_kind item.entry.now))) }
 {
     let kind = extern_kind(alloc, uses, item)?;
@@ -129,11 +129,11 @@ fn listed_item<'t, 'a>(
 }
 
 /// A world that is included.
-fn included_world<'t, 'a>(
+fn included_world<'a>(
     uses: &FileUses<'a>,
-    gated: &'t Gated<'a, WorldItem<'a>>,
-    include: &'t Include<'a>,
-) -> WorldMember<'t, 'a>
+    gated: &'a Gated<'a, WorldItem<'a>>,
+    include: &'a Include<'a>,
+) -> WorldMember<'a>
     ensures { (us : List ToplevelUseTree) → seen.AreUses (view.package_name uses.now.me) us uses.now → seen.world_member result ≡ spec.included (spec.included_of (view.package_name uses.now.me) us (view.gated view.world_item gated.entry.now) (view.include include.entry.now)) }
 {
     WorldMember::Included(Included {
@@ -145,10 +145,7 @@ fn included_world<'t, 'a>(
 }
 
 /// Adds members of a scope to those of a world.
-fn add_plain<'t, 'a>(
-    found: &mut Vec<WorldMember<'t, 'a>>,
-    members: &[Member<'t, 'a>],
-) -> Result<(), AllocError>
+fn add_plain<'a>(found: &mut Vec<WorldMember<'a>>, members: &[Member<'a>]) -> Result<(), AllocError>
     ensures { OnOk result (map seen.world_member found.new.items ≡ map seen.world_member found.old.items ++ map spec.member (seen.members members.now)) }
 {
     for member in members {
@@ -158,13 +155,13 @@ fn add_plain<'t, 'a>(
 }
 
 /// Adds an import or export.
-fn add_listed<'t, 'a>(
+fn add_listed<'a>(
     alloc: Global,
-    found: &mut Vec<WorldMember<'t, 'a>>,
+    found: &mut Vec<WorldMember<'a>>,
     uses: &FileUses<'a>,
-    gated: &'t Gated<'a, WorldItem<'a>>,
+    gated: &'a Gated<'a, WorldItem<'a>>,
     side: Side,
-    item: &'t ExternSyntax<'a>,
+    item: &'a ExternSyntax<'a>,
 ) -> Result<(), AllocError>
     ensures { (us : List ToplevelUseTree) → seen.AreUses (view.package_name uses.now.me) us uses.now → OnOk result (map seen.world_member found.new.items ≡ map seen.world_member found.old.items ++ spec.listed (spec.listed_of (view.package_name uses.now.me) us (view.gated view.world_item gated.entry.now) side (view.extern_kind item.entry.now)) ∷ []) }
 {
@@ -173,12 +170,12 @@ fn add_listed<'t, 'a>(
 }
 
 /// Adds the names that a `use` takes.
-fn add_used<'t, 'a>(
+fn add_used<'a>(
     alloc: Global,
-    found: &mut Vec<WorldMember<'t, 'a>>,
+    found: &mut Vec<WorldMember<'a>>,
     uses: &FileUses<'a>,
-    gated: &'t Gated<'a, WorldItem<'a>>,
-    item: &'t Use<'a>,
+    gated: &'a Gated<'a, WorldItem<'a>>,
+    item: &'a Use<'a>,
 ) -> Result<(), AllocError>
     ensures { (us : List ToplevelUseTree) → seen.AreUses (view.package_name uses.now.me) us uses.now → OnOk result (map seen.world_member found.new.items ≡ map seen.world_member found.old.items ++ map spec.member (uses_members (view.package_name uses.now.me) us (map view.attribute gated.entry.now.attributes.items) (view.uses item.entry.now))) }
 {
@@ -194,11 +191,11 @@ fn add_used<'t, 'a>(
 }
 
 /// Adds a definition of a type and, of a resource, its functions.
-fn add_defined<'t, 'a>(
+fn add_defined<'a>(
     alloc: Global,
-    found: &mut Vec<WorldMember<'t, 'a>>,
-    gated: &'t Gated<'a, WorldItem<'a>>,
-    def: &'t TypeDef<'a>,
+    found: &mut Vec<WorldMember<'a>>,
+    gated: &'a Gated<'a, WorldItem<'a>>,
+    def: &'a TypeDef<'a>,
 ) -> Result<(), AllocError>
     ensures { OnOk result (map seen.world_member found.new.items ≡ map seen.world_member found.old.items ++ map spec.member (type_members (view.gated view.world_item gated.entry.now) (view.type_def def.entry.now))) }
 {
@@ -208,11 +205,11 @@ fn add_defined<'t, 'a>(
 }
 
 /// Adds a world that is included.
-fn add_included<'t, 'a>(
-    found: &mut Vec<WorldMember<'t, 'a>>,
+fn add_included<'a>(
+    found: &mut Vec<WorldMember<'a>>,
     uses: &FileUses<'a>,
-    gated: &'t Gated<'a, WorldItem<'a>>,
-    include: &'t Include<'a>,
+    gated: &'a Gated<'a, WorldItem<'a>>,
+    include: &'a Include<'a>,
 ) -> Result<(), AllocError>
     ensures { (us : List ToplevelUseTree) → seen.AreUses (view.package_name uses.now.me) us uses.now → OnOk result (map seen.world_member found.new.items ≡ map seen.world_member found.old.items ++ spec.included (spec.included_of (view.package_name uses.now.me) us (view.gated view.world_item gated.entry.now) (view.include include.entry.now)) ∷ []) }
 {
@@ -220,11 +217,11 @@ fn add_included<'t, 'a>(
 }
 
 /// Adds what an item of a world declares.
-fn add_item<'t, 'a>(
+fn add_item<'a>(
     alloc: Global,
-    found: &mut Vec<WorldMember<'t, 'a>>,
+    found: &mut Vec<WorldMember<'a>>,
     uses: &FileUses<'a>,
-    gated: &'t Gated<'a, WorldItem<'a>>,
+    gated: &'a Gated<'a, WorldItem<'a>>,
 ) -> Result<(), AllocError>
     ensures { (us : List ToplevelUseTree) → seen.AreUses (view.package_name uses.now.me) us uses.now → OnOk result (map seen.world_member found.new.items ≡ map seen.world_member found.old.items ++ spec.world_item_members (view.package_name uses.now.me) us (view.gated view.world_item gated.entry.now) (view.world_item gated.entry.now.item)) }
 {
@@ -238,11 +235,11 @@ fn add_item<'t, 'a>(
 }
 
 /// All that the items of a world declare, in their order.
-pub fn world_members<'t, 'a>(
+pub fn world_members<'a>(
     alloc: Global,
     uses: &FileUses<'a>,
-    items: &'t [Gated<'a, WorldItem<'a>>],
-) -> Result<Vec<WorldMember<'t, 'a>>, AllocError>
+    items: &'a [Gated<'a, WorldItem<'a>>],
+) -> Result<Vec<WorldMember<'a>>, AllocError>
     ensures { (us : List ToplevelUseTree) → seen.AreUses (view.package_name uses.now.me) us uses.now → IfOk result (λ v. map seen.world_member v.items ≡ spec.world_members (view.package_name uses.now.me) us (map (view.gated view.world_item) items.entry.now)) }
 {
     let mut found = Vec::new(alloc);

@@ -1,0 +1,55 @@
+//! Types under the names of a scope.
+
+ghost use Rattle.std.specs.Prelude.{◌≡◌, ℕ, ◌∷◌, ◌++◌, [], OnErr, OnOk, IfSome, IfNone};
+ghost use Rattle.wit_arena.specs.Meaning.{Has};
+
+use indexmap::IndexMap;
+use std::alloc::{AllocError, Global};
+use std::marker::Model;
+use wit_types::TypeId;
+
+/// Types under the names of a scope, in the order in which they came.
+#[derive(Drop)]
+pub struct Table<'a> {
+    inner: IndexMap<&'a str, usize>,
+}
+
+impl<'a> Model for Table<'a> {
+    ghost use Rattle.std.specs.Prelude.{List, ℕ};
+    ghost use Rattle.wit_arena.specs.Table.{entries_of};
+
+    ghost Value = { List (List ℕ × ℕ) };
+
+    ghost view = { λ t. entries_of t.inner.entries };
+}
+
+impl<'a> Table<'a> {
+    /// Nothing under any name.
+    pub fn new(alloc: Global) -> Table<'a>
+        ensures { result ≡ [] }
+    {
+        Table {
+            inner: IndexMap::new(alloc),
+        }
+    }
+
+    /// What stands under a name.
+    pub fn get(&self, name: &str) -> Option<TypeId>
+        ensures some { IfSome result (λ i. Has self.now (name.now, i)) }
+        ensures none { IfNone result ((i : ℕ) → Has self.now (name.now, i) → ⊥) }
+    {
+        let index = self.inner.get(name).copied()?;
+        Some(TypeId::from_index(index))
+    }
+
+    /// Puts a type under a name that isn't there; it goes last. Where memory is wanting nothing changes.
+    pub fn add(&mut self, name: &'a str, id: TypeId) -> Result<(), AllocError>
+        requires { (i : ℕ) → Has self.old (name.now, i) → ⊥ }
+        ensures ok { OnOk result (self.new ≡ self.old ++ (name.entry.now, id) ∷ []) }
+        ensures err { OnErr result (self.new ≡ self.old) }
+    {
+        self.inner.reserve(1)?;
+        self.inner.insert(name, id.index()).unwrap();
+        Ok(())
+    }
+}

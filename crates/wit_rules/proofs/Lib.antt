@@ -1,0 +1,7 @@
+pub mod Repeated
+pub mod Breaking
+pub mod Places
+pub mod Checking
+pub mod Kept
+pub mod Named
+pub mod Refused

@@ -1,0 +1,55 @@
+-- Rules, and what breaks them where.
+use Rattle.std.specs.Prelude.{◌≡◌, ℕ, List, map, Some, None, slice_get, bytes_eq}
+use Rattle.wit_words.specs.declared.source_map.Span.{Span}
+use Rattle.wit_words.specs.Slice.{Slice}
+use Rattle.wit_words.specs.NameKey.{name_key}
+use Rattle.wit_items.specs.ItemTree.{AttributeTree}
+use Rattle.wit_rules.specs.declared.fault.PackageRule.{PackageRule}
+use Rattle.wit_rules.specs.declared.fault.PackageRule.TheVariants.{DuplicateName, BadGate}
+use Rattle.wit_rules.specs.declared.fault.PackageFault.{PackageFault}
+use Rattle.wit_rules.specs.declared.fault.PackageFault.TheVariants.{OutOfMemory, Syntax, Broken}
+use Rattle.wit_rules.specs.Gates.{gates_in}
+use Rattle.wit_rules.specs.Repeats.{IsRepeat}
+
+-- which rules something breaks, and where
+abbrev pub Breaks : Type 1
+Breaks = PackageRule → Span → Type 0
+
+-- it breaks none
+abbrev pub IsKept : Breaks → Type 0
+IsKept breaks = (rule : PackageRule) (at : Span) → breaks rule at → ⊥
+
+-- a refusal for one that it breaks, or for want of memory
+abbrev pub IsFaultOf : Breaks → PackageFault → Type 0
+IsFaultOf breaks OutOfMemory = Unit {0}
+IsFaultOf breaks (Syntax f) = ⊥
+IsFaultOf breaks (Broken rule at) = breaks rule at
+
+-- one of these breaks it
+pub record AnyBreaks {X : Type 0} (breaks_of : X → PackageRule → Span → Type 0) (xs : List X) (rule : PackageRule) (at : Span) : Type 0 where
+  pub place : ℕ
+  pub one : X
+  pub there : slice_get xs place ≡ Some one
+  pub breaks : breaks_of one rule at
+
+-- a name has the key of one before it (Component Model, Name Uniqueness): a break at that name
+pub record NamesBreak (names : List Slice) (rule : PackageRule) (at : Span) : Type 0 where
+  pub rule_is : rule ≡ DuplicateName
+  pub place : ℕ
+  pub again : IsRepeat bytes_eq (map (λ n. name_key n.text) names) place
+  pub there : slice_get (map (λ n. n.span) names) place ≡ Some at
+
+-- a path is spelled as one before it: a break at that path
+pub record PathsBreak (paths : List Slice) (rule : PackageRule) (at : Span) : Type 0 where
+  pub rule_is : rule ≡ DuplicateName
+  pub place : ℕ
+  pub again : IsRepeat bytes_eq (map (λ p. p.text) paths) place
+  pub there : slice_get (map (λ p. p.span) paths) place ≡ Some at
+
+-- the attributes in front of an item may not stand together (WIT, Feature Gates): a break at the first of them
+pub record GatesBreak (attributes : List AttributeTree) (rule : PackageRule) (at : Span) : Type 0 where
+  pub rule_is : rule ≡ BadGate
+  pub none : gates_in attributes ≡ None
+  pub first : AttributeTree
+  pub there : slice_get attributes 0 ≡ Some first
+  pub place : first.span ≡ at

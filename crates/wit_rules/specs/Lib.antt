@@ -1,0 +1,6 @@
+pub mod Repeats
+pub mod Gates
+pub mod Breaks
+pub mod Labels
+pub mod Facts
+pub mod View

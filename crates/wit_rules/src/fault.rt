@@ -1,0 +1,86 @@
+//! Why files aren't taken as a package.
+
+ghost use Rattle.std.specs.Prelude.{◌≡◌};
+
+use std::alloc::{AllocError, AllocFailed};
+use thiserror::Error;
+use wit_syntax::{Span, SyntaxFault};
+
+/// The rule that the files of a package break.
+#[derive(Clone, Copy, Debug, PartialEq, Eq, Error)]
+pub enum PackageRule {
+    /// P1: no file of the package has a header.
+    #[error("P1 NoPackageName")]
+    NoPackageName,
+    /// P2: two headers of one package differ.
+    #[error("P2 PackageMismatch")]
+    PackageMismatch,
+    /// P3: two names of one scope have one key, or one path is listed twice on one side of a world.
+    #[error("P3 DuplicateName")]
+    DuplicateName,
+    /// P4: a name of the own package isn't there.
+    #[error("P4 NameNotFound")]
+    NameNotFound,
+    /// P5: a name is of another kind than its place asks, or a foreign name is asked as an interface and as a world.
+    #[error("P5 WrongKind")]
+    WrongKind,
+    /// P6: interfaces by `use`, worlds by `include` or types by definition lead back to themselves.
+    #[error("P6 Cycle")]
+    Cycle,
+    /// P7: the result of a function holds a `borrow`.
+    #[error("P7 BorrowInResult")]
+    BorrowInResult,
+    /// P8: the declared result of a constructor is neither a `result` of its own resource nor a name that directly defines
+    /// one.
+    #[error("P8 BadConstructor")]
+    BadConstructor,
+    /// P9: `own` or `borrow` names no resource.
+    #[error("P9 BadHandle")]
+    BadHandle,
+    /// P10: a variant or an enum has no case.
+    #[error("P10 EmptyCases")]
+    EmptyCases,
+    /// P11: the gates of an item aren't none, one of `since` and `unstable`, or one of these with one `deprecated`.
+    #[error("P11 BadGate")]
+    BadGate,
+}
+
+/// Why files aren't taken as a package.
+#[derive(Clone, Copy, Debug, PartialEq, Eq, Drop, Error)]
+pub enum PackageFault {
+    /// A request for memory was refused.
+    #[error("out of memory")]
+    OutOfMemory,
+    /// A text isn't read, or a version in a tree is none that `semver` reads.
+    #[error("{0}")]
+    Syntax(SyntaxFault),
+    /// The files break a rule.
+    #[error("{rule}")]
+    Broken {
+        /// The rule.
+        rule: PackageRule,
+        /// Where: the name, the type, the result or the first gate that breaks it. Where no file has a header it is empty
+        /// and stands where texts begin.
+        span: Span,
+    },
+}
+
+impl From<AllocError> for PackageFault {
+    ghost use Rattle.wit_rules.specs.declared.fault.PackageFault.TheVariants.{OutOfMemory};
+
+    ghost from_gives = { λ _ e. e ≡ OutOfMemory };
+
+    fn from(_e: AllocError) -> PackageFault {
+        PackageFault::OutOfMemory
+    }
+}
+
+impl<T: Drop> From<AllocFailed<T>> for PackageFault {
+    ghost use Rattle.wit_rules.specs.declared.fault.PackageFault.TheVariants.{OutOfMemory};
+
+    ghost from_gives = { λ _ e. e ≡ OutOfMemory };
+
+    fn from(_e: AllocFailed<T>) -> PackageFault {
+        PackageFault::OutOfMemory
+    }
+}
