@@ -6,28 +6,32 @@ use crate::equality::Types;
 use crate::files::source_row;
 use crate::refusals::refusal_row;
 use crate::spelling::text_of;
+use crate::tokens::TokenRows;
 use crate::trees::{path_row, text_tree, type_row};
 use std::alloc::{AllocError, Global};
 use wit_syntax::SourceMap;
 
 /// What the rows are answered with.
 #[derive(Drop)]
-pub struct Rows {
+pub struct Rows<'a> {
     /// What is asked of them.
     asked: Option<Asked>,
     /// The types that the rows so far have listed.
     types: Types,
     /// The texts that they have put one behind the other.
     sources: SourceMap,
+    /// What rows of tokens, names, docs and places are answered with.
+    tokens: TokenRows<'a>,
 }
 
-impl Rows {
+impl<'a> Rows<'a> {
     /// Before the first row.
-    pub fn new(alloc: Global) -> Rows {
+    pub fn new(alloc: Global) -> Rows<'a> {
         Rows {
             asked: None,
             types: Types::new(alloc),
             sources: SourceMap::new(alloc),
+            tokens: TokenRows::new(alloc),
         }
     }
 
@@ -56,7 +60,15 @@ impl Rows {
     }
 
     /// A row with its answer, where it can be read.
-    pub fn answer(&mut self, alloc: Global, row: &str) -> Result<Option<String>, AllocError> {
+    pub fn answer(&mut self, alloc: Global, row: &'a str) -> Result<Option<String>, AllocError> {
+        match &self.asked {
+            Some(Asked::Tokens(asked)) => self.tokens.answer(alloc, *asked, row),
+            _ => self.answer_of_text(alloc, row),
+        }
+    }
+
+    /// A row of a text with its answer, where it can be read.
+    fn answer_of_text(&mut self, alloc: Global, row: &str) -> Result<Option<String>, AllocError> {
         let Some(asked) = &self.asked else {
             return Ok(None);
         };
@@ -75,7 +87,7 @@ impl Rows {
             Asked::Paths => path_row(alloc, row, &text),
             Asked::Texts => text_tree(alloc, row, &text),
             Asked::Equality => self.types.row(alloc, row, text),
-            Asked::CutsOfFiles(_) | Asked::Files => return Ok(None),
+            Asked::CutsOfFiles(_) | Asked::Files | Asked::Tokens(_) => return Ok(None),
         };
         Ok(Some(answer?))
     }

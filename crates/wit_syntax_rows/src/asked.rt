@@ -3,6 +3,7 @@
 use crate::outcome::Call;
 use crate::refusals::Frame;
 use crate::spelling::text_of;
+use crate::tokens::{TokensAsked, tokens_asked_by};
 use std::alloc::{AllocError, Global};
 
 /// What is asked of the rows behind a line `= ..`.
@@ -31,6 +32,8 @@ pub enum Asked {
     Sources,
     /// `= equal types`: to which types of the rows before it each row's type is equal.
     Equality,
+    /// What `tokens/asked.rt` lists.
+    Tokens(TokensAsked),
 }
 
 /// What the words behind `= ` ask.
@@ -52,6 +55,9 @@ pub fn asked_by(alloc: Global, words: &str) -> Result<Option<Asked>, AllocError>
 fn asked_with_words(alloc: Global, words: &str) -> Result<Option<Asked>, AllocError> {
     if let Some(digits) = words.strip_prefix("cuts of files by ") {
         return Ok(digits.parse().ok().map(Asked::CutsOfFiles));
+    }
+    if let Some(asked) = tokens_asked_by(words) {
+        return Ok(Some(Asked::Tokens(asked)));
     }
     Ok(frame_of(alloc, words)?.map(Asked::Refusal))
 }

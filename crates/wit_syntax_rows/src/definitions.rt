@@ -11,8 +11,7 @@ impl Writer {
     fn typed_id(&mut self, id: &Id, ty: &Type) {
         self.id(id);
         self.words(": ");
-        self.ty(ty);
-        self.end();
+        self.last_ty(ty);
     }
 
     /// Lines for the parameters and for the result.
@@ -30,8 +29,7 @@ impl Writer {
     fn result_line(&mut self, answer: &Option<Type>) {
         if let Some(ty) = answer {
             self.begin("result ");
-            self.ty(ty);
-            self.end();
+            self.last_ty(ty);
         }
     }
 
@@ -50,8 +48,11 @@ impl Writer {
 
     /// A definition of a type.
     pub fn definition(&mut self, definition: &TypeDef) {
-        let name = &definition.name;
-        match &definition.kind {
+        self.kind(&definition.name, &definition.kind);
+    }
+
+    fn kind(&mut self, name: &Id, kind: &TypeDefKind) {
+        match kind {
             TypeDefKind::Alias(ty) => self.alias(name, ty),
             TypeDefKind::Record(fields) => self.record(name, fields),
             TypeDefKind::Flags(flags) => self.flags(name, flags),
@@ -67,8 +68,7 @@ impl Writer {
     }
 
     fn record(&mut self, name: &Id, fields: &[Field]) {
-        self.begin("record ");
-        self.last_id(name);
+        self.named("record ", name);
         self.go_in();
         for field in fields {
             self.field(field);
@@ -83,8 +83,7 @@ impl Writer {
     }
 
     fn flags(&mut self, name: &Id, flags: &[Flag]) {
-        self.begin("flags ");
-        self.last_id(name);
+        self.named("flags ", name);
         self.go_in();
         for flag in flags {
             self.flag(flag);
@@ -94,13 +93,11 @@ impl Writer {
 
     fn flag(&mut self, flag: &Flag) {
         self.docs(&flag.docs);
-        self.begin("flag ");
-        self.last_id(&flag.name);
+        self.named("flag ", &flag.name);
     }
 
     fn enumeration(&mut self, name: &Id, cases: &[EnumCase]) {
-        self.begin("enum ");
-        self.last_id(name);
+        self.named("enum ", name);
         self.go_in();
         for case in cases {
             self.enum_case(case);
@@ -110,13 +107,11 @@ impl Writer {
 
     fn enum_case(&mut self, case: &EnumCase) {
         self.docs(&case.docs);
-        self.begin("case ");
-        self.last_id(&case.name);
+        self.named("case ", &case.name);
     }
 
     fn variant(&mut self, name: &Id, cases: &[Case]) {
-        self.begin("variant ");
-        self.last_id(name);
+        self.named("variant ", name);
         self.go_in();
         for case in cases {
             self.case(case);
@@ -134,8 +129,7 @@ impl Writer {
     }
 
     fn resource(&mut self, name: &Id, members: &[Gated<ResourceFunc>]) {
-        self.begin("resource ");
-        self.last_id(name);
+        self.named("resource ", name);
         self.go_in();
         for member in members {
             self.gates(member);

@@ -2,29 +2,27 @@
 
 use crate::writer::Writer;
 use wit_syntax::{
-    AstItem, ExternKind, FileItem, Gated, Include, IncludeName, Interface, InterfaceItem, Package,
-    PackageHeader, ToplevelUse, Use, World, WorldItem,
+    AstItem, ExternKind, File, FileItem, Gated, Include, IncludeName, Interface, InterfaceItem,
+    Package, PackageHeader, ToplevelUse, Use, World, WorldItem,
 };
 
 impl Writer {
     /// A whole text: the header of its package, and its items.
-    pub fn file(&mut self, package: Option<&PackageHeader>, items: &[Gated<FileItem>]) {
+    pub fn file(&mut self, file: &File) {
         self.go_in();
-        if let Some(header) = package {
-            self.header(header);
-        }
-        for gated in items {
+        self.header(&file.package);
+        for gated in &file.items {
             self.gates(gated);
             self.file_item(&gated.item);
         }
         self.go_out();
     }
 
-    fn header(&mut self, header: &PackageHeader) {
-        self.docs(&header.docs);
-        self.begin("header ");
-        self.package_name(&header.name);
-        self.end();
+    fn header(&mut self, package: &Option<PackageHeader>) {
+        if let Some(header) = package {
+            self.docs(&header.docs);
+            self.line_of_package("header ", &header.name);
+        }
     }
 
     fn file_item(&mut self, item: &FileItem) {
@@ -35,15 +33,9 @@ impl Writer {
     }
 
     fn package(&mut self, package: &Package) {
-        self.begin("package ");
-        self.package_name(&package.name);
-        self.end();
-        self.items(&package.items);
-    }
-
-    fn items(&mut self, items: &[Gated<AstItem>]) {
+        self.line_of_package("package ", &package.name);
         self.go_in();
-        for gated in items {
+        for gated in &package.items {
             self.gates(gated);
             self.item(&gated.item);
         }
@@ -90,9 +82,7 @@ impl Writer {
     }
 
     fn used(&mut self, used: &Use) {
-        self.begin("use ");
-        self.path(&used.from);
-        self.end();
+        self.line_of_path("use ", &used.from);
         self.go_in();
         for name in &used.names {
             self.used_name(name);
@@ -101,8 +91,7 @@ impl Writer {
     }
 
     fn world(&mut self, world: &World) {
-        self.begin("world ");
-        self.last_id(&world.name);
+        self.named("world ", &world.name);
         self.go_in();
         for gated in &world.items {
             self.gates(gated);
@@ -125,18 +114,12 @@ impl Writer {
         match external {
             ExternKind::Func(function) => self.function(words, function),
             ExternKind::Interface(interface) => self.interface(words, interface),
-            ExternKind::Path(path) => {
-                self.begin(words);
-                self.path(path);
-                self.end();
-            }
+            ExternKind::Path(path) => self.line_of_path(words, path),
         }
     }
 
     fn include(&mut self, include: &Include) {
-        self.begin("include ");
-        self.path(&include.from);
-        self.end();
+        self.line_of_path("include ", &include.from);
         self.go_in();
         for name in &include.names {
             self.included_name(name);

@@ -1,8 +1,8 @@
-//! Rows of texts that are read or refused, and the trees of those that are read: each row of the input is written again
-//! with its answer.
+//! Rows of texts that are read or refused, the trees of those that are read, and tokens, names, docs and places: each row
+//! of the input is written again with its answer.
 //!
-//! A line that begins with `= ` says what is asked of the rows behind it, up to the next such line; `asked.rt` lists what
-//! that can be. Lines that begin with `# ` are titles. A text in a row is spelled as `spelling.rt` says.
+//! A line that begins with `= ` says what is asked of the rows behind it, up to the next such line; `asked.rt` and
+//! `tokens/asked.rt` list what that can be. Lines that begin with `# ` are titles. A text in a row is spelled as `spelling.rt` says.
 #![tactic(auto)]
 
 mod answers;
@@ -15,6 +15,7 @@ mod items;
 mod outcome;
 mod refusals;
 mod spelling;
+mod tokens;
 mod trees;
 mod types;
 mod writer;
@@ -43,10 +44,10 @@ fn file_answered(
 }
 
 /// What is to be written for a line.
-fn answered(
+fn answered<'a>(
     rt: &(impl Files + AllocGlobal),
-    rows: &mut Rows,
-    line: &str,
+    rows: &mut Rows<'a>,
+    line: &'a str,
 ) -> Result<String, AllocError> {
     let alloc = rt.alloc();
     if line.is_empty() || line.starts_with("# ") {

@@ -3,31 +3,52 @@
 use crate::outcome::Outcome;
 use crate::writer::Writer;
 use std::alloc::{AllocError, Global};
-use wit_syntax::{Span, SyntaxFault, parse_file, parse_type, parse_use_path};
+use wit_syntax::{File, Span, SyntaxFault, Type, UsePath, parse_file, parse_type, parse_use_path};
 
 /// Where texts begin, besides at 0: their trees are to be the same there, but for where places count from.
 const FAR: u32 = 4_294_900_000;
 
-/// Why a text that begins at `offset` has no tree.
-fn refused(alloc: Global, fault: SyntaxFault, offset: u32) -> Result<String, AllocError> {
-    let outcome = Outcome::of_fault(fault, offset);
-    let code = outcome.code();
-    match outcome.place() {
-        Some(Span { start, end }) => format!(in alloc; "{code} at {start}..{end}\n"),
-        None => format!(in alloc; "{code}\n"),
+impl Writer {
+    /// Why a text has no tree.
+    fn refusal(&mut self, fault: SyntaxFault) {
+        let outcome = Outcome::of_fault(fault, self.offset());
+        self.words(outcome.code());
+        if let Some(Span { start, end }) = outcome.place() {
+            self.range(start, end);
+        }
+        self.end();
+    }
+
+    /// The tree of a text, or why it has none.
+    fn reading(&mut self, read: &Result<File, SyntaxFault>) {
+        match read {
+            Ok(file) => self.file(file),
+            Err(fault) => self.refusal(*fault),
+        }
+    }
+
+    /// The tree of a type, or why it has none.
+    fn reading_of_type(&mut self, read: &Result<Type, SyntaxFault>) {
+        match read {
+            Ok(ty) => self.last_ty(ty),
+            Err(fault) => self.refusal(*fault),
+        }
+    }
+
+    /// The tree of a path, or why it has none.
+    fn reading_of_path(&mut self, read: &Result<UsePath, SyntaxFault>) {
+        match read {
+            Ok(path) => self.last_path(path),
+            Err(fault) => self.refusal(*fault),
+        }
     }
 }
 
 /// The tree of a text that begins at `offset`.
 fn tree_at(alloc: Global, text: &str, offset: u32) -> Result<String, AllocError> {
-    match parse_file(alloc, text, offset) {
-        Ok(file) => {
-            let mut tree = Writer::new(alloc, offset);
-            tree.file(file.package.as_ref(), file.items.as_slice());
-            tree.finish()
-        }
-        Err(fault) => refused(alloc, fault, offset),
-    }
+    let mut tree = Writer::new(alloc, offset);
+    tree.reading(&parse_file(alloc, text, offset));
+    tree.finish()
 }
 
 /// A row, and behind it the tree of its text.
@@ -43,15 +64,9 @@ pub fn text_tree(alloc: Global, row: &str, text: &str) -> Result<String, AllocEr
 
 /// The tree of a type.
 fn type_tree(alloc: Global, text: &str) -> Result<String, AllocError> {
-    match parse_type(alloc, text) {
-        Ok(ty) => {
-            let mut tree = Writer::new(alloc, 0);
-            tree.ty(&ty);
-            tree.end();
-            tree.finish()
-        }
-        Err(fault) => refused(alloc, fault, 0),
-    }
+    let mut tree = Writer::new(alloc, 0);
+    tree.reading_of_type(&parse_type(alloc, text));
+    tree.finish()
 }
 
 /// A row, and behind it the tree of its type.
@@ -62,15 +77,9 @@ pub fn type_row(alloc: Global, row: &str, text: &str) -> Result<String, AllocErr
 
 /// The tree of a path.
 fn path_tree(alloc: Global, text: &str) -> Result<String, AllocError> {
-    match parse_use_path(alloc, text) {
-        Ok(path) => {
-            let mut tree = Writer::new(alloc, 0);
-            tree.path(&path);
-            tree.end();
-            tree.finish()
-        }
-        Err(fault) => refused(alloc, fault, 0),
-    }
+    let mut tree = Writer::new(alloc, 0);
+    tree.reading_of_path(&parse_use_path(alloc, text));
+    tree.finish()
 }
 
 /// A row, and behind it the tree of its path.

@@ -48,6 +48,12 @@ fn has_brackets(ty: &TypeKind) -> bool {
 }
 
 impl Writer {
+    /// A type at the end of a line.
+    pub fn last_ty(&mut self, ty: &Type) {
+        self.ty(ty);
+        self.end();
+    }
+
     /// A type.
     #[cycle(within)]
     pub fn ty(&mut self, ty: &Type) {

@@ -39,6 +39,11 @@ impl Writer {
         Ok(self.out)
     }
 
+    /// Where the text begins.
+    pub fn offset(&self) -> u32 {
+        self.offset
+    }
+
     /// Takes note of whether a part was written.
     fn note(&mut self, written: Result<(), AllocError>) {
         self.refused |= written.is_err();
@@ -75,6 +80,18 @@ impl Writer {
     /// Ends a line.
     pub fn end(&mut self) {
         self.words("\n");
+    }
+
+    /// A line with a name behind words.
+    pub fn named(&mut self, words: &str, name: &Id) {
+        self.begin(words);
+        self.last_id(name);
+    }
+
+    /// Where a text is refused, behind its code.
+    pub fn range(&mut self, start: u32, end: u32) {
+        let written = write!(self.out, " at {start}..{end}");
+        self.note(written);
     }
 
     /// The length of a list behind its type.
@@ -140,6 +157,25 @@ impl Writer {
                 self.at_version(&id.version);
             }
         }
+    }
+
+    /// A path at the end of a line.
+    pub fn last_path(&mut self, path: &UsePath) {
+        self.path(path);
+        self.end();
+    }
+
+    /// A line with a path behind words.
+    pub fn line_of_path(&mut self, words: &str, path: &UsePath) {
+        self.begin(words);
+        self.last_path(path);
+    }
+
+    /// A line with a package's name behind words.
+    pub fn line_of_package(&mut self, words: &str, name: &PackageName) {
+        self.begin(words);
+        self.package_name(name);
+        self.end();
     }
 
     /// Another name behind a name, if there is one, and the end of the line.

@@ -1,10 +1,10 @@
 //! Rows that are one text: its tokens, how many they are, the version at its front, whether it is an identifier.
 
-use crate::faults::fault_text;
-use crate::kinds::word_of;
 use crate::spelling::text_of;
+use crate::tokens::faults::fault_text;
+use crate::tokens::kinds::word_of;
 use std::alloc::{AllocError, Global};
-use wit_tokens::{Span, SpannedToken, SyntaxFault, Token, Tokens, validate_id};
+use wit_syntax::{Span, SpannedToken, SyntaxFault, Token, Tokens, validate_id};
 
 /// What is asked of a text.
 #[derive(Clone, Copy)]

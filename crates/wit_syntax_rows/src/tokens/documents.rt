@@ -2,7 +2,7 @@
 
 use crate::spelling::text_of;
 use std::alloc::{AllocError, Global};
-use wit_tokens::{Comment, Docs, Span};
+use wit_syntax::{Comment, Docs, Span};
 
 /// The comments of a row: texts with ` ~ ` between two of them.
 fn comments_of(alloc: Global, row: &str) -> Result<Option<Vec<String>>, AllocError> {

@@ -1,6 +1,6 @@
 //! The signs and keywords, as they are spelled.
 
-use wit_tokens::Kind;
+use wit_syntax::Kind;
 
 /// The sign or keyword.
 pub fn word_of(kind: Kind) -> &'static str {

@@ -1,20 +1,8 @@
 //! Why a text is refused, in words.
 
+use crate::outcome::code_of;
 use std::alloc::{AllocError, Global};
-use wit_tokens::{Rule, SyntaxFault};
-
-/// The code of a rule.
-fn code_of(rule: Rule) -> &'static str {
-    match rule {
-        Rule::BadCharacter => "S1",
-        Rule::OpenComment => "S2",
-        Rule::BadIdentifier => "S4",
-        Rule::Unexpected => "S3",
-        Rule::BadVersion => "S5",
-        Rule::BadNumber => "S6",
-        Rule::TooDeep => "S7",
-    }
-}
+use wit_syntax::SyntaxFault;
 
 /// The rule that is broken, and where.
 pub fn fault_text(alloc: Global, fault: SyntaxFault) -> Result<String, AllocError> {

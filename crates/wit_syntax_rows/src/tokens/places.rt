@@ -2,7 +2,7 @@
 
 use crate::spelling::text_of;
 use std::alloc::{AllocError, Global};
-use wit_tokens::{SourceFault, SourceMap, Span};
+use wit_syntax::{SourceFault, SourceMap, Span};
 
 /// The answer to a row `push PATH TEXT` or `place START..END`.
 pub fn answer(

@@ -1,10 +1,10 @@
-//! What can be asked of rows.
+//! What can be asked of rows of tokens, names, docs and places.
 
-use crate::texts::Question;
+use crate::tokens::texts::Question;
 
 /// What is asked of the rows behind a line `= ..`.
 #[derive(Clone, Copy)]
-pub enum Asked {
+pub enum TokensAsked {
     /// Something of each row's text.
     Text(Question),
     /// `= keys`: whether the two names of a row `NAME ~ NAME` are too alike for one scope.
@@ -19,13 +19,13 @@ pub enum Asked {
 }
 
 /// What the words behind `= ` ask.
-pub fn asked_by(words: &str) -> Option<Asked> {
+pub fn tokens_asked_by(words: &str) -> Option<TokensAsked> {
     match words {
-        "keys" => Some(Asked::Keys),
-        "values under names" => Some(Asked::Found),
-        "docs" => Some(Asked::Docs),
-        "places" => Some(Asked::Places),
-        _ => Some(Asked::Text(question_by(words)?)),
+        "keys" => Some(TokensAsked::Keys),
+        "values under names" => Some(TokensAsked::Found),
+        "docs" => Some(TokensAsked::Docs),
+        "places" => Some(TokensAsked::Places),
+        _ => Some(TokensAsked::Text(question_by(words)?)),
     }
 }
 

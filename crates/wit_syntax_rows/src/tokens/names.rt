@@ -4,7 +4,7 @@ use crate::spelling::text_of;
 use std::alloc::{AllocError, Global};
 use std::collections::HashMap;
 use std::hash::{DefaultHasher, Hash, Hasher};
-use wit_tokens::NameKey;
+use wit_syntax::NameKey;
 
 fn hash_of(name: &str) -> u64 {
     let mut state = DefaultHasher::new();
