@@ -1,16 +1,17 @@
 #!/bin/sh
 # checks/memory.sh
 #
-# Refuses each request for memory in turn, from the first on, until a run meets no refusal: in the tests of
-# `component_linker_tests` that are made for it (src/memory.rt), which are to pass each time, and in the program, which
-# is to give its whole answer, or `error: out of memory`, status 1 and no answer. It needs a C compiler, cc, for the
-# library that refuses, and the kit's command `rt` where the program or the tests aren't built yet.
+# Refuses each request for memory in turn, from the first on, until a run meets no refusal: in the rows of `linking_rows`
+# that are made for it (src/memory.rt), which are to be answered as ever each time, or not at all where the refused request
+# isn't one of a session; and in the program, which is to give its whole answer, or `error: out of memory`, status 1 and no
+# answer. It needs a C compiler, cc, for the library that refuses, and the kit's command `rt` where the program isn't
+# built yet.
 set -u
 
 top=$(CDPATH='' cd -- "$(dirname -- "$0")/.." && pwd) || exit 2
 crates=$top/crates
 program=$crates/component_linker_program/out/component_linker_program
-tests=$crates/component_linker_tests/out/component_linker_tests_tests
+rows=$crates/linking_rows/out/linking_rows
 example=$top/examples/first
 folder=$(mktemp -d) || exit 2
 trap 'rm -rf "$folder"' EXIT
@@ -30,16 +31,26 @@ refused() {
     [ -e "$folder/note" ]
 }
 
-# check_test NAME
-check_test() {
+# check_row WHAT
+check_row() {
+    printf 'memory %s\n' "$1" >"$folder/row"
+    printf 'memory %s\n  that is all\n' "$1" >"$folder/wanted"
     at=1
-    while refused "$at" "$tests" "$1"; do
-        [ "$status" -eq 0 ] || fail "$1: status $status where request $at is refused: $(cat "$folder/out" "$folder/err")"
+    answered=0
+    while refused "$at" "$rows" <"$folder/row"; do
+        if [ "$status" -eq 0 ]; then
+            cmp -s "$folder/wanted" "$folder/out" || fail "memory $1, where request $at is refused: $(cat "$folder/out")"
+            answered=$((answered + 1))
+        else
+            [ "$status" -eq 1 ] || fail "memory $1: status $status where request $at is refused"
+            [ ! -s "$folder/out" ] || fail "memory $1: a part of the answer where request $at is refused"
+        fi
         at=$((at + 1))
     done
-    [ "$status" -eq 0 ] || fail "$1: status $status where nothing is refused"
-    [ "$at" -gt 1 ] || fail "$1: no request was refused"
-    echo "$1: $((at - 1)) requests, ok"
+    [ "$status" -eq 0 ] || fail "memory $1: status $status where nothing is refused"
+    cmp -s "$folder/wanted" "$folder/out" || fail "memory $1, where nothing is refused: $(cat "$folder/out")"
+    [ "$answered" -gt 0 ] || fail "memory $1: no request of a session was refused"
+    echo "memory $1: $((at - 1)) requests, $answered of them a session's, ok"
 }
 
 # check_program ANSWER WORD..: the answer is a file
@@ -65,10 +76,10 @@ check_program() {
 
 cc -O1 -shared -fPIC -o "$folder/refuse.so" "$top/checks/refuse.c" -ldl || exit 2
 "$top/component_linker" >"$folder/log" || exit 2
-(cd "$crates/component_linker_tests" && rt test -- where_memory_is_refused) >"$folder/log" 2>&1 || fail "$(tail -n 20 "$folder/log")"
+(cd "$crates/linking_rows" && rt run </dev/null) >"$folder/log" 2>&1 || fail "$(tail -n 20 "$folder/log")"
 
-for name in takes_inputs links builds audits; do
-    check_test "memory::${name}_where_memory_is_refused"
+for what in inputs links build audit; do
+    check_row "$what"
 done
 
 printf 'import main $root f lower $root f - - - - -\n' >"$folder/links"

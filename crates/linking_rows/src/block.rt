@@ -5,6 +5,7 @@ use crate::page::Page;
 use crate::question::ask;
 use crate::row::{Row, UNREADABLE, read_row};
 use crate::setup::hand_over;
+use crate::{memory, stops};
 use component_linker::Session;
 use std::alloc::{AllocError, Global};
 
@@ -38,15 +39,24 @@ impl<'r> Desk<'r> {
             Row::Run(words) => write_run(alloc, &self.files, words, page),
             Row::Link(link) => page.made(link.to_text(alloc)),
             Row::Verdict(verdict) => page.made(verdict.to_text(alloc)),
+            Row::Stops(what) => stops::answer(page, what),
+            Row::Memory(what) => memory::answer(page, what),
         }
     }
+}
+
+/// Puts a value behind the others; it is let go where memory is wanting. Written for all sorts of values, since a row costs
+/// much to let go.
+fn push_to<T: Drop>(found: &mut Vec<T>, value: T) -> Result<(), AllocError> {
+    found.push(value)?;
+    Ok(())
 }
 
 /// The rows of lines, in order.
 fn rows_of<'t>(alloc: Global, lines: &'t [String]) -> Result<Vec<Row<'t>>, AllocError> {
     let mut rows = Vec::new(alloc);
     for line in lines {
-        rows.push(read_row(alloc, line)?)?;
+        push_to(&mut rows, read_row(alloc, line)?)?;
     }
     Ok(rows)
 }

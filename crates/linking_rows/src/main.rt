@@ -5,12 +5,15 @@
 
 mod block;
 mod command;
+mod first;
+mod memory;
 mod page;
 mod question;
 mod row;
 mod sample;
 mod setup;
 mod spelling;
+mod stops;
 
 use std::io;
 use std::io::{BufRead, BufReader};

@@ -8,7 +8,8 @@ use std::fmt::Write;
 /// What is printed of a block, as it is written.
 #[derive(Drop)]
 pub struct Page {
-    alloc: Global,
+    /// Where memory is from.
+    pub alloc: Global,
     out: String,
     /// Whether a request for memory was refused; `finish` says so.
     refused: bool,
@@ -53,6 +54,15 @@ impl Page {
         self.words("  ");
         self.words(text);
         self.words("\n");
+    }
+
+    /// A line for what doesn't hold.
+    pub fn holds(&mut self, holds: bool, what: &str) {
+        if !holds {
+            self.words("  ! ");
+            self.words(what);
+            self.words("\n");
+        }
     }
 
     /// A line of an answer, if its text found memory.

@@ -32,6 +32,10 @@ pub enum Row<'t> {
     Link(Box<Link>),
     /// A verdict whose text is asked.
     Verdict(Verdict),
+    /// What is asked of writers that stop.
+    Stops(&'t str),
+    /// What is asked where memory is wanting.
+    Memory(&'t str),
 }
 
 /// The words of a text.
@@ -60,6 +64,8 @@ fn other_row<'t>(alloc: Global, word: &str, rest: &'t str) -> Result<Row<'t>, Ro
         "run" => Ok(Row::Run(words_of(alloc, rest)?)),
         "link" => link_row(alloc, rest),
         "verdict" => verdict_row(alloc, rest),
+        "stops" => Ok(Row::Stops(rest)),
+        "memory" => Ok(Row::Memory(rest)),
         _ => Err(RowFault::Unreadable),
     }
 }

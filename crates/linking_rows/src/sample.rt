@@ -42,9 +42,11 @@ fn owner_of(alloc: Global, word: &str) -> Result<Owner, RowFault> {
     Ok(Owner::Adapter(quoted(alloc, name)?))
 }
 
-/// A link whose texts are absent: its side, owner, kind and encoding.
-fn bare_link(alloc: Global, words: [&str; 4]) -> Result<Link, RowFault> {
-    let [side, owner, kind, encoding] = words;
+/// A link whose texts are absent: its side, owner, kind and encoding among the words of a link.
+fn bare_link(alloc: Global, words: &[&str]) -> Result<Link, RowFault> {
+    let [side, owner, _, _, kind, _, _, _, _, encoding, _, _] = words else {
+        return Err(RowFault::Unreadable);
+    };
     let side = readable(side_named(side))?;
     let kind = readable(kind_named(kind))?;
     let encoding = readable(encoding_named(encoding))?;
@@ -64,9 +66,11 @@ fn bare_link(alloc: Global, words: [&str; 4]) -> Result<Link, RowFault> {
     })
 }
 
-/// Names the core item and what stands for it: its module, name, place and item.
-fn name_ends(alloc: Global, link: &mut Link, words: [&str; 4]) -> Result<(), RowFault> {
-    let [module, name, place, item] = words;
+/// Names the core item and what stands for it: its module, name, place and item among the words of a link.
+fn name_ends(alloc: Global, link: &mut Link, words: &[&str]) -> Result<(), RowFault> {
+    let [_, _, module, name, _, place, item, ..] = words else {
+        return Err(RowFault::Unreadable);
+    };
     link.module = quoted_or_absent(alloc, module)?;
     link.name = quoted_or_absent(alloc, name)?;
     link.place = quoted_or_absent(alloc, place)?;
@@ -74,9 +78,11 @@ fn name_ends(alloc: Global, link: &mut Link, words: [&str; 4]) -> Result<(), Row
     Ok(())
 }
 
-/// Names its options: memory, realloc, post-return and hook.
-fn name_options(alloc: Global, link: &mut Link, words: [&str; 4]) -> Result<(), RowFault> {
-    let [memory, realloc, post_return, hook] = words;
+/// Names its options among the words of a link: memory, realloc, post-return and hook.
+fn name_options(alloc: Global, link: &mut Link, words: &[&str]) -> Result<(), RowFault> {
+    let [.., memory, realloc, _, post_return, hook] = words else {
+        return Err(RowFault::Unreadable);
+    };
     link.memory = quoted_or_absent(alloc, memory)?;
     link.realloc = quoted_or_absent(alloc, realloc)?;
     link.post_return = quoted_or_absent(alloc, post_return)?;
@@ -84,29 +90,17 @@ fn name_options(alloc: Global, link: &mut Link, words: [&str; 4]) -> Result<(), 
     Ok(())
 }
 
+/// Names all of its texts.
+fn name_texts(alloc: Global, link: &mut Link, words: &[&str]) -> Result<(), RowFault> {
+    name_ends(alloc, link, words)?;
+    name_options(alloc, link, words)
+}
+
 /// The link of these words, a field each; an absent one is `-`.
 pub fn link_of(alloc: Global, words: &[&str]) -> Result<Link, RowFault> {
-    let [
-        side,
-        owner,
-        module,
-        name,
-        kind,
-        place,
-        item,
-        memory,
-        realloc,
-        encoding,
-        post_return,
-        hook,
-    ] = words
-    else {
-        return Err(RowFault::Unreadable);
-    };
-    let mut link = bare_link(alloc, [*side, *owner, *kind, *encoding])?;
-    let ends = name_ends(alloc, &mut link, [*module, *name, *place, *item]);
-    let options = name_options(alloc, &mut link, [*memory, *realloc, *post_return, *hook]);
-    ends.and(options).and(Ok(link))
+    let mut link = bare_link(alloc, words)?;
+    // A link costs much to let go: it isn't, behind a `?`.
+    name_texts(alloc, &mut link, words).and(Ok(link))
 }
 
 fn finding_named(word: &str) -> Option<FindingKind> {

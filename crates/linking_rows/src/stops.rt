@@ -1,11 +1,12 @@
 //! Writers that fail, or take nothing, in the middle of what is written.
 
-use crate::first::{IMPORTER, LOWERED, TEXT};
+use crate::first::{FILES, LOWERED};
+use crate::page::Page;
+use crate::row::UNREADABLE;
 use component_linker::{Line, LineFault, emit, read_line, run};
 use std::alloc::Global;
 use std::io;
 use std::io::{ErrorKind, Write};
-use std::process::Abort;
 
 /// What a writer does once it has taken its bytes.
 #[derive(Clone, Copy)]
@@ -82,20 +83,17 @@ fn front(bytes: &[u8], count: usize) -> &[u8] {
 }
 
 /// A writer that ends after so many of the bytes gets those, and isn't called again behind its end.
-fn check_front(rt: &(impl Abort + AllocGlobal), bytes: &[u8], left: usize, way: Way) {
-    let mut out = Stops::after(rt.alloc(), left, way);
+fn check_front(page: &mut Page, bytes: &[u8], left: usize, way: Way) {
+    let mut out = Stops::after(page.alloc, left, way);
     let written = match emit(bytes, &mut out) {
         Ok(()) => bytes.len(),
         Err(fault) => fault.written,
     };
-    assert!(rt;
-        written == left.min(bytes.len()),
-        "wrote {written} of {left}"
-    );
-    assert!(rt; out.held.as_slice() == front(bytes, left), "after {left}");
+    page.holds(written == left.min(bytes.len()), "so many are written");
+    page.holds(out.held.as_slice() == front(bytes, left), "those in front");
     // One that has no room behind the last byte is never asked again.
-    assert!(rt; out.ended == (left < bytes.len()), "after {left}");
-    assert!(rt; !out.again, "it is called again after {left}");
+    page.holds(out.ended == (left < bytes.len()), "it comes to its end");
+    page.holds(!out.again, "it isn't called again");
 }
 
 /// The bytes 0 to 78.
@@ -106,14 +104,22 @@ const COUNTING: &[u8] = &[
     74, 75, 76, 77, 78,
 ];
 
-#[test]
-fn emit_writes_the_front_and_the_whole(rt: HostRuntime) {
-    for bytes in [LOWERED, COUNTING, b""] {
-        for way in WAYS {
-            for left in 0..81usize {
-                check_front(&rt, bytes, left, *way);
-            }
+/// What is emitted, cut short at each byte.
+const EMITTED: &[&[u8]] = &[LOWERED, COUNTING, b""];
+
+/// Emits bytes to writers of all ways, which end after each of their fronts.
+fn check_fronts(page: &mut Page, bytes: &[u8]) {
+    for way in WAYS {
+        for left in 0..81usize {
+            check_front(page, bytes, left, *way);
         }
+    }
+}
+
+/// `emit` writes the front and the whole.
+fn emits(page: &mut Page) {
+    for bytes in EMITTED {
+        check_fronts(page, *bytes);
     }
 }
 
@@ -187,15 +193,6 @@ const ANSWERED: &[Answered] = &[
     ),
 ];
 
-/// The files of the first row.
-fn files_of_first() -> [(&'static str, &'static [u8]); 3] {
-    [
-        ("a.wit", TEXT.as_bytes()),
-        ("m.wasm", IMPORTER),
-        ("c.wasm", LOWERED),
-    ]
-}
-
 /// Runs a line over the files of the first row, and answers the exit status.
 fn run_first(
     alloc: Global,
@@ -203,35 +200,32 @@ fn run_first(
     out: &mut Stops,
     err: &mut Stops,
 ) -> u8 {
-    run(alloc, line, &files_of_first(), out, err)
+    run(alloc, line, FILES, out, err)
 }
 
 /// Where standard output takes a part of the answer, the file is named that can't be written.
-fn check_answer(rt: &(impl Abort + AllocGlobal), row: Answered, left: usize, way: Way) {
+fn check_answer(page: &mut Page, row: Answered, left: usize, way: Way) {
     let (words, answer, unwritten) = row;
     let (status, said): (u8, &[u8]) = if left < answer.len() {
         (3, unwritten)
     } else {
         (0, b"")
     };
-    let line = read_line(rt.alloc(), words);
-    let mut out = Stops::after(rt.alloc(), left, way);
-    let mut err = Stops::after(rt.alloc(), 1000, way);
-    let found = run_first(rt.alloc(), &line, &mut out, &mut err);
-    assert!(rt; found == status, "{words:?} after {left}");
-    assert!(rt; err.held.as_slice() == said, "{words:?} after {left}");
-    assert!(rt;
-        out.held.as_slice() == front(answer, left),
-        "{words:?} after {left}"
-    );
+    let line = read_line(page.alloc, words);
+    let mut out = Stops::after(page.alloc, left, way);
+    let mut err = Stops::after(page.alloc, 1000, way);
+    let found = run_first(page.alloc, &line, &mut out, &mut err);
+    page.holds(found == status, "the status");
+    page.holds(err.held.as_slice() == said, "what is said");
+    page.holds(out.held.as_slice() == front(answer, left), "the answer");
 }
 
-#[test]
-fn answers_as_far_as_they_are_taken(rt: HostRuntime) {
+/// Answers come as far as they are taken.
+fn answers(page: &mut Page) {
     for row in ANSWERED {
         for way in WAYS {
             for left in 0..row.1.len().saturating_add(1) {
-                check_answer(&rt, *row, left, *way);
+                check_answer(page, *row, left, *way);
             }
         }
     }
@@ -277,50 +271,73 @@ const REFUSED: &[Refused] = &[
     ),
 ];
 
-/// Standard error gets what is said as far as it takes it, and the status stays.
-fn check_refusal(
-    rt: &(impl Abort + AllocGlobal),
-    line: &Result<Line, LineFault>,
-    said: &[u8],
+/// A refusal: the line, what is said, and the status.
+#[derive(Clone, Copy)]
+struct Refusal<'l> {
+    line: &'l Result<Line, LineFault>,
+    said: &'l [u8],
     status: u8,
-    left: usize,
-    way: Way,
-) {
-    let mut out = Stops::after(rt.alloc(), 0, way);
-    let mut err = Stops::after(rt.alloc(), left, way);
-    let found = run_first(rt.alloc(), line, &mut out, &mut err);
-    assert!(rt; found == status, "status {found} after {left}");
-    assert!(rt; out.held.is_empty(), "after {left}");
-    assert!(rt;
-        err.held.as_slice() == front(said, left),
-        "status {status} after {left}"
-    );
-    assert!(rt; !err.again, "status {status} after {left}");
 }
 
-#[test]
-fn refusals_as_far_as_they_are_taken(rt: HostRuntime) {
+/// Standard error gets what is said as far as it takes it, and the status stays.
+fn check_refusal(page: &mut Page, refusal: &Refusal<'_>, left: usize, way: Way) {
+    let mut out = Stops::after(page.alloc, 0, way);
+    let mut err = Stops::after(page.alloc, left, way);
+    let found = run_first(page.alloc, refusal.line, &mut out, &mut err);
+    page.holds(found == refusal.status, "the status");
+    page.holds(out.held.is_empty(), "no answer");
+    page.holds(
+        err.held.as_slice() == front(refusal.said, left),
+        "what is said",
+    );
+    page.holds(!err.again, "it isn't called again");
+}
+
+/// Refusals come as far as they are taken.
+fn refusals(page: &mut Page) {
     for (words, said, status) in REFUSED {
-        let line = read_line(rt.alloc(), words);
+        let line = read_line(page.alloc, words);
+        let refusal = Refusal {
+            line: &line,
+            said,
+            status: *status,
+        };
         for way in WAYS {
             for left in 0..32usize {
-                check_refusal(&rt, &line, said, *status, left, *way);
+                check_refusal(page, &refusal, left, *way);
             }
         }
     }
 }
 
-#[test]
-fn what_clap_says_as_far_as_it_is_taken(rt: HostRuntime) {
-    let line = read_line(rt.alloc(), &["build", "text=a.wit"]);
+/// What clap says comes as far as it is taken.
+fn clap(page: &mut Page) {
+    let line = read_line(page.alloc, &["build", "text=a.wit"]);
     let said: &[u8] = match &line {
         Err(LineFault::Clap(text)) => text.as_str().as_bytes(),
         _ => b"",
     };
-    assert!(rt; !said.is_empty(), "clap took the words");
+    page.holds(!said.is_empty(), "clap refuses the words");
+    let refusal = Refusal {
+        line: &line,
+        said,
+        status: 2,
+    };
     for way in WAYS {
         for left in [0, 1, 7, said.len() / 2, said.len()] {
-            check_refusal(&rt, &line, said, 2, left, *way);
+            check_refusal(page, &refusal, left, *way);
         }
     }
+}
+
+/// The answer to a row about writers that stop: a line for each thing that doesn't hold.
+pub fn answer(page: &mut Page, what: &str) {
+    match what {
+        "emit" => emits(page),
+        "answers" => answers(page),
+        "refusals" => refusals(page),
+        "clap" => clap(page),
+        _ => return page.words(UNREADABLE),
+    }
+    page.line("that is all");
 }

@@ -2,6 +2,13 @@
 
 pub const TEXT: &str = "package a:b; world w { import f: func(); }";
 
+/// The files of the row, each by its path.
+pub const FILES: &[(&str, &[u8])] = &[
+    ("a.wit", b"package a:b; world w { import f: func(); }"),
+    ("m.wasm", IMPORTER),
+    ("c.wasm", LOWERED),
+];
+
 /// Imports `$root` `f` of type () to ().
 pub const IMPORTER: &[u8] = &[
     0x00, 0x61, 0x73, 0x6d, 0x01, 0x00, 0x00, 0x00, 0x01, 0x04, 0x01, 0x60, 0x00, 0x00, 0x02, 0x0b,
