@@ -11,7 +11,7 @@ use Rattle.wit_resolve.specs.declared.world.Function.{Function}
 use Rattle.component_audit.specs.declared.spaces.ImportEntry.{ImportEntry as Imported}
 use Rattle.component_audit.specs.SpacesView.{import_entry}
 use Rattle.wit_resolve.specs.World.{FunctionItem, function_item}
-use Rattle.component_audit.specs.FirstPlaces.{place_of}
+use Rattle.name_places.specs.FirstPlaces.{place_of}
 use Rattle.wit_component.specs.Linking.{Linking}
 use Rattle.wit_component.specs.Table.{is_needed, needed}
 use Rattle.wit_component.specs.Meaning.{Spaces, CoreFunction, ImportEntry}

@@ -1,8 +1,8 @@
 -- First places of names.
-use Rattle.std.proofs.Common.{◌≡◌, ℕ, zero, suc, List, [], ◌∷◌, ◌++◌, length, drop, ◌<◌, ◌≤◌, arith, length-drop, Bool, true, false, cond, Option, Some, None, is_some, refl, sym, ap, ◌∙◌, inl, inr}
+use Rattle.std.proofs.Common.{◌≡◌, ℕ, zero, suc, List, [], ◌∷◌, length, drop, ◌<◌, ◌≤◌, arith, length-drop, false, Option, Some, None, refl, sym, ap, ◌∙◌, inl, inr}
 use Rattle.std.specs.Prelude.{map, option_map, option_and_then, slice_get, bytes_eq}
 use Rattle.std.proofs.lemmas.Bool.{cases_Bool}
-use Rattle.component_audit.specs.FirstPlaces.{place_of}
+use Rattle.name_places.specs.FirstPlaces.{place_of}
 use Rattle.std.proofs.lemmas.List.{drop_all}
 use Rattle.wasm_types.specs.declared.entries.Import.{Import}
 use Rattle.wasm_types.specs.declared.entries.Export.{Export}
@@ -15,79 +15,6 @@ use Rattle.known_definitions.specs.declared.definition.InlineExport.{InlineExpor
 use Rattle.known_definitions.specs.Definition.{argument_value, inline_export_value}
 use Rattle.wit_component.specs.Meaning.{CoreFunction, CoreEntry, Spaces, exported, item_at, entry_named, argument_named, exports_of, inline_entries, all_match}
 use Rattle.component_audit.specs.SpacesView.{core_entries, entry_item, argument_item}
-use Rattle.wit_component.proofs.Lists.{bytes_eq_is, bytes_eq_refl}
-
--- the first, or else the second
-abbrev or_else : Option ℕ → Option ℕ → Option ℕ
-or_else None b = b
-or_else (Some a) b = Some a
-
-or_none : (a : Option ℕ) → or_else a None ≡ a
-or_none None = refl
-or_none (Some a) = refl
-
-or_some : (a b : Option ℕ) → is_some a ≡ true → or_else a b ≡ a
-or_some None b h = cc
-or_some (Some a) b h = refl
-
-one_later : (a : Option ℕ) (b : Bool) (k : ℕ) → option_map suc (or_else a (cond b (Some k) None)) ≡ or_else (option_map suc a) (cond b (Some (suc k)) None)
-one_later None true k = refl
-one_later None false k = refl
-one_later (Some a) b k = refl
-
-place_push : (name : List ℕ) (ns : List (List ℕ)) (n : List ℕ) → place_of name (ns ++ n ∷ []) ≡ or_else (place_of name ns) (cond (bytes_eq name n) (Some (length ns)) None)
-place_push name [] n = refl
-place_push name (m ∷ ns) n = elim (cases_Bool (bytes_eq name m)) [
-  | inl t ↦ rw t refl
-  | inr t ↦ rw t (ap (option_map suc) (place_push name ns n) ∙ one_later (place_of name ns) (bytes_eq name n) (length ns))
-]
-
--- names are equal either way round
-apart : (a b : List ℕ) → bytes_eq a b ≡ false → bytes_eq b a ≡ false
-apart a b f = elim (cases_Bool (bytes_eq b a)) [
-  | inl t ↦ let bad : bytes_eq a b ≡ true = rw (bytes_eq_is b a t) (bytes_eq_refl a) in cc
-  | inr t ↦ t
-]
-
-is_none : (a : Option ℕ) → is_some a ≡ false → a ≡ None
-is_none None h = refl
-is_none (Some a) h = cc
-
-module _ (ns : List (List ℕ)) (n : List ℕ) (old : List ℕ → Option ℕ) (right : (name : List ℕ) → old name ≡ place_of name ns) where
-  -- a name that is there keeps its place
-  pub place_of_known : is_some (old n) ≡ true → (name : List ℕ) → old name ≡ place_of name (ns ++ n ∷ [])
-  place_of_known there name = elim (cases_Bool (bytes_eq name n)) [
-    | inl t ↦
-        let known : is_some (place_of name ns) ≡ true = ap is_some (sym (right name)) ∙ ap (λ (x : List ℕ). is_some (old x)) (bytes_eq_is name n t) ∙ there in
-        right name ∙ sym (place_push name ns n ∙ or_some (place_of name ns) (cond (bytes_eq name n) (Some (length ns)) None) known)
-    | inr t ↦
-        let same : or_else (place_of name ns) (cond (bytes_eq name n) (Some (length ns)) None) ≡ place_of name ns = rw t (or_none (place_of name ns)) in
-        right name ∙ sym (place_push name ns n ∙ same)
-  ]
-
-  -- a name that is new is there at the end
-  pub place_of_new : is_some (old n) ≡ false → (new : List ℕ → Option ℕ) → ((name : List ℕ) → new name ≡ cond (bytes_eq n name) (Some (length ns)) (old name)) → (name : List ℕ) → new name ≡ place_of name (ns ++ n ∷ [])
-  place_of_new absent new update name = elim (cases_Bool (bytes_eq n name)) [
-    | inl t ↦
-        let same : n ≡ name = bytes_eq_is n name t in
-        let none : place_of name ns ≡ None = sym (right name) ∙ ap old (sym same) ∙ is_none (old n) absent in
-        let here : bytes_eq name n ≡ true = ap (λ (x : List ℕ). bytes_eq name x) same ∙ bytes_eq_refl name in
-        let last : or_else (place_of name ns) (cond (bytes_eq name n) (Some (length ns)) None) ≡ Some (length ns) = rw (none, here) refl in
-        let value : cond (bytes_eq n name) (Some (length ns)) (old name) ≡ Some (length ns) = rw t refl in
-        update name ∙ value ∙ sym (place_push name ns n ∙ last)
-    | inr t ↦
-        let other : or_else (place_of name ns) (cond (bytes_eq name n) (Some (length ns)) None) ≡ place_of name ns = rw (apart n name t) (or_none (place_of name ns)) in
-        let value : cond (bytes_eq n name) (Some (length ns)) (old name) ≡ old name = rw t refl in
-        update name ∙ value ∙ right name ∙ sym (place_push name ns n ∙ other)
-  ]
-
-pub map_push : {X Y : Type 0} (f : X → Y) (xs : List X) (x : X) → map f (xs ++ x ∷ []) ≡ map f xs ++ f x ∷ []
-map_push f [] x = refl
-map_push f (y ∷ ys) x = rw (map_push f ys x) refl
-
-pub length_map : {X Y : Type 0} (f : X → Y) (xs : List X) → length (map f xs) ≡ length xs
-length_map f [] = refl
-length_map f (x ∷ xs) = ap suc (length_map f xs)
 
 -- ---- looking a name up by its first place
 

@@ -16,7 +16,7 @@ use Rattle.wit_resolve.specs.World.{FunctionItem}
 use Rattle.wit_component.specs.Linking.{CoreExport, Linking}
 use Rattle.wit_component.specs.Cause.{IsLinkCause, IsLinkable}
 use Rattle.wit_component.specs.Table.{ExportLink}
-use Rattle.component_audit.specs.FirstPlaces.{place_of}
+use Rattle.name_places.specs.FirstPlaces.{place_of}
 use Rattle.wit_component.specs.Meaning.{Spaces, CoreEnd, lowered, exported, elsewhere, FunctionEnd, imported, lifted, aside, CoreFunction, ComponentFunction, ImportEntry, meaning, same_type}
 use Rattle.wit_component.specs.Right.{IsIn, listed, ModulesRight, ImportsRight, ExportsRight, LinksRight, MeetsAll}
 

@@ -1,4 +1,3 @@
-pub mod FirstPlaces
 pub mod SpacesView
 pub mod WalkView
 pub mod Judged

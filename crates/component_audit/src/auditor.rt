@@ -22,7 +22,6 @@ ghost use Rattle.component_audit.specs.SpacesView as seen;
 ghost use Rattle.wit_component.specs.View as view;
 ghost use Rattle.wit_resolve.specs.World.{FunctionItem, function_item, param_item, world_fits};
 
-use crate::first_places::FirstPlaces;
 use crate::spaces::{
     ComponentFunction, CoreEnd, CoreFunction, ExportEntry, FunctionEnd, Given, ImportEntry, Spaces,
     same_result,
@@ -32,6 +31,7 @@ use crate::walk::{Walk, is_of_type};
 use binary_grammar::ReadError;
 use component_sections::read_definitions;
 use known_definitions::{FunctionType, KnownDefinition, Parameter, known_definitions};
+use name_places::FirstPlaces;
 use std::alloc::{AllocError, Global};
 use wasm_format::{Export, Import};
 use wit_component::{Fault, Linking, Table, needed_functions, references, table_of};

@@ -2,7 +2,6 @@
 #![tactic(auto)]
 
 mod auditor;
-mod first_places;
 mod spaces;
 mod verdict;
 mod walk;

@@ -9,8 +9,8 @@ ghost use Rattle.wit_component.specs.Linking.{MainModule};
 ghost use Rattle.wit_component.specs.Meaning as meant;
 ghost use Rattle.component_audit.specs.SpacesView as view;
 
-use crate::first_places::FirstPlaces;
 use known_definitions::{FunctionType, Parameter};
+use name_places::FirstPlaces;
 use std::alloc::Global;
 use wasm_format::{FuncType, ValType};
 use wit_component::{flat_value, is_flat_result};

@@ -9,13 +9,13 @@ ghost use Rattle.wit_component.specs.Meaning as meant;
 ghost use Rattle.component_audit.specs.SpacesView as view;
 ghost use Rattle.component_audit.specs.SpacesView.{entry_item, argument_item};
 
-use crate::first_places::FirstPlaces;
 use crate::spaces::{
     ComponentFunction, CoreEnd, CoreFunction, CoreInstance, CoreType, Entries, ExportEntry,
     FunctionEnd, Given, ImportEntry, ModuleEntry, Spaces, TypeEntry, core_at, function_at, lifting,
     lowering, same_type,
 };
 use known_definitions::{Argument, FunctionType, InlineExport, KnownDefinition, KnownKind};
+use name_places::FirstPlaces;
 use std::alloc::{AllocError, Global};
 use wasm_format::Import;
 use wit_component::{Fault, Linking};

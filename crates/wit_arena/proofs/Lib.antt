@@ -3,4 +3,7 @@ pub mod Shapes
 pub mod Arenas
 pub mod Tables
 pub mod Rows
-pub mod TypeViews
+pub mod Unfolding
+pub mod Growing
+pub mod Meanings
+pub mod OneMeaning

@@ -32,10 +32,6 @@ module _ {X : Type 0} where
       let r = get_split b i d h in
       (x ∷ r.0, r.1, ap (λ (ys : List X). x ∷ ys) r.2, (let l : length r.0 ≡ i = r.3 in omega arith))
 
-  pub append_nil : (xs : List X) → xs ++ [] ≡ xs
-  append_nil [] = refl
-  append_nil (x ∷ xs) = ap (λ (ys : List X). x ∷ ys) (append_nil xs)
-
 module _ {X : Type 0} where
   pub has_none : (x : X) → Has [] x → ⊥
   has_none x (k, e) = absurd cc
@@ -66,7 +62,3 @@ pub map_has : {X Y : Type 0} (f : X → Y) (xs : List X) (y : Y) → Has (map f 
 map_has {X} {Y} f [] y h = absurd (has_none y h)
 map_has {X} {Y} f (z ∷ xs) y (zero, e) = (z, has_here z xs, sym (same_Some (f z) y e))
 map_has {X} {Y} f (z ∷ xs) y (suc k, e) = (let r = map_has f xs y (k, e) in (r.0, has_later z xs r.0 r.1, r.2))
-
-pub map_push : {X Y : Type 0} (f : X → Y) (xs : List X) (x : X) → map f (xs ++ x ∷ []) ≡ map f xs ++ f x ∷ []
-map_push f [] x = refl
-map_push f (y ∷ ys) x = rw (map_push f ys x) refl

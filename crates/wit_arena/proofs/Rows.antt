@@ -1,17 +1,18 @@
 -- Parts that are brought into an arena one by one.
-use Rattle.std.proofs.Common.{◌≡◌, ℕ, ◌<◌, ◌≤◌, ◌+◌, zero, suc, List, [], ◌∷◌, ◌++◌, length, take, drop, get_or, map, Option, ap, sym, subst, ◌∙◌, refl, arith, add-one, append_assoc}
-use Rattle.std.proofs.lemmas.List.{drop_more}
+use Rattle.std.proofs.Common.{◌≡◌, ℕ, ◌<◌, ◌≤◌, ◌+◌, zero, suc, List, [], ◌∷◌, ◌++◌, length, take, drop, get_or, map, Option, ap, sym, subst, ◌∙◌, refl, arith, append_assoc}
+use Rattle.std.proofs.lemmas.List.{drop_more, drop_all, append-nil, map_more, map_push}
 use Rattle.wit_types.specs.declared.kind.«Type».{«Type» as Ref}
 use Rattle.wit_types.specs.declared.interface.TypeDef.{TypeDef}
 use Rattle.wit_productions.specs.declared.types.«Type».{«Type» as Written}
-use Rattle.wit_productions.specs.TypeTree.{TypeOption, row}
+use Rattle.wit_productions.specs.TypeTree.{TypeOption, row, no_type}
 use Rattle.wit_productions.specs.TypeView.{type_tree}
-use Rattle.wit_arena.specs.Tree.{Name}
+use Rattle.wit_words.specs.Slice.{Slice}
+use Rattle.wit_scopes.specs.TypeNames.{names_in_part, names_in_parts, names_in_row}
+use Rattle.wit_scopes.specs.TypeView.{type_part}
 use Rattle.wit_arena.specs.Meaning.{Has, parts}
 use Rattle.wit_arena.specs.Table.{Entries}
-use Rattle.wit_arena.specs.Lower.{AreThere, names_in_part, names_in_parts, names_in_row, LowersPart, LowersParts, lowers_none, lowers_more}
-use Rattle.wit_arena.specs.View.{type_part}
-use Rattle.wit_arena.proofs.Lists.{has_left, has_right, append_nil}
+use Rattle.wit_arena.specs.Lower.{AreThere, LowersPart, LowersParts, lowers_nothing, lowers_none, lowers_more}
+use Rattle.wit_arena.proofs.Lists.{has_none, has_left, has_right}
 
 pub row_parts : (ts : List Written) → parts (row (map type_tree ts)) ≡ map type_part ts
 row_parts [] = refl
@@ -19,7 +20,7 @@ row_parts (t ∷ ts) = ap (λ (ps : List TypeOption). type_part t ∷ ps) (row_p
 
 pub row_names : (ts : List Written) → names_in_row (row (map type_tree ts)) ≡ names_in_parts (map type_part ts)
 row_names [] = refl
-row_names (t ∷ ts) = ap (λ (ns : List Name). names_in_part (type_part t) ++ ns) (row_names ts)
+row_names (t ∷ ts) = ap (λ (ns : List Slice). names_in_part (type_part t) ++ ns) (row_names ts)
 
 -- part gives what of each element is a part
 module _ {X : Type 0} (part : X → TypeOption) where
@@ -42,29 +43,30 @@ module _ {X : Type 0} (part : X → TypeOption) where
       subst (λ (all : List (Option Ref)). LowersParts table start (map part xs) c all) (sym (append_assoc found (r ∷ []) rest))
       (h c (r ∷ rest) (subst (λ (ps : List TypeOption). LowersParts table now ps c (r ∷ rest)) (sym (more xs k x l e)) (lowers_more now new c (part x) (map part (drop (k + 1) xs)) r rest low left)))
 
-  past : (xs : List X) (k : ℕ) → length xs ≤ k → drop k xs ≡ []
-  past [] zero l = refl
-  past [] (suc k) l = refl
-  past (x ∷ xs) zero l = absurd (omega arith)
-  past (x ∷ xs) (suc k) l = past xs k (omega arith)
-
   pub ends : (table : Entries) (start : List TypeDef) (xs : List X) (now : List TypeDef) (found : List (Option Ref)) (k : ℕ) → length xs ≤ k
       → GoesOn table start xs now found k → LowersParts table start (map part xs) now found
   ends table start xs now found k l h =
-      subst (λ (all : List (Option Ref)). LowersParts table start (map part xs) now all) (append_nil found)
-      (h now [] (subst (λ (left : List X). LowersParts table now (map part left) now []) (sym (past xs k l)) (lowers_none now)))
+      subst (λ (all : List (Option Ref)). LowersParts table start (map part xs) now all) (append-nil found)
+      (h now [] (subst (λ (left : List X). LowersParts table now (map part left) now []) (sym (drop_all k xs l)) (lowers_none now)))
 
-pub take_all : {X : Type 0} (xs : List X) (k : ℕ) → length xs ≤ k → take k xs ≡ xs
-take_all [] zero l = refl
-take_all [] (suc k) l = refl
-take_all (x ∷ xs) zero l = absurd (omega arith)
-take_all (x ∷ xs) (suc k) l = ap (λ (ys : List _). x ∷ ys) (take_all xs k (omega arith))
+-- what is said of each element, one more
+pub labels_more : {X Y L : Type 0} (f : Y → L) (g : X → L) (found : List Y) (y : Y) (xs : List X) (k : ℕ) (x : X) → k < length xs → x ≡ get_or xs k x
+    → map f found ≡ map g (take k xs) → f y ≡ g x → map f (found ++ y ∷ []) ≡ map g (take (k + 1) xs)
+labels_more {X} {Y} {L} f g found y xs k x l e so_far same =
+    map_push f found y
+    ∙ ap (λ (ls : List L). ls ++ f y ∷ []) so_far
+    ∙ ap (λ (z : L). map g (take k xs) ++ z ∷ []) (same ∙ ap g e)
+    ∙ sym (map_more g xs k x l)
 
-take_next : {X : Type 0} (xs : List X) (k : ℕ) (x : X) → k < length xs → x ≡ get_or xs k x → take (suc k) xs ≡ take k xs ++ x ∷ []
-take_next {X} [] k x l e = absurd (omega arith)
-take_next {X} (y ∷ xs) zero x l e = ap (λ (z : X). z ∷ []) (sym e)
-take_next {X} (y ∷ xs) (suc k) x l e = ap (λ (ys : List X). y ∷ ys) (take_next xs k x (omega arith) e)
+-- parts without types bring nothing in
+pub no_types_in : {X : Type 0} (table : Entries) (xs : List X) (a b : List TypeDef) (rs : List (Option Ref)) → LowersParts table a (map (λ x. no_type) xs) b rs → b ≡ a
+no_types_in table [] a b rs (lowers_none a2) = refl
+no_types_in table (x ∷ xs) a b rs (lowers_more a2 b2 c e es r rs2 low more) = no_types_in table xs b2 c rs2 more ∙ nothing_in table a2 b2 r low
+  where
+    nothing_in : (table : Entries) (a b : List TypeDef) (r : Option Ref) → LowersPart table a no_type b r → b ≡ a
+    nothing_in table a b r (lowers_nothing a2) = refl
 
--- the first elements of a list, one more
-pub take_one_more : {X : Type 0} (xs : List X) (k : ℕ) (x : X) → k < length xs → x ≡ get_or xs k x → take (k + 1) xs ≡ take k xs ++ x ∷ []
-take_one_more {X} xs k x l e = subst (λ (n : ℕ). take n xs ≡ take k xs ++ x ∷ []) (sym (add-one k)) (take_next xs k x l e)
+-- no names stand in parts without types
+pub none_there : {X : Type 0} (table : Entries) (xs : List X) → AreThere table (names_in_parts (map (λ x. no_type) xs))
+none_there table [] n has = absurd (has_none n has)
+none_there table (x ∷ xs) n has = none_there table xs n has

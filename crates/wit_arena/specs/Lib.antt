@@ -3,6 +3,8 @@ pub mod Meaning
 pub mod Shape
 pub mod Arena
 pub mod Table
-pub mod View
 pub mod Lower
+pub mod Docs
+pub mod LowerKind
 pub mod Unfold
+pub mod Standing

@@ -1,5 +1,5 @@
 -- One way to bring a type into an arena (WIT, Types).
-use Rattle.std.specs.Prelude.{◌≡◌, ℕ, List, [], ◌∷◌, ◌++◌, Option, Some, None, map}
+use Rattle.std.specs.Prelude.{◌≡◌, ℕ, List, [], ◌∷◌, Option, Some, None, map}
 use Rattle.wit_words.specs.declared.source_map.Span.{Span}
 use Rattle.wit_words.specs.Slice.{Slice}
 use Rattle.wit_types.specs.declared.kind.«Type».{«Type» as Ref}
@@ -8,7 +8,6 @@ use Rattle.wit_types.specs.declared.kind.Handle.TheVariants as handle
 use Rattle.wit_types.specs.declared.interface.TypeDef.{TypeDef}
 use Rattle.wit_productions.specs.TypeTree as written
 use Rattle.wit_productions.specs.TypeTree.{TypeTree, TypeShape, TypeRow, TypeOption, standing}
-use Rattle.wit_arena.specs.Tree.{Name}
 use Rattle.wit_arena.specs.Meaning.{Has, parts}
 use Rattle.wit_arena.specs.Table.{Entries}
 use Rattle.wit_arena.specs.Shape as shape
@@ -69,51 +68,6 @@ IsComposed (written.borrow x) = Unit {0}
 IsComposed (written.future t) = Unit {0}
 IsComposed (written.stream t) = Unit {0}
 
--- ---- the names that stand in types
-
-abbrev mutual
-  pub names_in : TypeTree → List Name
-  names_in (standing s sh) = names_in_shape sh
-
-  pub names_in_shape : TypeShape → List Name
-  names_in_shape written.bool = []
-  names_in_shape written.u8 = []
-  names_in_shape written.u16 = []
-  names_in_shape written.u32 = []
-  names_in_shape written.u64 = []
-  names_in_shape written.s8 = []
-  names_in_shape written.s16 = []
-  names_in_shape written.s32 = []
-  names_in_shape written.s64 = []
-  names_in_shape written.f32 = []
-  names_in_shape written.f64 = []
-  names_in_shape written.char = []
-  names_in_shape written.string = []
-  names_in_shape written.error_context = []
-  names_in_shape (written.named x) = x.text ∷ []
-  names_in_shape (written.list t) = names_in t
-  names_in_shape (written.fixed_length_list t n) = names_in t
-  names_in_shape (written.option t) = names_in t
-  names_in_shape (written.tuple ts) = names_in_row ts
-  names_in_shape (written.result ok err) = names_in_part ok ++ names_in_part err
-  names_in_shape (written.own x) = x.text ∷ []
-  names_in_shape (written.borrow x) = x.text ∷ []
-  names_in_shape (written.future t) = names_in_part t
-  names_in_shape (written.stream t) = names_in_part t
-
-  pub names_in_part : TypeOption → List Name
-  names_in_part written.no_type = []
-  names_in_part (written.a_type t) = names_in t
-
-  pub names_in_row : TypeRow → List Name
-  names_in_row written.no_types = []
-  names_in_row (written.types t ts) = names_in t ++ names_in_row ts
-
--- in parts in order
-abbrev pub names_in_parts : List TypeOption → List Name
-names_in_parts [] = []
-names_in_parts (t ∷ ts) = names_in_part t ++ names_in_parts ts
-
 abbrev pub IsResult : TypeShape → Type 0
 IsResult (written.result ok err) = Unit {0}
 IsResult _ = ⊥
@@ -124,8 +78,8 @@ err_part (written.result ok err) = err
 err_part _ = written.no_type
 
 -- each of the names stands in the table
-abbrev pub AreThere : Entries → List Name → Type 0
-AreThere table names = (x : Name) → Has names x → (i : ℕ) × Has table (x, i)
+abbrev pub AreThere : Entries → List Slice → Type 0
+AreThere table names = (x : Slice) → Has names x → (i : ℕ) × Has table (x.text, i)
 
 -- ---- types
 

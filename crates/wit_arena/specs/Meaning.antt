@@ -8,6 +8,7 @@ use Rattle.wit_items.specs.ItemTree as item
 use Rattle.wit_items.specs.ItemTree.{FieldTree, LabelTree, CaseTree, TypeDefKindTree, GatedTree, ResourceFuncTree}
 use Rattle.wit_syntax.specs.Ast.{PackageNameTree}
 use Rattle.wit_scopes.specs.Paths.{own, foreign}
+use Rattle.wit_scopes.specs.TypeNames.{field_parts, case_parts}
 use Rattle.wit_scopes.specs.Members.{MemberKind, MemberTree, used, defined}
 use Rattle.wit_scopes.specs.Scopes as scope
 use Rattle.wit_scopes.specs.Scopes.{ItemScope, InterfaceScope, WorldScope, ListedTree, WorldMemberTree}
@@ -60,12 +61,6 @@ primitive_of (written.stream t) = None
 abbrev pub parts : TypeRow → List TypeOption
 parts written.no_types = []
 parts (written.types t ts) = written.a_type t ∷ parts ts
-
-abbrev pub field_parts : List FieldTree → List TypeOption
-field_parts fs = map (λ f. written.a_type f.ty) fs
-
-abbrev pub case_parts : List CaseTree → List TypeOption
-case_parts cs = map (λ c. written.opt c.ty) cs
 
 -- a type that is a name alone
 abbrev pub bare_name : TypeTree → Option Slice

@@ -1,18 +1,20 @@
 //! Types as they are written, brought into an arena.
 
 ghost use Rattle.std.specs.Prelude.{◌≡◌, ◌∷◌, ◌++◌, [], Some, map, IfOk};
+ghost use Rattle.wit_productions.specs.NameView.{id};
 ghost use Rattle.wit_productions.specs.TypeTree.{row};
 ghost use Rattle.wit_productions.specs.TypeView.{type_tree, type_shape};
 ghost use Rattle.wit_arena.specs.Meaning.{Has};
 ghost use Rattle.wit_arena.specs.Shape.{shape_of};
-ghost use Rattle.wit_arena.specs.Lower.{primitive_ref, IsComposed, names_in, names_in_shape, names_in_part, names_in_row, IsResult, err_part, AreThere, Lowers, LowersShape, LowersPart, LowersParts};
-ghost use Rattle.wit_arena.specs.View.{part_tree, type_part};
+ghost use Rattle.wit_scopes.specs.TypeNames.{names_in, names_in_shape, names_in_part, names_in_row};
+ghost use Rattle.wit_scopes.specs.TypeView.{part_tree, type_part};
+ghost use Rattle.wit_arena.specs.Lower.{primitive_ref, IsComposed, IsResult, err_part, AreThere, Lowers, LowersShape, LowersPart, LowersParts};
 
 use crate::shape::Shape;
 use crate::table::Table;
 use crate::types::Types;
 use std::alloc::AllocError;
-use wit_syntax::TypeKind;
+use wit_syntax::{Id, TypeKind};
 use wit_types::{Handle, Result_, Type, TypeId};
 
 /// The type, if it is one by its word alone.
@@ -39,11 +41,11 @@ fn primitive(kind: &TypeKind<'_>) -> Option<Type>
 }
 
 /// What stands under a name that is there.
-fn id_of(table: &Table<'_>, name: &str) -> TypeId
-    requires { AreThere table.now (name.now ∷ []) }
-    ensures { Has table.now (name.now, result) }
+fn id_of(table: &Table<'_>, name: &Id<'_>) -> TypeId
+    requires { AreThere table.now (id name.now ∷ []) }
+    ensures { Has table.now (name.now.name.now, result) }
 {
-    match table.get(name) {
+    match table.get(name.name) {
         Some(id) => id,
         None => unreachable!(),
     }
@@ -63,7 +65,7 @@ pub fn lower(
         return Ok(ty);
     }
     if let TypeKind::Name(name) = &ty.kind {
-        return Ok(Type::Id(id_of(table, name.name)));
+        return Ok(Type::Id(id_of(table, name)));
     }
     let shape = lower_shape(types, table, &ty.kind)?;
     let ty = types.intern(shape, ty.span)?;
@@ -82,8 +84,8 @@ fn lower_shape(
     ensures { IfOk result (λ s. LowersShape table.now types.old (type_shape kind.now) types.new (shape_of s)) }
 {
     match kind {
-        TypeKind::Own(name) => Ok(Shape::Handle(Handle::Own(id_of(table, name.name)))),
-        TypeKind::Borrow(name) => Ok(Shape::Handle(Handle::Borrow(id_of(table, name.name)))),
+        TypeKind::Own(name) => Ok(Shape::Handle(Handle::Own(id_of(table, name)))),
+        TypeKind::Borrow(name) => Ok(Shape::Handle(Handle::Borrow(id_of(table, name)))),
         TypeKind::List(part) => Ok(Shape::List(lower(types, table, part)?)),
         TypeKind::FixedLengthList(part, length) => {
             Ok(Shape::FixedLengthList(lower(types, table, part)?, *length))

@@ -1,8 +1,7 @@
 -- What keeps all rules of its parts keeps all of its own.
-use Rattle.std.proofs.Common.{◌≡◌, List, Some, None, Result, Ok, Err, map, sym, subst, ◌∙◌}
+use Rattle.std.proofs.Common.{◌≡◌, List, Some, None, map, sym, subst, ◌∙◌}
 use Rattle.std.proofs.lemmas.Option.{same_Some}
-use Rattle.std.specs.Prelude.{OnOk, IfOk, IfErr, flat_map}
-use Rattle.std.specs.Result.{result_and}
+use Rattle.std.specs.Prelude.{flat_map}
 use Rattle.wit_syntax.specs.Ast.{PackageNameTree, FileTree}
 use Rattle.wit_scopes.specs.declared.worlds.Side.{Side}
 use Rattle.wit_scopes.specs.declared.worlds.Side.TheVariants.{Import, Export}
@@ -12,25 +11,6 @@ use Rattle.wit_rules.specs.Labels.{member_label, names_within, side_labels, side
 use Rattle.wit_rules.specs.Breaks.{IsKept, AnyBreaks, NamesBreak, PathsBreak, GatesBreak}
 use Rattle.wit_rules.specs.Facts as fact
 use Rattle.wit_rules.specs.Facts.{CasesBreak, MemberBreaks, MembersBreak, ExternBreaks, ListedBreaks, WorldMemberBreaks, SideBreaks, WorldBreaks, InterfaceBreaks, WorldItemBreaks, ScopeBreaks, ScopesBreak, FileBreaks, HeaderBreaks, PackageBreaks, FilesBreak, package_name}
-
--- what follows where a call fails
-pub if_err : {T E : Type 0} (r : Result T E) (P Q : E → Type 0) → ((e : E) → P e → Q e) → IfErr r P → IfErr r Q
-if_err (Ok x) P Q f p = p
-if_err (Err e) P Q f p = f e p
-
--- what follows where a call succeeds
-pub on_ok : {T E : Type 0} (r : Result T E) {P Q : Type 0} → (P → Q) → OnOk r P → OnOk r Q
-on_ok (Ok x) f p = f p
-on_ok (Err e) f p = p
-
--- what follows of a value that goes with the outcome of a call
-pub and_ok : {T U E : Type 0} (r : Result T E) (x : U) {P : Type 0} (Q : U → Type 0) → (P → Q x) → OnOk r P → IfOk (result_and r (Ok x)) Q
-and_ok (Ok y) x Q f p = f p
-and_ok (Err e) x Q f p = p
-
-pub and_err : {T U E : Type 0} (r : Result T E) (x : U) (P : E → Type 0) → IfErr r P → IfErr (result_and r (Ok x)) P
-and_err (Ok y) x P p = p
-and_err (Err e) x P p = p
 
 pub member_kept : (m : MemberTree) → IsKept (GatesBreak m.attributes) → IsKept (CasesBreak m) → IsKept (NamesBreak (names_within m.kind m.name)) → IsKept (MemberBreaks m)
 member_kept m gates cases names rule at (fact.MemberBreaks.by_gates b) = gates rule at b

@@ -17,3 +17,4 @@ pub use files::{Declared, declared_in};
 pub use gates::{Gates, check_gates, gates_of};
 pub use labels::Label;
 pub use repeats::first_repeat;
+pub use worlds::target_text;

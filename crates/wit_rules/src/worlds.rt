@@ -18,7 +18,7 @@ use std::borrow::CowStr;
 use wit_scopes::{ExternKind, Listed, Side, Target, WorldMember};
 
 /// What a path names, in full.
-fn target_text<'a>(alloc: Global, target: &Target<'a>) -> Result<CowStr<'a>, AllocError>
+pub fn target_text<'a>(alloc: Global, target: &Target<'a>) -> Result<CowStr<'a>, AllocError>
     ensures { IfOk result (λ t. cow_str_bytes t ≡ names.target_text (scope_view.target target.now)) }
 {
     match target {

@@ -1,2 +1,5 @@
 pub mod Lists
+pub mod Outcomes
 pub mod Uses
+pub mod TypeViews
+pub mod Files

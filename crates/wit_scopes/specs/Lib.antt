@@ -2,3 +2,5 @@ pub mod Paths
 pub mod Members
 pub mod Scopes
 pub mod View
+pub mod TypeNames
+pub mod TypeView

@@ -1,5 +1,5 @@
 -- The scopes of a package: its interfaces and worlds with all that they declare (WIT, Packages, Item: `world`).
-use Rattle.std.specs.Prelude.{List, [], ◌∷◌, map, flat_map}
+use Rattle.std.specs.Prelude.{ℕ, suc, List, [], ◌∷◌, ◌++◌, map, flat_map}
 use Rattle.wit_words.specs.declared.source_map.Span.{Span}
 use Rattle.wit_words.specs.Slice.{Slice}
 use Rattle.wit_items.specs.ItemTree.{AttributeTree, GatedTree, FuncTree, InterfaceTree}
@@ -37,12 +37,14 @@ pub data WorldMemberTree : Type 0 where
   listed : ListedTree → WorldMemberTree
   included : IncludedTree → WorldMemberTree
 
+-- an interface or a world with all that it declares, and the number of the file in which it stands
 pub record InterfaceScope : Type 0 where
   pub name : Slice
   pub members : List MemberTree
   pub docs : List Slice
   pub attributes : List AttributeTree
   pub span : Span
+  pub file : ℕ
 
 pub record WorldScope : Type 0 where
   pub name : Slice
@@ -50,6 +52,7 @@ pub record WorldScope : Type 0 where
   pub docs : List Slice
   pub attributes : List AttributeTree
   pub span : Span
+  pub file : ℕ
 
 pub data ItemScope : Type 0 where
   interface : InterfaceScope → ItemScope
@@ -86,24 +89,29 @@ world_members me us items = flat_map (λ g. world_item_members me us g g.item) i
 
 -- ---- files
 
-abbrev pub interface_scope : {X : Type 0} → PackageNameTree → List ToplevelUseTree → GatedTree X → InterfaceTree → InterfaceScope
-interface_scope me us g i = record { name = i.name; members = interface_members me us i.items; docs = g.docs; attributes = g.attributes; span = g.span }
+abbrev pub interface_scope : {X : Type 0} → PackageNameTree → List ToplevelUseTree → ℕ → GatedTree X → InterfaceTree → InterfaceScope
+interface_scope me us k g i = record { name = i.name; members = interface_members me us i.items; docs = g.docs; attributes = g.attributes; span = g.span; file = k }
 
-abbrev pub world_scope : {X : Type 0} → PackageNameTree → List ToplevelUseTree → GatedTree X → WorldTree → WorldScope
-world_scope me us g w = record { name = w.name; members = world_members me us w.items; docs = g.docs; attributes = g.attributes; span = g.span }
+abbrev pub world_scope : {X : Type 0} → PackageNameTree → List ToplevelUseTree → ℕ → GatedTree X → WorldTree → WorldScope
+world_scope me us k g w = record { name = w.name; members = world_members me us w.items; docs = g.docs; attributes = g.attributes; span = g.span; file = k }
 
-abbrev pub ast_item_scopes : {X : Type 0} → PackageNameTree → List ToplevelUseTree → GatedTree X → AstItemTree → List ItemScope
-ast_item_scopes me us g (ast.AstItemTree.uses u) = []
-ast_item_scopes me us g (ast.AstItemTree.interface i) = ItemScope.interface (interface_scope me us g i) ∷ []
-ast_item_scopes me us g (ast.AstItemTree.world w) = world (world_scope me us g w) ∷ []
+abbrev pub ast_item_scopes : {X : Type 0} → PackageNameTree → List ToplevelUseTree → ℕ → GatedTree X → AstItemTree → List ItemScope
+ast_item_scopes me us k g (ast.AstItemTree.uses u) = []
+ast_item_scopes me us k g (ast.AstItemTree.interface i) = ItemScope.interface (interface_scope me us k g i) ∷ []
+ast_item_scopes me us k g (ast.AstItemTree.world w) = world (world_scope me us k g w) ∷ []
 
-abbrev pub file_item_scopes : PackageNameTree → List ToplevelUseTree → GatedTree FileItemTree → FileItemTree → List ItemScope
-file_item_scopes me us g (ast.FileItemTree.item i) = ast_item_scopes me us g i
-file_item_scopes me us g (ast.nested p) = []
+abbrev pub file_item_scopes : PackageNameTree → List ToplevelUseTree → ℕ → GatedTree FileItemTree → FileItemTree → List ItemScope
+file_item_scopes me us k g (ast.FileItemTree.item i) = ast_item_scopes me us k g i
+file_item_scopes me us k g (ast.nested p) = []
 
-abbrev pub items_scopes : PackageNameTree → List (GatedTree FileItemTree) → List ItemScope
-items_scopes me items = flat_map (λ g. file_item_scopes me (item_uses items) g g.item) items
+abbrev pub items_scopes : PackageNameTree → ℕ → List (GatedTree FileItemTree) → List ItemScope
+items_scopes me k items = flat_map (λ g. file_item_scopes me (item_uses items) k g g.item) items
+
+-- those of files, of which the first has that number
+abbrev pub scopes_from : PackageNameTree → ℕ → List FileTree → List ItemScope
+scopes_from me k [] = []
+scopes_from me k (f ∷ fs) = items_scopes me k f.items ++ scopes_from me (suc k) fs
 
 -- the interfaces and worlds of a package of that name, in the order of its files
 abbrev pub package_scopes : PackageNameTree → List FileTree → List ItemScope
-package_scopes me files = flat_map (λ f. items_scopes me f.items) files
+package_scopes me files = scopes_from me 0 files

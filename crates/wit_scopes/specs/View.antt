@@ -78,10 +78,10 @@ world_member (world_members.Listed l) = scope_tree.listed (listed l)
 world_member (world_members.Included i) = scope_tree.included (included i)
 
 abbrev pub interface_scope : Interface → InterfaceScope
-interface_scope i = record { name = view.id i.name; members = members i.members.items; docs = view.docs i.docs.now; attributes = map view.attribute i.attributes.now; span = i.span }
+interface_scope i = record { name = view.id i.name; members = members i.members.items; docs = view.docs i.docs.now; attributes = map view.attribute i.attributes.now; span = i.span; file = i.file }
 
 abbrev pub world_scope : World → WorldScope
-world_scope w = record { name = view.id w.name; members = map world_member w.members.items; docs = view.docs w.docs.now; attributes = map view.attribute w.attributes.now; span = w.span }
+world_scope w = record { name = view.id w.name; members = map world_member w.members.items; docs = view.docs w.docs.now; attributes = map view.attribute w.attributes.now; span = w.span; file = w.file }
 
 abbrev pub item_scope : Item → ItemScope
 item_scope (items.Interface i) = scope_tree.ItemScope.interface (interface_scope i)

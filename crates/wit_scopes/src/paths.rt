@@ -32,7 +32,7 @@ pub fn is_same_package<'a>(a: &PackageName<'a>, b: &PackageName<'a>) -> bool
 }
 
 /// What a path names by itself, in a package of that name.
-fn by_itself<'a>(me: &PackageName<'a>, path: &UsePath<'a>) -> Target<'a>
+pub fn path_by_itself<'a>(me: &PackageName<'a>, path: &UsePath<'a>) -> Target<'a>
     ensures { seen.target result ≡ spec.by_itself (view.package_name me.now) (view.use_path path.now) }
 {
     match path {
@@ -103,7 +103,8 @@ impl<'a> FileUses<'a> {
     {
         let name = known_name(item).name;
         if !self.known.contains_key(name) {
-            self.known.insert(name, by_itself(&self.me, &item.item))?;
+            self.known
+                .insert(name, path_by_itself(&self.me, &item.item))?;
         }
         Ok(())
     }
@@ -128,7 +129,7 @@ impl<'a> FileUses<'a> {
                 Some(target) => *target,
                 None => Target::Own(*name),
             },
-            UsePath::Package { .. } => by_itself(&self.me, path),
+            UsePath::Package { .. } => path_by_itself(&self.me, path),
         }
     }
 }

@@ -28,6 +28,8 @@ pub struct InterfaceScope<'a> {
     pub attributes: &'a [Attribute<'a>],
     /// Where it stands.
     pub span: Span,
+    /// The number of the file that it stands in.
+    pub file: usize,
 }
 
 /// A world of a package, with all that it declares (WIT, Item: `world`).
@@ -43,6 +45,8 @@ pub struct WorldScope<'a> {
     pub attributes: &'a [Attribute<'a>],
     /// Where it stands.
     pub span: Span,
+    /// The number of the file that it stands in.
+    pub file: usize,
 }
 
 /// An interface or a world of a package.
@@ -58,10 +62,11 @@ pub enum ItemScope<'a> {
 fn interface_scope<'a, T>(
     alloc: Global,
     uses: &FileUses<'a>,
+    file: usize,
     gated: &'a Gated<'a, T>,
     interface: &'a Interface<'a>,
 ) -> Result<ItemScope<'a>, AllocError>
-    ensures { (us : List ToplevelUseTree) → seen.AreUses (view.package_name uses.now.me) us uses.now → IfOk result (λ s. seen.item_scope s ≡ spec.ItemScope.interface (spec.interface_scope (view.package_name uses.now.me) us (view.gated (λ x. x) gated.entry.now) (view.interface interface.entry.now))) }
+    ensures { (us : List ToplevelUseTree) → seen.AreUses (view.package_name uses.now.me) us uses.now → IfOk result (λ s. seen.item_scope s ≡ spec.ItemScope.interface (spec.interface_scope (view.package_name uses.now.me) us file (view.gated (λ x. x) gated.entry.now) (view.interface interface.entry.now))) }
 {
     let mut members = Vec::new(alloc);
     add_members(&mut members, uses, interface.items.as_slice())?;
@@ -71,6 +76,7 @@ fn interface_scope<'a, T>(
         docs: &gated.docs,
         attributes: gated.attributes.as_slice(),
         span: gated.span,
+        file,
     }))
 }
 
@@ -78,10 +84,11 @@ fn interface_scope<'a, T>(
 fn world_scope<'a, T>(
     alloc: Global,
     uses: &FileUses<'a>,
+    file: usize,
     gated: &'a Gated<'a, T>,
     world: &'a World<'a>,
 ) -> Result<ItemScope<'a>, AllocError>
-    ensures { (us : List ToplevelUseTree) → seen.AreUses (view.package_name uses.now.me) us uses.now → IfOk result (λ s. seen.item_scope s ≡ spec.world (spec.world_scope (view.package_name uses.now.me) us (view.gated (λ x. x) gated.entry.now) (view.world world.entry.now))) }
+    ensures { (us : List ToplevelUseTree) → seen.AreUses (view.package_name uses.now.me) us uses.now → IfOk result (λ s. seen.item_scope s ≡ spec.world (spec.world_scope (view.package_name uses.now.me) us file (view.gated (λ x. x) gated.entry.now) (view.world world.entry.now))) }
 {
     let members = world_members(alloc, uses, world.items.as_slice())?;
     Ok(ItemScope::World(WorldScope {
@@ -90,6 +97,7 @@ fn world_scope<'a, T>(
         docs: &gated.docs,
         attributes: gated.attributes.as_slice(),
         span: gated.span,
+        file,
     }))
 }
 
@@ -98,12 +106,13 @@ fn add_interface<'a>(
     alloc: Global,
     found: &mut Vec<ItemScope<'a>>,
     uses: &FileUses<'a>,
+    file: usize,
     gated: &'a Gated<'a, FileItem<'a>>,
     interface: &'a Interface<'a>,
 ) -> Result<(), AllocError>
-    ensures { (us : List ToplevelUseTree) → seen.AreUses (view.package_name uses.now.me) us uses.now → OnOk result (map seen.item_scope found.new.items ≡ map seen.item_scope found.old.items ++ spec.ItemScope.interface (spec.interface_scope (view.package_name uses.now.me) us (view.gated view.file_item gated.entry.now) (view.interface interface.entry.now)) ∷ []) }
+    ensures { (us : List ToplevelUseTree) → seen.AreUses (view.package_name uses.now.me) us uses.now → OnOk result (map seen.item_scope found.new.items ≡ map seen.item_scope found.old.items ++ spec.ItemScope.interface (spec.interface_scope (view.package_name uses.now.me) us file (view.gated view.file_item gated.entry.now) (view.interface interface.entry.now)) ∷ []) }
 {
-    let scope = interface_scope(alloc, uses, gated, interface)?;
+    let scope = interface_scope(alloc, uses, file, gated, interface)?;
     push_to(found, scope)
 }
 
@@ -112,12 +121,13 @@ fn add_world<'a>(
     alloc: Global,
     found: &mut Vec<ItemScope<'a>>,
     uses: &FileUses<'a>,
+    file: usize,
     gated: &'a Gated<'a, FileItem<'a>>,
     world: &'a World<'a>,
 ) -> Result<(), AllocError>
-    ensures { (us : List ToplevelUseTree) → seen.AreUses (view.package_name uses.now.me) us uses.now → OnOk result (map seen.item_scope found.new.items ≡ map seen.item_scope found.old.items ++ spec.world (spec.world_scope (view.package_name uses.now.me) us (view.gated view.file_item gated.entry.now) (view.world world.entry.now)) ∷ []) }
+    ensures { (us : List ToplevelUseTree) → seen.AreUses (view.package_name uses.now.me) us uses.now → OnOk result (map seen.item_scope found.new.items ≡ map seen.item_scope found.old.items ++ spec.world (spec.world_scope (view.package_name uses.now.me) us file (view.gated view.file_item gated.entry.now) (view.world world.entry.now)) ∷ []) }
 {
-    let scope = world_scope(alloc, uses, gated, world)?;
+    let scope = world_scope(alloc, uses, file, gated, world)?;
     push_to(found, scope)
 }
 
@@ -126,15 +136,16 @@ fn add_item<'a>(
     alloc: Global,
     found: &mut Vec<ItemScope<'a>>,
     uses: &FileUses<'a>,
+    file: usize,
     gated: &'a Gated<'a, FileItem<'a>>,
 ) -> Result<(), AllocError>
-    ensures { (us : List ToplevelUseTree) → seen.AreUses (view.package_name uses.now.me) us uses.now → OnOk result (map seen.item_scope found.new.items ≡ map seen.item_scope found.old.items ++ spec.file_item_scopes (view.package_name uses.now.me) us (view.gated view.file_item gated.entry.now) (view.file_item gated.entry.now.item)) }
+    ensures { (us : List ToplevelUseTree) → seen.AreUses (view.package_name uses.now.me) us uses.now → OnOk result (map seen.item_scope found.new.items ≡ map seen.item_scope found.old.items ++ spec.file_item_scopes (view.package_name uses.now.me) us file (view.gated view.file_item gated.entry.now) (view.file_item gated.entry.now.item)) }
 {
     match &gated.item {
         FileItem::Item(AstItem::Interface(interface)) => {
-            add_interface(alloc, found, uses, gated, interface)
+            add_interface(alloc, found, uses, file, gated, interface)
         }
-        FileItem::Item(AstItem::World(world)) => add_world(alloc, found, uses, gated, world),
+        FileItem::Item(AstItem::World(world)) => add_world(alloc, found, uses, file, gated, world),
         FileItem::Item(AstItem::Use(_)) | FileItem::Package(_) => Ok(()),
     }
 }
@@ -144,13 +155,14 @@ fn add_file<'a>(
     alloc: Global,
     found: &mut Vec<ItemScope<'a>>,
     me: PackageName<'a>,
+    file: usize,
     items: &'a [Gated<'a, FileItem<'a>>],
 ) -> Result<(), AllocError>
-    ensures { OnOk result (map seen.item_scope found.new.items ≡ map seen.item_scope found.old.items ++ spec.items_scopes (view.package_name me.entry) (map (view.gated view.file_item) items.entry.now)) }
+    ensures { OnOk result (map seen.item_scope found.new.items ≡ map seen.item_scope found.old.items ++ spec.items_scopes (view.package_name me.entry) file (map (view.gated view.file_item) items.entry.now)) }
 {
     let uses = FileUses::new(alloc, me, items)?;
     for gated in items {
-        add_item(alloc, found, &uses, gated)?;
+        add_item(alloc, found, &uses, file, gated)?;
     }
     Ok(())
 }
@@ -164,8 +176,8 @@ fn add_files<'a>(
 ) -> Result<(), AllocError>
     ensures { OnOk result (map seen.item_scope found.new.items ≡ map seen.item_scope found.old.items ++ spec.package_scopes (view.package_name me.entry) (map view.file files.entry.now)) }
 {
-    for file in files {
-        add_file(alloc, found, me, file.items.as_slice())?;
+    for (number, file) in files.iter().enumerate() {
+        add_file(alloc, found, me, number, file.items.as_slice())?;
     }
     Ok(())
 }

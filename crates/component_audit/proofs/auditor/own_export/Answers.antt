@@ -4,7 +4,7 @@ use Rattle.std.proofs.lemmas.List.{length-map}
 use Rattle.std.proofs.lemmas.Option.{same_Some, slice_get_within, slice_get_read}
 use Rattle.wasm_types.specs.Entries.{export_value}
 use Rattle.wasm_format.specs.Module.{module_value}
-use Rattle.component_audit.specs.FirstPlaces.{place_of}
+use Rattle.name_places.specs.FirstPlaces.{place_of}
 use Rattle.wit_component.specs.Linking.{core_export}
 use Rattle.wit_component.specs.Table.{ExportLink}
 use Rattle.wit_component.specs.View as view

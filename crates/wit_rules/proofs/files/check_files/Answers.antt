@@ -5,7 +5,8 @@ use Rattle.wit_scopes.specs.Scopes.{ItemScope}
 use Rattle.wit_rules.specs.Breaks.{IsKept, IsFaultOf, AnyBreaks}
 use Rattle.wit_rules.specs.Facts.{FileBreaks, ScopesBreak, PackageBreaks}
 use Rattle.wit_rules.proofs.Breaking.{viewed_kept}
-use Rattle.wit_rules.proofs.Kept.{on_ok, if_err, package_kept}
+use Rattle.wit_scopes.proofs.Outcomes.{on_ok, if_err}
+use Rattle.wit_rules.proofs.Kept.{package_kept}
 use Rattle.wit_rules.proofs.Refused.{file_refused}
 use Rattle.wit_rules.proofs.files.check_files.Goals as goal
 

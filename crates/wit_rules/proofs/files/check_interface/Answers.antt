@@ -3,7 +3,8 @@ use Rattle.wit_scopes.specs.declared.members.Member.{Member}
 use Rattle.wit_scopes.specs.View as scope_view
 use Rattle.wit_rules.specs.Breaks.{IsKept}
 use Rattle.wit_rules.specs.Facts.{MembersBreak}
-use Rattle.wit_rules.proofs.Kept.{on_ok, interface_kept}
+use Rattle.wit_scopes.proofs.Outcomes.{on_ok}
+use Rattle.wit_rules.proofs.Kept.{interface_kept}
 use Rattle.wit_rules.proofs.files.check_interface.Goals as goal
 
 pub returns-clause-ok : goal.returns-clause-ok

@@ -9,7 +9,8 @@ use Rattle.wit_rules.specs.Facts.{ScopeBreaks, ScopesBreak}
 use Rattle.wit_rules.specs.Labels.{scope_name}
 use Rattle.wit_rules.specs.View as seen
 use Rattle.wit_rules.proofs.Breaking.{all_kept, kept_more, viewed_kept}
-use Rattle.wit_rules.proofs.Kept.{on_ok, if_err, scopes_kept}
+use Rattle.wit_scopes.proofs.Outcomes.{on_ok, if_err}
+use Rattle.wit_rules.proofs.Kept.{scopes_kept}
 use Rattle.wit_rules.proofs.Places.{read_at}
 use Rattle.wit_rules.proofs.Refused.{scope_refused}
 use Rattle.wit_rules.proofs.files.check_scopes.Goals as goal

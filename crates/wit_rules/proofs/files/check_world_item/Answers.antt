@@ -3,7 +3,8 @@ use Rattle.wit_scopes.specs.declared.worlds.WorldMember.{WorldMember}
 use Rattle.wit_scopes.specs.View as scope_view
 use Rattle.wit_rules.specs.Breaks.{IsKept}
 use Rattle.wit_rules.specs.Facts.{WorldBreaks}
-use Rattle.wit_rules.proofs.Kept.{on_ok, world_item_kept}
+use Rattle.wit_scopes.proofs.Outcomes.{on_ok}
+use Rattle.wit_rules.proofs.Kept.{world_item_kept}
 use Rattle.wit_rules.proofs.files.check_world_item.Goals as goal
 
 pub returns-clause-ok : goal.returns-clause-ok

@@ -6,7 +6,8 @@ use Rattle.wit_rules.specs.declared.files.Declared.{Declared}
 use Rattle.wit_rules.specs.Breaks.{IsFaultOf}
 use Rattle.wit_rules.specs.Facts.{IsDeclared, PackageBreaks, FilesBreak, in_package, package_name}
 use Rattle.wit_rules.proofs.Breaking.{widened}
-use Rattle.wit_rules.proofs.Kept.{and_ok, and_err, if_err, files_kept}
+use Rattle.wit_scopes.proofs.Outcomes.{and_ok, and_err, if_err}
+use Rattle.wit_rules.proofs.Kept.{files_kept}
 use Rattle.wit_rules.proofs.files.declared_in.Goals as goal
 
 pub returns-clause-ok : goal.returns-clause-ok

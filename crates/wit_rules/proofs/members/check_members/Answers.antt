@@ -5,7 +5,8 @@ use Rattle.wit_rules.specs.Breaks.{IsKept, NamesBreak}
 use Rattle.wit_rules.specs.Facts.{MemberBreaks}
 use Rattle.wit_rules.specs.View as seen
 use Rattle.wit_rules.proofs.Breaking.{viewed_kept}
-use Rattle.wit_rules.proofs.Kept.{on_ok, members_kept}
+use Rattle.wit_scopes.proofs.Outcomes.{on_ok}
+use Rattle.wit_rules.proofs.Kept.{members_kept}
 use Rattle.wit_rules.proofs.members.check_members.Goals as goal
 
 pub returns-clause-ok : goal.returns-clause-ok

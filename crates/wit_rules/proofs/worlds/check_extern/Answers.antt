@@ -8,7 +8,7 @@ use Rattle.wit_scopes.specs.View as scope_view
 use Rattle.wit_rules.specs.Breaks.{IsKept, NamesBreak}
 use Rattle.wit_rules.specs.Facts.{MembersBreak}
 use Rattle.wit_rules.specs.View as seen
-use Rattle.wit_rules.proofs.Kept.{on_ok}
+use Rattle.wit_scopes.proofs.Outcomes.{on_ok}
 use Rattle.wit_rules.proofs.worlds.check_extern.Goals as goal
 
 pub returns-in_ok-params-in-Function-clause-ok : goal.returns-in_ok-params-in-Function-clause-ok

@@ -1,5 +1,6 @@
 use Rattle.wit_scopes.specs.View as scope_view
-use Rattle.wit_rules.proofs.Kept.{on_ok, listed_kept}
+use Rattle.wit_scopes.proofs.Outcomes.{on_ok}
+use Rattle.wit_rules.proofs.Kept.{listed_kept}
 use Rattle.wit_rules.proofs.worlds.check_listed.Goals as goal
 
 pub returns-clause-ok : goal.returns-clause-ok

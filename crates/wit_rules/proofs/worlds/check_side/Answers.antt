@@ -7,7 +7,8 @@ use Rattle.wit_scopes.specs.View as scope_view
 use Rattle.wit_rules.specs.Breaks.{IsKept, NamesBreak, PathsBreak}
 use Rattle.wit_rules.specs.Labels.{side_labels, side_paths}
 use Rattle.wit_rules.specs.View as seen
-use Rattle.wit_rules.proofs.Kept.{on_ok, side_kept}
+use Rattle.wit_scopes.proofs.Outcomes.{on_ok}
+use Rattle.wit_rules.proofs.Kept.{side_kept}
 use Rattle.wit_rules.proofs.worlds.check_side.Goals as goal
 
 pub returns-clause-ok : goal.returns-clause-ok

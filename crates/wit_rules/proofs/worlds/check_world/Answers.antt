@@ -2,7 +2,8 @@ use Rattle.std.proofs.Common.{map}
 use Rattle.wit_scopes.specs.View as scope_view
 use Rattle.wit_rules.specs.Facts.{WorldMemberBreaks}
 use Rattle.wit_rules.proofs.Breaking.{viewed_kept}
-use Rattle.wit_rules.proofs.Kept.{on_ok, world_kept}
+use Rattle.wit_scopes.proofs.Outcomes.{on_ok}
+use Rattle.wit_rules.proofs.Kept.{world_kept}
 use Rattle.wit_rules.proofs.worlds.check_world.Goals as goal
 
 pub returns-clause-ok : goal.returns-clause-ok

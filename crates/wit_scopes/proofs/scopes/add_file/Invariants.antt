@@ -7,4 +7,4 @@ use Rattle.wit_scopes.specs.View as seen
 use Rattle.wit_scopes.proofs.scopes.add_file.Given as goal
 
 abbrev pub invariant-loop-gated : goal.invariant-loop-gated
-invariant-loop-gated l = map seen.item_scope l.found.items ≡ map seen.item_scope l.initial.found.items ++ flat_map (λ g. spec.file_item_scopes (view.package_name l.me) (item_uses (map (view.gated view.file_item) l.items)) g g.item) (map (view.gated view.file_item) (take l.gated-index l.items))
+invariant-loop-gated l = map seen.item_scope l.found.items ≡ map seen.item_scope l.initial.found.items ++ flat_map (λ g. spec.file_item_scopes (view.package_name l.me) (item_uses (map (view.gated view.file_item) l.items)) l.file g g.item) (map (view.gated view.file_item) (take l.gated-index l.items))

@@ -2,7 +2,7 @@ use Rattle.std.proofs.Common.{List, map, ap, ◌∙◌, subst}
 use Rattle.wit_words.specs.Slice.{Slice}
 use Rattle.wit_rules.specs.Breaks.{IsKept, NamesBreak}
 use Rattle.wit_rules.specs.View as seen
-use Rattle.wit_rules.proofs.Kept.{on_ok}
+use Rattle.wit_scopes.proofs.Outcomes.{on_ok}
 use Rattle.wit_rules.proofs.files.FileChecked.check.Goals as goal
 
 pub returns-clause-ok : goal.returns-clause-ok

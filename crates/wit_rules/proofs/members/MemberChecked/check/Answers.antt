@@ -3,7 +3,8 @@ use Rattle.wit_words.specs.Slice.{Slice}
 use Rattle.wit_scopes.specs.View as scope_view
 use Rattle.wit_rules.specs.Breaks.{IsKept, NamesBreak}
 use Rattle.wit_rules.specs.View as seen
-use Rattle.wit_rules.proofs.Kept.{on_ok, member_kept}
+use Rattle.wit_scopes.proofs.Outcomes.{on_ok}
+use Rattle.wit_rules.proofs.Kept.{member_kept}
 use Rattle.wit_rules.proofs.members.MemberChecked.check.Goals as goal
 
 pub returns-clause-ok : goal.returns-clause-ok

@@ -1,0 +1,9 @@
+use Rattle.std.proofs.Common.{◌≡◌, ◌++◌, map, take}
+use Rattle.std.specs.Prelude.{flat_map}
+use Rattle.wit_syntax.specs.AstView as view
+use Rattle.wit_scopes.specs.View as scope_view
+use Rattle.wit_orders.specs.Needs.{included_item}
+use Rattle.wit_orders.proofs.items.add_included.Given as goal
+
+abbrev pub invariant-loop-member : goal.invariant-loop-member
+invariant-loop-member l = map view.id l.found.items ≡ map view.id l.initial.found.items ++ flat_map included_item (map scope_view.world_member (take l.member-index l.members))

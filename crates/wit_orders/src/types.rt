@@ -1,0 +1,85 @@
+//! The types of scopes, and their orders.
+
+ghost use Rattle.std.specs.Prelude.{◌≡◌, ◌++◌, map, IfOk, OnOk, IfErr};
+ghost use Rattle.wit_scopes.specs.View as scope_view;
+ghost use Rattle.wit_rules.specs.Breaks.{IsKept, IsFaultOf};
+ghost use Rattle.wit_orders.specs.Needs as spec;
+ghost use Rattle.wit_orders.specs.View as seen;
+
+use crate::order::{Entry, order_of};
+use std::alloc::{AllocError, Global};
+use wit_rules::PackageFault;
+use wit_scopes::{Member, MemberKind, WorldMember, member_type_names};
+
+/// Adds a member where it is a type.
+fn add_type<'a>(found: &mut Vec<Member<'a>>, member: &Member<'a>) -> Result<(), AllocError>
+    ensures { OnOk result (scope_view.members found.new.items ≡ scope_view.members found.old.items ++ spec.member_type (scope_view.member member.now)) }
+{
+    if let MemberKind::Used { .. } | MemberKind::Defined(_) = member.kind {
+        found.push(*member)?;
+    }
+    Ok(())
+}
+
+/// The types among the members of an interface, in their order.
+pub fn scope_types<'a>(alloc: Global, members: &[Member<'a>]) -> Result<Vec<Member<'a>>, AllocError>
+    ensures { IfOk result (λ v. scope_view.members v.items ≡ spec.types_of (scope_view.members members.now)) }
+{
+    let mut found = Vec::new(alloc);
+    for member in members {
+        add_type(&mut found, member)?;
+    }
+    Ok(found)
+}
+
+/// Adds a member of a world where it is a type.
+fn add_world_type<'a>(
+    found: &mut Vec<Member<'a>>,
+    member: &WorldMember<'a>,
+) -> Result<(), AllocError>
+    ensures { OnOk result (scope_view.members found.new.items ≡ scope_view.members found.old.items ++ spec.world_member_type (scope_view.world_member member.now)) }
+{
+    match member {
+        WorldMember::Member(member) => add_type(found, member),
+        WorldMember::Listed(_) | WorldMember::Included(_) => Ok(()),
+    }
+}
+
+/// The types among the members of a world, in their order.
+pub fn world_types<'a>(
+    alloc: Global,
+    members: &[WorldMember<'a>],
+) -> Result<Vec<Member<'a>>, AllocError>
+    ensures { IfOk result (λ v. scope_view.members v.items ≡ spec.world_types (map scope_view.world_member members.now)) }
+{
+    let mut found = Vec::new(alloc);
+    for member in members {
+        add_world_type(&mut found, member)?;
+    }
+    Ok(found)
+}
+
+/// The types by what they name.
+fn type_entries<'a>(alloc: Global, types: &[Member<'a>]) -> Result<Vec<Entry<'a>>, AllocError>
+    ensures { IfOk result (λ v. map seen.entry v.items ≡ map spec.type_entry (scope_view.members types.now)) }
+{
+    let mut found = Vec::new(alloc);
+    for member in types {
+        let needs = member_type_names(alloc, &member.kind)?;
+        found.push(Entry {
+            label: member.name,
+            needs,
+        })?;
+    }
+    Ok(found)
+}
+
+/// The places of the types of a scope, each behind all that its definition names, and of all such orders the least; or P6 at
+/// the name of a type that leads back to itself.
+pub fn type_order<'a>(alloc: Global, types: &[Member<'a>]) -> Result<Vec<usize>, PackageFault>
+    ensures ok { IfOk result (λ o. spec.IsOrderOf (map spec.type_entry (scope_view.members types.now)) o.items × IsKept (spec.CircleBreaks (map spec.type_entry (scope_view.members types.now)))) }
+    ensures cause { IfErr result (IsFaultOf (spec.CircleBreaks (map spec.type_entry (scope_view.members types.now)))) }
+{
+    let entries = type_entries(alloc, types)?;
+    order_of(alloc, entries.as_slice())
+}

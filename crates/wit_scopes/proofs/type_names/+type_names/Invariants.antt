@@ -1,0 +1,9 @@
+use Rattle.std.proofs.Common.{◌≡◌, ◌++◌, map, take}
+use Rattle.wit_syntax.specs.AstView as view
+use Rattle.wit_productions.specs.TypeTree.{row}
+use Rattle.wit_productions.specs.TypeView.{type_tree}
+use Rattle.wit_scopes.specs.TypeNames.{names_in_row}
+use Rattle.wit_scopes.proofs.type_names.+type_names.Given as goal
+
+abbrev pub invariant-add_row_names-loop-part : goal.invariant-add_row_names-loop-part
+invariant-add_row_names-loop-part l = map view.id l.found.items ≡ map view.id l.initial.found.items ++ names_in_row (row (map type_tree (take l.part-index l.parts)))
