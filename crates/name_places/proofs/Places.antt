@@ -1,5 +1,5 @@
 -- First places of names.
-use Rattle.std.proofs.Common.{◌≡◌, ℕ, ◌<◌, suc, List, [], ◌∷◌, ◌++◌, length, arith, Bool, true, false, cond, Option, Some, None, is_some, refl, sym, ap, ◌∙◌, inl, inr}
+use Rattle.std.proofs.Common.{◌≡◌, ℕ, ◌<◌, suc, List, [], ◌∷◌, ◌++◌, length, arith, Bool, true, false, cond, Option, Some, None, is_some, refl, sym, ap, ◌∙◌, ◌⊎◌, inl, inr}
 use Rattle.std.specs.Prelude.{option_map, slice_get, bytes_eq}
 use Rattle.std.specs.List.{list_any}
 use Rattle.std.proofs.lemmas.Option.{same_Some}
@@ -42,6 +42,20 @@ apart a b f = elim (cases_Bool (bytes_eq b a)) [
 is_none : (a : Option ℕ) → is_some a ≡ false → a ≡ None
 is_none None h = refl
 is_none (Some a) h = cc
+
+-- in names with one more behind them a name has the place that it had, or it is that one
+pub place_pushed : (name : List ℕ) (ns : List (List ℕ)) (n : List ℕ) (p : ℕ) → place_of name (ns ++ n ∷ []) ≡ Some p → (place_of name ns ≡ Some p) ⊎ ((p ≡ length ns) × (name ≡ n))
+place_pushed name ns n p h = by (place_of name ns) refl (bytes_eq name n) refl
+  where
+    by : (o : Option ℕ) → place_of name ns ≡ o → (b : Bool) → bytes_eq name n ≡ b → (place_of name ns ≡ Some p) ⊎ ((p ≡ length ns) × (name ≡ n))
+    by (Some q) e b t = inl (e ∙ sym (ap (λ (o : Option ℕ). or_else o (cond (bytes_eq name n) (Some (length ns)) None)) e) ∙ sym (place_push name ns n) ∙ h)
+    by None e true t =
+        let q : Some (length ns) ≡ Some p =
+        sym (ap (λ (o : Option ℕ). or_else o (cond (bytes_eq name n) (Some (length ns)) None)) e ∙ ap (λ (b : Bool). cond b (Some (length ns)) None) t) ∙ sym (place_push name ns n) ∙ h in
+        inr (sym (same_Some (length ns) p q), (bytes_eq-Decides name n).0 t)
+    by None e false t =
+        absurd (let q : None ≡ Some p =
+        sym (ap (λ (o : Option ℕ). or_else o (cond (bytes_eq name n) (Some (length ns)) None)) e ∙ ap (λ (b : Bool). cond b (Some (length ns)) None) t) ∙ sym (place_push name ns n) ∙ h in cc)
 
 module _ (ns : List (List ℕ)) (n : List ℕ) (old : List ℕ → Option ℕ) (right : (name : List ℕ) → old name ≡ place_of name ns) where
   -- a name that is there keeps its place

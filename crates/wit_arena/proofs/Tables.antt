@@ -3,7 +3,8 @@ use Rattle.std.proofs.Common.{◌≡◌, ℕ, Bool, true, false, cond, List, [],
 use Rattle.std.proofs.lemmas.Option.{same_Some}
 use Rattle.std.proofs.lemmas.Slice.Eq.{bytes_eq-Decides}
 use Rattle.std.proofs.lemmas.List.{map_push}
-use Rattle.std.specs.Prelude.{bytes_eq}
+use Rattle.std.specs.Prelude.{bytes_eq, map}
+use Rattle.std.specs.Bool.{Decides}
 use Rattle.std.specs.Map.{lookup}
 use Rattle.wit_arena.specs.Tree.{Name}
 use Rattle.wit_arena.specs.Meaning.{Has}
@@ -38,27 +39,43 @@ none_lookup {K} {V} test (d ∷ es) h =
       | inr f ↦ ap (λ (b : Bool). cond b (Some d.1) (lookup test es)) f ∙ none_lookup test es (λ e k. h e (has_later d es e k))
     ]
 
+-- entries of which some test finds those of one name
+module _ {K N : Type 0} (view : K → N) (n : N) (test : K → Bool) (decides : (k : K) → Decides (test k) (n ≡ view k)) where
+  abbrev viewed : List (K × ℕ) → List (N × ℕ)
+  viewed es = map (λ e. (view e.0, e.1)) es
+
+  pub keyed_found : (table : List (N × ℕ)) (es : List (K × ℕ)) (v : ℕ) → viewed es ≡ table → lookup test es ≡ Some v → Has table (n, v)
+  keyed_found table es v is h =
+      let r = lookup_some test es v h in
+      subst (λ (t : List (N × ℕ)). Has t (n, v)) is
+      (subst (λ (m : N). Has (viewed es) (m, v)) (sym ((decides r.0).0 r.2)) (has_map (λ (e : K × ℕ). (view e.0, e.1)) es (r.0, v) r.1))
+
+  pub keyed_none : (table : List (N × ℕ)) (es : List (K × ℕ)) (v : ℕ) → viewed es ≡ table → lookup test es ≡ None → Has table (n, v) → ⊥
+  keyed_none table es v is none has =
+      let m = map_has (λ (e : K × ℕ). (view e.0, e.1)) es (n, v) (subst (λ (t : List (N × ℕ)). Has t (n, v)) (sym is) has) in
+      let f : test m.0.0 ≡ false = lookup_none test es m.0 none m.1 in
+      let t : test m.0.0 ≡ true = (decides m.0.0).1 (ap (λ (p : N × ℕ). p.0) m.2) in
+      cc
+
+  pub keyed_absent : (table : List (N × ℕ)) (es : List (K × ℕ)) → viewed es ≡ table → ((v : ℕ) → Has table (n, v) → ⊥) → lookup test es ≡ None
+  keyed_absent table es is fresh =
+      none_lookup test es (λ e has t. fresh e.1 (subst (λ (ns : List (N × ℕ)). Has ns (n, e.1)) is
+      (subst (λ (m : N). Has (viewed es) (m, e.1)) (sym ((decides e.0).0 t)) (has_map (λ (e : K × ℕ). (view e.0, e.1)) es e has))))
+
+abbrev at_name : Name → Bor (List ℕ) → Bool
+at_name name k = bytes_eq name k.now
+
 pub entry_found : (table : List (Name × ℕ)) (es : List (Bor (List ℕ) × ℕ)) (name : Name) (v : ℕ) → entries_of es ≡ table
     → lookup (λ k. bytes_eq name k.now) es ≡ Some v → Has table (name, v)
-entry_found table es name v view h =
-    let r = lookup_some (λ (k : Bor (List ℕ)). bytes_eq name k.now) es v h in
-    let e : name ≡ r.0.now = (bytes_eq-Decides name r.0.now).0 r.2 in
-    subst (λ (t : List (Name × ℕ)). Has t (name, v)) view
-    (subst (λ (n : Name). Has (entries_of es) (n, v)) (sym e) (has_map (λ (e : Bor (List ℕ) × ℕ). (e.0.now, e.1)) es (r.0, v) r.1))
+entry_found table es name v is h = keyed_found (λ (k : Bor (List ℕ)). k.now) name (at_name name) (λ k. bytes_eq-Decides name k.now) table es v is h
 
 pub entry_none : (table : List (Name × ℕ)) (es : List (Bor (List ℕ) × ℕ)) (name : Name) (v : ℕ) → entries_of es ≡ table
     → lookup (λ k. bytes_eq name k.now) es ≡ None → Has table (name, v) → ⊥
-entry_none table es name v view none has =
-    let m = map_has (λ (e : Bor (List ℕ) × ℕ). (e.0.now, e.1)) es (name, v) (subst (λ (t : List (Name × ℕ)). Has t (name, v)) (sym view) has) in
-    let f : bytes_eq name m.0.0.now ≡ false = lookup_none (λ (k : Bor (List ℕ)). bytes_eq name k.now) es m.0 none m.1 in
-    let t : bytes_eq name m.0.0.now ≡ true = (bytes_eq-Decides name m.0.0.now).1 (ap (λ (p : Name × ℕ). p.0) m.2) in
-    cc
+entry_none table es name v is none has = keyed_none (λ (k : Bor (List ℕ)). k.now) name (at_name name) (λ k. bytes_eq-Decides name k.now) table es v is none has
 
 pub entry_absent : (table : List (Name × ℕ)) (es : List (Bor (List ℕ) × ℕ)) (name : Name) → entries_of es ≡ table
     → ((v : ℕ) → Has table (name, v) → ⊥) → lookup (λ k. bytes_eq name k.now) es ≡ None
-entry_absent table es name view fresh =
-    none_lookup (λ (k : Bor (List ℕ)). bytes_eq name k.now) es (λ e has t. fresh e.1 (subst (λ (ns : List (Name × ℕ)). Has ns (name, e.1)) view
-    (subst (λ (n : Name). Has (entries_of es) (n, e.1)) (sym ((bytes_eq-Decides name e.0.now).0 t)) (has_map (λ (e : Bor (List ℕ) × ℕ). (e.0.now, e.1)) es e has))))
+entry_absent table es name is fresh = keyed_absent (λ (k : Bor (List ℕ)). k.now) name (at_name name) (λ k. bytes_eq-Decides name k.now) table es is fresh
 
 pub entries_push : (es : List (Bor (List ℕ) × ℕ)) (e : Bor (List ℕ) × ℕ) → entries_of (es ++ e ∷ []) ≡ entries_of es ++ (e.0.now, e.1) ∷ []
 entries_push es e = map_push (λ (e : Bor (List ℕ) × ℕ). (e.0.now, e.1)) es e

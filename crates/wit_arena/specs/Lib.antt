@@ -6,5 +6,6 @@ pub mod Table
 pub mod Lower
 pub mod Docs
 pub mod LowerKind
+pub mod LowerParams
 pub mod Unfold
 pub mod Standing

@@ -18,8 +18,8 @@ use crate::types::Types;
 use std::alloc::AllocError;
 use wit_types::{Case, Enum, EnumCase, Field, Flag, Flags, Record, Type, TypeDefKind, Variant};
 
-/// What stands in a definition under a name of its own: a field, a flag, a case.
-trait Part<'a>: Sized + Drop {
+/// What stands under a name of its own in a definition or a function: a field, a flag, a case, a parameter.
+pub trait Part<'a>: Sized + Drop {
     /// The same as it is written.
     type Written;
 
@@ -147,7 +147,7 @@ impl<'a> Part<'a> for Case {
 }
 
 /// The type in the arena, if there is one.
-fn lower_optional(
+pub fn lower_optional(
     types: &mut Types,
     table: &Table<'_>,
     ty: &Option<wit_syntax::Type<'_>>,
@@ -161,8 +161,8 @@ fn lower_optional(
     }
 }
 
-/// What stands in a definition, from left to right.
-fn bring_all<'a, T: Part<'a>>(
+/// What stands in a definition or a function, from left to right.
+pub fn bring_all<'a, T: Part<'a>>(
     types: &mut Types,
     table: &Table<'_>,
     items: &[T::Written],

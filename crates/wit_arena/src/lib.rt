@@ -3,6 +3,7 @@
 
 mod definitions;
 mod docs;
+mod functions;
 mod law;
 mod lowering;
 mod shape;
@@ -11,6 +12,7 @@ mod types;
 
 pub use definitions::lower_kind;
 pub use docs::docs_of;
+pub use functions::{lower_borrow, lower_own, lower_params, lower_result};
 pub use law::{
     law_types_mean_one_tree, law_types_stand_for_their_meaning, law_unnamed_types_are_one,
 };

@@ -41,7 +41,7 @@ fn primitive(kind: &TypeKind<'_>) -> Option<Type>
 }
 
 /// What stands under a name that is there.
-fn id_of(table: &Table<'_>, name: &Id<'_>) -> TypeId
+pub fn id_of(table: &Table<'_>, name: &Id<'_>) -> TypeId
     requires { AreThere table.now (id name.now ∷ []) }
     ensures { Has table.now (name.now.name.now, result) }
 {

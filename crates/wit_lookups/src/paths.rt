@@ -1,6 +1,6 @@
 //! Paths, and what is used from where they lead.
 
-ghost use Rattle.std.specs.Prelude.{◌≡◌, map, slice_get, Some, OnOk, IfErr};
+ghost use Rattle.std.specs.Prelude.{◌≡◌, map, slice_get, Some, IfOk, OnOk, IfErr};
 ghost use Rattle.wit_syntax.specs.AstView as view;
 ghost use Rattle.wit_scopes.specs.View as scope_view;
 ghost use Rattle.wit_rules.specs.Breaks.{IsKept, IsFaultOf};
@@ -11,9 +11,9 @@ ghost use Rattle.wit_lookups.specs.View as seen;
 use crate::found::{Found, check_found};
 use crate::names::{PackageNames, has_name, is_one_of, other_names};
 use name_places::FirstPlaces;
-use std::alloc::Global;
+use std::alloc::{AllocError, Global};
 use wit_rules::PackageFault;
-use wit_scopes::{ItemScope, Target};
+use wit_scopes::{ItemScope, Member, Target};
 use wit_syntax::Id;
 
 /// What is found under a name where an interface is asked for.
@@ -108,16 +108,25 @@ pub fn check_item_path(
     }
 }
 
-/// What is found under a name where a type is asked for that is used from elsewhere.
-fn found_in(types: &FirstPlaces<'_>, others: &[&str], name: &str) -> Found
-    ensures { result ≡ spec.found_type types.now (seen.texts others.now) name.now }
+/// What is found under a name where a type is asked for that is used from elsewhere: these are the members there, and these
+/// their types.
+fn found_in(
+    alloc: Global,
+    members: &[Member<'_>],
+    types: &FirstPlaces<'_>,
+    name: &str,
+) -> Result<Found, AllocError>
+    ensures { IfOk result (λ f. f ≡ spec.found_type types.now (names.other_names (scope_view.members members.now)) name.now) }
 {
     if has_name(types, name) {
-        Found::There
-    } else if is_one_of(others, name) {
-        Found::OfAnotherKind
+        return Ok(Found::There);
+    }
+    // What else is there is looked through only where the name is refused.
+    let others = other_names(alloc, members)?;
+    if is_one_of(others.as_slice(), name) {
+        Ok(Found::OfAnotherKind)
     } else {
-        Found::Missing
+        Ok(Found::Missing)
     }
 }
 
@@ -134,8 +143,8 @@ fn check_type_of_item(
 {
     match item {
         ItemScope::Interface(interface) => {
-            let others = other_names(alloc, interface.members.as_slice())?;
-            check_found(found_in(types, others.as_slice(), name.name), name)
+            let found = found_in(alloc, interface.members.as_slice(), types, name.name)?;
+            check_found(found, name)
         }
         ItemScope::World(_) => Ok(()),
     }

@@ -1,9 +1,9 @@
 -- Rows of places, and the needs for which they stand.
-use Rattle.std.proofs.Common.{◌≡◌, ℕ, ◌<◌, ◌≤◌, zero, suc, List, [], ◌∷◌, ◌++◌, Result, ◌⊎◌, ◌↔◌, Option, Some, None, map, length, inl, inr, refl, sym, subst, ap, ◌∙◌, arith}
+use Rattle.std.proofs.Common.{◌≡◌, ℕ, ◌<◌, ◌≤◌, ◌+◌, zero, suc, List, [], ◌∷◌, ◌++◌, Result, ◌⊎◌, ◌↔◌, Option, Some, None, map, take, get_or, length, inl, inr, refl, sym, subst, ap, ◌∙◌, arith}
 use Rattle.std.specs.Prelude.{slice_get, slice_index, Vec, IfOk}
 use Rattle.std.specs.declared.alloc.Global.{Global}
-use Rattle.std.proofs.lemmas.List.{length-map}
-use Rattle.std.proofs.lemmas.Option.{slice_get_cases}
+use Rattle.std.proofs.lemmas.List.{length-map, map_push}
+use Rattle.std.proofs.lemmas.Option.{slice_get_cases, slice_get-get_or}
 use Rattle.name_places.specs.FirstPlaces.{place_of}
 use Rattle.name_places.proofs.Places.{place_within}
 use Rattle.wit_words.specs.Slice.{Slice}
@@ -15,7 +15,9 @@ use Rattle.wit_rules.specs.declared.fault.PackageRule.TheVariants.{Cycle}
 use Rattle.wit_rules.specs.declared.fault.PackageFault.{PackageFault}
 use Rattle.wit_rules.specs.declared.fault.PackageFault.TheVariants.{Broken}
 use Rattle.wit_rules.specs.Breaks.{IsKept, IsFaultOf}
-use Rattle.wit_orders.specs.Needs.{Name, Entry, labels, NeedsIn, CircleBreaks, IsOrderOf}
+use Rattle.wit_rules.proofs.Places.{taken}
+use Rattle.wit_scopes.specs.Members.{MemberTree}
+use Rattle.wit_orders.specs.Needs.{Name, Entry, labels, NeedsIn, CircleBreaks, IsOrderOf, AreAt}
 use Rattle.wit_orders.specs.Rows.{some_place, places_in, row_of, AreRows}
 
 -- ---- the places of names
@@ -127,3 +129,11 @@ module _ (es : List Entry) (rows : Rows) (are : AreRows es rows) where
 -- what an order says, where there is one
 abbrev pub IsOrdered : List Entry → Result (Vec ℕ Global) PackageFault → Type 0
 IsOrdered es r = IfOk r (λ o. IsOrderOf es o.items × IsKept (CircleBreaks es))
+
+-- the members at the first places, and at one more
+pub at_more : (ms : List MemberTree) (places : List ℕ) (i : ℕ) (found : List MemberTree) (m : MemberTree) → i < length places → AreAt ms (take i places) found → slice_get ms (get_or places i 0) ≡ Some m
+    → AreAt ms (take (i + 1) places) (found ++ m ∷ [])
+at_more ms places i found m within are there =
+    ap (map (slice_get ms)) (taken places i (get_or places i 0) (slice_get-get_or places i 0 within)) ∙ map_push (slice_get ms) (take i places) (get_or places i 0)
+    ∙ ap (λ (os : List (Option MemberTree)). os ++ slice_get ms (get_or places i 0) ∷ []) are ∙ ap (λ (o : Option MemberTree). map (λ (n : MemberTree). Some n) found ++ o ∷ []) there
+    ∙ sym (map_push (λ (n : MemberTree). Some n) found m)

@@ -76,6 +76,14 @@ world_types ms = flat_map world_member_type ms
 abbrev pub type_entry : MemberTree → Entry
 type_entry m = record { label = m.name; needs = names_in_member m.kind }
 
+-- the members at these places
+abbrev pub AreAt : List MemberTree → List ℕ → List MemberTree → Type 0
+AreAt ms places found = map (slice_get ms) places ≡ map (λ m. Some m) found
+
+-- the types of a scope in their order
+abbrev pub AreSorted : List MemberTree → List MemberTree → Type 0
+AreSorted types sorted = (order : List ℕ) × IsOrderOf (map type_entry types) order × AreAt types order sorted
+
 -- ---- interfaces and worlds
 
 abbrev pub own_names : TargetTree → List Slice

@@ -1,6 +1,7 @@
 //! The types of scopes, and their orders.
 
-ghost use Rattle.std.specs.Prelude.{◌≡◌, ◌++◌, map, IfOk, OnOk, IfErr};
+ghost use Rattle.std.specs.Prelude.{◌≡◌, ◌<◌, ℕ, ◌++◌, Some, map, length, slice_get, IfOk, OnOk, IfErr};
+ghost use Rattle.wit_order.specs.Order.{Has};
 ghost use Rattle.wit_scopes.specs.View as scope_view;
 ghost use Rattle.wit_rules.specs.Breaks.{IsKept, IsFaultOf};
 ghost use Rattle.wit_orders.specs.Needs as spec;
@@ -82,4 +83,42 @@ pub fn type_order<'a>(alloc: Global, types: &[Member<'a>]) -> Result<Vec<usize>,
 {
     let entries = type_entries(alloc, types)?;
     order_of(alloc, entries.as_slice())
+}
+
+/// The member at a place.
+fn member_at<'a>(members: &[Member<'a>], place: usize) -> Member<'a>
+    requires { place < length members.now }
+    ensures { slice_get (scope_view.members members.now) place ≡ Some (scope_view.member result) }
+{
+    members[place]
+}
+
+/// The members at these places.
+fn members_at<'a>(
+    alloc: Global,
+    members: &[Member<'a>],
+    places: &[usize],
+) -> Result<Vec<Member<'a>>, AllocError>
+    requires { (place : ℕ) → Has places.now place → place < length members.now }
+    ensures { IfOk result (λ v. spec.AreAt (scope_view.members members.now) places.now (scope_view.members v.items)) }
+{
+    let mut found = Vec::new(alloc);
+    for place in places {
+        found.push(member_at(members, *place))?;
+    }
+    Ok(found)
+}
+
+/// The types of a scope, each behind all that its definition names, in the least of such orders; or P6 at the name of a type
+/// that leads back to itself.
+pub fn sorted_types<'a>(
+    alloc: Global,
+    types: &[Member<'a>],
+) -> Result<Vec<Member<'a>>, PackageFault>
+    ensures ok { IfOk result (λ v. spec.AreSorted (scope_view.members types.now) (scope_view.members v.items) × IsKept (spec.CircleBreaks (map spec.type_entry (scope_view.members types.now)))) }
+    ensures cause { IfErr result (IsFaultOf (spec.CircleBreaks (map spec.type_entry (scope_view.members types.now)))) }
+{
+    let order = type_order(alloc, types)?;
+    let sorted = members_at(alloc, types, order.as_slice())?;
+    Ok(sorted)
 }

@@ -5,3 +5,4 @@ pub mod Checking
 pub mod Kept
 pub mod Named
 pub mod Refused
+pub mod Apart

@@ -49,6 +49,49 @@ abbrev mutual
 abbrev pub names_in_parts : List TypeOption → List Slice
 names_in_parts ps = flat_map names_in_part ps
 
+-- ---- the names that handles name
+
+abbrev mutual
+  pub handles_in : TypeTree → List Slice
+  handles_in (standing s sh) = handles_in_shape sh
+
+  pub handles_in_shape : TypeShape → List Slice
+  handles_in_shape written.bool = []
+  handles_in_shape written.u8 = []
+  handles_in_shape written.u16 = []
+  handles_in_shape written.u32 = []
+  handles_in_shape written.u64 = []
+  handles_in_shape written.s8 = []
+  handles_in_shape written.s16 = []
+  handles_in_shape written.s32 = []
+  handles_in_shape written.s64 = []
+  handles_in_shape written.f32 = []
+  handles_in_shape written.f64 = []
+  handles_in_shape written.char = []
+  handles_in_shape written.string = []
+  handles_in_shape written.error_context = []
+  handles_in_shape (written.named x) = []
+  handles_in_shape (written.list t) = handles_in t
+  handles_in_shape (written.fixed_length_list t n) = handles_in t
+  handles_in_shape (written.option t) = handles_in t
+  handles_in_shape (written.tuple ts) = handles_in_row ts
+  handles_in_shape (written.result ok err) = handles_in_part ok ++ handles_in_part err
+  handles_in_shape (written.own x) = x ∷ []
+  handles_in_shape (written.borrow x) = x ∷ []
+  handles_in_shape (written.future t) = handles_in_part t
+  handles_in_shape (written.stream t) = handles_in_part t
+
+  pub handles_in_part : TypeOption → List Slice
+  handles_in_part written.no_type = []
+  handles_in_part (written.a_type t) = handles_in t
+
+  pub handles_in_row : TypeRow → List Slice
+  handles_in_row written.no_types = []
+  handles_in_row (written.types t ts) = handles_in t ++ handles_in_row ts
+
+abbrev pub handles_in_parts : List TypeOption → List Slice
+handles_in_parts ps = flat_map handles_in_part ps
+
 -- ---- the types that stand in members
 
 abbrev pub param_parts : List ParamTree → List TypeOption
@@ -88,3 +131,7 @@ names_in_func f = names_in_parts (signature_parts f.params f.result)
 -- the names that stand in a member
 abbrev pub names_in_member : MemberKind → List Slice
 names_in_member k = names_in_parts (member_parts k)
+
+-- those that `own` or `borrow` names
+abbrev pub handles_in_member : MemberKind → List Slice
+handles_in_member k = handles_in_parts (member_parts k)

@@ -1,4 +1,4 @@
-//! The names that stand in types.
+//! The names that stand in types, and which of them handles name.
 
 ghost use Rattle.std.specs.Prelude.{◌≡◌, ◌∷◌, ◌++◌, [], map, option_map, IfOk, OnOk};
 ghost use Rattle.wit_syntax.specs.AstView as view;
@@ -12,22 +12,38 @@ use crate::members::MemberKind;
 use std::alloc::{AllocError, Global};
 use wit_syntax::{Case, Field, Func, Id, Param, Type, TypeDefKind, TypeKind};
 
+/// The names that stand in types, from left to right.
+#[derive(Drop)]
+struct TypeNames<'a> {
+    /// All of them.
+    names: Vec<Id<'a>>,
+    /// Those that `own` or `borrow` names.
+    handles: Vec<Id<'a>>,
+}
+
 /// Adds the names that stand in a type, from left to right.
 #[cycle(type_names)]
-pub fn add_type_names<'a>(found: &mut Vec<Id<'a>>, ty: &Type<'a>) -> Result<(), AllocError>
-    ensures { OnOk result (map view.id found.new.items ≡ map view.id found.old.items ++ spec.names_in (type_tree ty.now)) }
+fn add_type_names<'a>(found: &mut TypeNames<'a>, ty: &Type<'a>) -> Result<(), AllocError>
+    ensures names { OnOk result (map view.id found.new.names.items ≡ map view.id found.old.names.items ++ spec.names_in (type_tree ty.now)) }
+    ensures handles { OnOk result (map view.id found.new.handles.items ≡ map view.id found.old.handles.items ++ spec.handles_in (type_tree ty.now)) }
 {
     add_kind_names(found, &ty.kind)
 }
 
 /// Adds the names that stand in what a type is.
 #[cycle(type_names)]
-fn add_kind_names<'a>(found: &mut Vec<Id<'a>>, kind: &TypeKind<'a>) -> Result<(), AllocError>
-    ensures { OnOk result (map view.id found.new.items ≡ map view.id found.old.items ++ spec.names_in_shape (type_shape kind.now)) }
+fn add_kind_names<'a>(found: &mut TypeNames<'a>, kind: &TypeKind<'a>) -> Result<(), AllocError>
+    ensures names { OnOk result (map view.id found.new.names.items ≡ map view.id found.old.names.items ++ spec.names_in_shape (type_shape kind.now)) }
+    ensures handles { OnOk result (map view.id found.new.handles.items ≡ map view.id found.old.handles.items ++ spec.handles_in_shape (type_shape kind.now)) }
 {
     match kind {
-        TypeKind::Name(name) | TypeKind::Own(name) | TypeKind::Borrow(name) => {
-            found.push(*name)?;
+        TypeKind::Name(name) => {
+            found.names.push(*name)?;
+            Ok(())
+        }
+        TypeKind::Own(name) | TypeKind::Borrow(name) => {
+            found.names.push(*name)?;
+            found.handles.push(*name)?;
             Ok(())
         }
         TypeKind::List(part) | TypeKind::FixedLengthList(part, _) | TypeKind::Option(part) => {
@@ -46,10 +62,11 @@ fn add_kind_names<'a>(found: &mut Vec<Id<'a>>, kind: &TypeKind<'a>) -> Result<()
 /// Adds the names that stand in a part that may be missing.
 #[cycle(type_names)]
 fn add_part_names<'a>(
-    found: &mut Vec<Id<'a>>,
+    found: &mut TypeNames<'a>,
     part: &Option<Box<Type<'a>>>,
 ) -> Result<(), AllocError>
-    ensures { OnOk result (map view.id found.new.items ≡ map view.id found.old.items ++ spec.names_in_part (part_tree part.now)) }
+    ensures names { OnOk result (map view.id found.new.names.items ≡ map view.id found.old.names.items ++ spec.names_in_part (part_tree part.now)) }
+    ensures handles { OnOk result (map view.id found.new.handles.items ≡ map view.id found.old.handles.items ++ spec.handles_in_part (part_tree part.now)) }
 {
     match part {
         Some(ty) => add_type_names(found, ty),
@@ -59,8 +76,9 @@ fn add_part_names<'a>(
 
 /// Adds the names that stand in types, from left to right.
 #[cycle(type_names)]
-fn add_row_names<'a>(found: &mut Vec<Id<'a>>, parts: &[Type<'a>]) -> Result<(), AllocError>
-    ensures { OnOk result (map view.id found.new.items ≡ map view.id found.old.items ++ spec.names_in_row (row (map type_tree parts.now))) }
+fn add_row_names<'a>(found: &mut TypeNames<'a>, parts: &[Type<'a>]) -> Result<(), AllocError>
+    ensures names { OnOk result (map view.id found.new.names.items ≡ map view.id found.old.names.items ++ spec.names_in_row (row (map type_tree parts.now))) }
+    ensures handles { OnOk result (map view.id found.new.handles.items ≡ map view.id found.old.handles.items ++ spec.handles_in_row (row (map type_tree parts.now))) }
 {
     for part in parts {
         add_type_names(found, part)?;
@@ -73,14 +91,15 @@ trait Typed<'a> {
     ghost part: { Self → TypeOption };
 
     /// Adds the names that stand in it.
-    fn add_names(&self, found: &mut Vec<Id<'a>>) -> Result<(), AllocError>
-        ensures { OnOk result (map view.id found.new.items ≡ map view.id found.old.items ++ spec.names_in_part (part self.now)) };
+    fn add_names(&self, found: &mut TypeNames<'a>) -> Result<(), AllocError>
+        ensures names { OnOk result (map view.id found.new.names.items ≡ map view.id found.old.names.items ++ spec.names_in_part (part self.now)) }
+        ensures handles { OnOk result (map view.id found.new.handles.items ≡ map view.id found.old.handles.items ++ spec.handles_in_part (part self.now)) };
 }
 
 impl<'a> Typed<'a> for Param<'a> {
     ghost part = { λ p. a_type (type_tree p.ty) };
 
-    fn add_names(&self, found: &mut Vec<Id<'a>>) -> Result<(), AllocError> {
+    fn add_names(&self, found: &mut TypeNames<'a>) -> Result<(), AllocError> {
         add_type_names(found, &self.ty)
     }
 }
@@ -88,7 +107,7 @@ impl<'a> Typed<'a> for Param<'a> {
 impl<'a> Typed<'a> for Field<'a> {
     ghost part = { λ f. a_type (type_tree f.ty) };
 
-    fn add_names(&self, found: &mut Vec<Id<'a>>) -> Result<(), AllocError> {
+    fn add_names(&self, found: &mut TypeNames<'a>) -> Result<(), AllocError> {
         add_type_names(found, &self.ty)
     }
 }
@@ -96,14 +115,15 @@ impl<'a> Typed<'a> for Field<'a> {
 impl<'a> Typed<'a> for Case<'a> {
     ghost part = { λ c. opt (option_map type_tree c.ty) };
 
-    fn add_names(&self, found: &mut Vec<Id<'a>>) -> Result<(), AllocError> {
+    fn add_names(&self, found: &mut TypeNames<'a>) -> Result<(), AllocError> {
         add_result_names(found, &self.ty)
     }
 }
 
 /// Adds the names that stand in these, in their order.
-fn add_all<'a, T: Typed<'a>>(found: &mut Vec<Id<'a>>, items: &[T]) -> Result<(), AllocError>
-    ensures { OnOk result (map view.id found.new.items ≡ map view.id found.old.items ++ spec.names_in_parts (map T.part items.now)) }
+fn add_all<'a, T: Typed<'a>>(found: &mut TypeNames<'a>, items: &[T]) -> Result<(), AllocError>
+    ensures names { OnOk result (map view.id found.new.names.items ≡ map view.id found.old.names.items ++ spec.names_in_parts (map T.part items.now)) }
+    ensures handles { OnOk result (map view.id found.new.handles.items ≡ map view.id found.old.handles.items ++ spec.handles_in_parts (map T.part items.now)) }
 {
     for item in items {
         item.add_names(found)?;
@@ -112,8 +132,9 @@ fn add_all<'a, T: Typed<'a>>(found: &mut Vec<Id<'a>>, items: &[T]) -> Result<(),
 }
 
 /// Adds the names that stand in a type, if there is one.
-fn add_result_names<'a>(found: &mut Vec<Id<'a>>, ty: &Option<Type<'a>>) -> Result<(), AllocError>
-    ensures { OnOk result (map view.id found.new.items ≡ map view.id found.old.items ++ spec.names_in_part (opt (option_map type_tree ty.now))) }
+fn add_result_names<'a>(found: &mut TypeNames<'a>, ty: &Option<Type<'a>>) -> Result<(), AllocError>
+    ensures names { OnOk result (map view.id found.new.names.items ≡ map view.id found.old.names.items ++ spec.names_in_part (opt (option_map type_tree ty.now))) }
+    ensures handles { OnOk result (map view.id found.new.handles.items ≡ map view.id found.old.handles.items ++ spec.handles_in_part (opt (option_map type_tree ty.now))) }
 {
     match ty {
         Some(ty) => add_type_names(found, ty),
@@ -123,10 +144,11 @@ fn add_result_names<'a>(found: &mut Vec<Id<'a>>, ty: &Option<Type<'a>>) -> Resul
 
 /// Adds the names that stand in a definition: none of a resource, whose functions are members of their own.
 fn add_definition_names<'a>(
-    found: &mut Vec<Id<'a>>,
+    found: &mut TypeNames<'a>,
     kind: &TypeDefKind<'a>,
 ) -> Result<(), AllocError>
-    ensures { OnOk result (map view.id found.new.items ≡ map view.id found.old.items ++ spec.names_in_parts (spec.definition_parts (view.type_def_kind kind.now))) }
+    ensures names { OnOk result (map view.id found.new.names.items ≡ map view.id found.old.names.items ++ spec.names_in_parts (spec.definition_parts (view.type_def_kind kind.now))) }
+    ensures handles { OnOk result (map view.id found.new.handles.items ≡ map view.id found.old.handles.items ++ spec.handles_in_parts (spec.definition_parts (view.type_def_kind kind.now))) }
 {
     match kind {
         TypeDefKind::Alias(ty) => add_type_names(found, ty),
@@ -138,19 +160,21 @@ fn add_definition_names<'a>(
 
 /// Adds the names that stand in parameters and a result.
 fn add_signature_names<'a>(
-    found: &mut Vec<Id<'a>>,
+    found: &mut TypeNames<'a>,
     params: &[Param<'a>],
     answer: &Option<Type<'a>>,
 ) -> Result<(), AllocError>
-    ensures { OnOk result (map view.id found.new.items ≡ map view.id found.old.items ++ spec.names_in_parts (spec.signature_parts (map view.param params.now) (option_map type_tree answer.now))) }
+    ensures names { OnOk result (map view.id found.new.names.items ≡ map view.id found.old.names.items ++ spec.names_in_parts (spec.signature_parts (map view.param params.now) (option_map type_tree answer.now))) }
+    ensures handles { OnOk result (map view.id found.new.handles.items ≡ map view.id found.old.handles.items ++ spec.handles_in_parts (spec.signature_parts (map view.param params.now) (option_map type_tree answer.now))) }
 {
     add_all(found, params)?;
     add_result_names(found, answer)
 }
 
 /// Adds the names that stand in a member.
-fn add_member_names<'a>(found: &mut Vec<Id<'a>>, kind: &MemberKind<'a>) -> Result<(), AllocError>
-    ensures { OnOk result (map view.id found.new.items ≡ map view.id found.old.items ++ spec.names_in_member (seen.member_kind kind.now)) }
+fn add_member_names<'a>(found: &mut TypeNames<'a>, kind: &MemberKind<'a>) -> Result<(), AllocError>
+    ensures names { OnOk result (map view.id found.new.names.items ≡ map view.id found.old.names.items ++ spec.names_in_member (seen.member_kind kind.now)) }
+    ensures handles { OnOk result (map view.id found.new.handles.items ≡ map view.id found.old.handles.items ++ spec.handles_in_member (seen.member_kind kind.now)) }
 {
     match *kind {
         MemberKind::Used { .. } => Ok(()),
@@ -166,6 +190,17 @@ fn add_member_names<'a>(found: &mut Vec<Id<'a>>, kind: &MemberKind<'a>) -> Resul
     }
 }
 
+/// No names.
+fn no_names<'a>(alloc: Global) -> TypeNames<'a>
+    ensures names { result.names.items ≡ [] }
+    ensures handles { result.handles.items ≡ [] }
+{
+    TypeNames {
+        names: Vec::new(alloc),
+        handles: Vec::new(alloc),
+    }
+}
+
 /// The names that stand in the types of a member: in a definition, or in the parameters and the result of a function.
 pub fn member_type_names<'a>(
     alloc: Global,
@@ -173,16 +208,31 @@ pub fn member_type_names<'a>(
 ) -> Result<Vec<Id<'a>>, AllocError>
     ensures { IfOk result (λ v. map view.id v.items ≡ spec.names_in_member (seen.member_kind kind.now)) }
 {
-    let mut found = Vec::new(alloc);
+    let mut found = no_names(alloc);
     add_member_names(&mut found, kind)?;
-    Ok(found)
+    let TypeNames { names, .. } = found;
+    Ok(names)
+}
+
+/// The names in the types of a member that `own` or `borrow` names.
+pub fn member_handle_names<'a>(
+    alloc: Global,
+    kind: &MemberKind<'a>,
+) -> Result<Vec<Id<'a>>, AllocError>
+    ensures { IfOk result (λ v. map view.id v.items ≡ spec.handles_in_member (seen.member_kind kind.now)) }
+{
+    let mut found = no_names(alloc);
+    add_member_names(&mut found, kind)?;
+    let TypeNames { handles, .. } = found;
+    Ok(handles)
 }
 
 /// The names that stand in parameters and a result.
 pub fn func_type_names<'a>(alloc: Global, func: &Func<'a>) -> Result<Vec<Id<'a>>, AllocError>
     ensures { IfOk result (λ v. map view.id v.items ≡ spec.names_in_func (view.func func.now)) }
 {
-    let mut found = Vec::new(alloc);
+    let mut found = no_names(alloc);
     add_signature_names(&mut found, func.params.as_slice(), &func.result)?;
-    Ok(found)
+    let TypeNames { names, .. } = found;
+    Ok(names)
 }

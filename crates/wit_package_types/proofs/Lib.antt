@@ -1,0 +1,5 @@
+pub mod Paths
+pub mod Finding
+pub mod Filling
+pub mod Filled
+pub mod Functional

@@ -1,0 +1,5 @@
+pub mod Stability
+pub mod Foreign
+pub mod Known
+pub mod Fill
+pub mod Standing

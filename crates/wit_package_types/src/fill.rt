@@ -1,0 +1,79 @@
+//! The types of a scope.
+
+ghost use Rattle.std.specs.Prelude.{◌≡◌, map, IfOk};
+ghost use Rattle.wit_scopes.specs.View as scope_view;
+ghost use Rattle.wit_package_types.specs.Stability.{AreGates};
+ghost use Rattle.wit_package_types.specs.Fill as spec;
+
+use crate::docs::docs_behind;
+use crate::known::Known;
+use crate::stability::stability_of;
+use std::alloc::AllocError;
+use wit_arena::{Table, Types, lower_kind};
+use wit_scopes::{Member, MemberKind};
+use wit_types::{Type, TypeDef, TypeDefKind, TypeId, TypeOwner};
+
+/// What a type of a scope is in the arena, behind the types that stand in it.
+fn kind_in<'a>(
+    types: &mut Types,
+    known: &Known<'a>,
+    table: &Table<'a>,
+    kind: &MemberKind<'a>,
+) -> Result<TypeDefKind, AllocError>
+    requires { spec.IsFound known.now (spec.names_of table.now) (scope_view.member_kind kind.now) }
+    ensures { IfOk result (λ k. spec.GivesKind known.now table.now types.old (scope_view.member_kind kind.now) types.new k) }
+{
+    match kind {
+        MemberKind::Defined(kind) => Ok(lower_kind(types, table, kind)?),
+        MemberKind::Used { from, name } => match known.get(from, name) {
+            Some(id) => Ok(TypeDefKind::Alias(Type::Id(id))),
+            None => unreachable!(),
+        },
+        _ => unreachable!(),
+    }
+}
+
+/// Adds a type of a scope, behind the types that stand in it.
+fn define_type<'a>(
+    types: &mut Types,
+    known: &Known<'a>,
+    table: &Table<'a>,
+    owner: &TypeOwner,
+    member: &Member<'a>,
+) -> Result<TypeId, AllocError>
+    requires found { spec.IsFound known.now (spec.names_of table.now) (scope_view.member_kind member.now.kind) }
+    requires gates { AreGates (scope_view.member member.now).attributes }
+    ensures { IfOk result (λ i. spec.Defines known.now table.now owner.now types.old (scope_view.member member.now) types.new i) }
+{
+    let kind = kind_in(types, known, table, &member.kind)?;
+    let name = String::from_str(types.allocator(), member.name.name)?;
+    let docs = docs_behind(types.allocator(), &member.docs)?;
+    let stability = stability_of(types.allocator(), member.attributes)?;
+    types.define(TypeDef {
+        name: Some(name),
+        kind,
+        owner: *owner,
+        docs,
+        stability,
+        span: member.name.span,
+    })
+}
+
+/// The types of a scope, of which each stands behind those that it names: adds them to the arena, and answers where each
+/// stands by its name. What `use` takes is known, and no name stands twice.
+pub fn fill_types<'a>(
+    types: &mut Types,
+    known: &Known<'a>,
+    owner: TypeOwner,
+    members: &[Member<'a>],
+) -> Result<Table<'a>, AllocError>
+    requires { spec.AreFillable known.now (scope_view.members members.now) }
+    ensures { IfOk result (spec.Fills known.now owner types.old (scope_view.members members.now) types.new) }
+{
+    let mut table = Table::new(types.allocator());
+    for member in members {
+        let id = define_type(types, known, &table, &owner, member)?;
+        table.add(member.name.name, id)?;
+    }
+    Ok(table)
+}
