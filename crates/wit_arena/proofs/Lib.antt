@@ -7,3 +7,4 @@ pub mod Unfolding
 pub mod Growing
 pub mod Meanings
 pub mod OneMeaning
+pub mod Extending

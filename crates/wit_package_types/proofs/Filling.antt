@@ -3,10 +3,11 @@ use Rattle.std.proofs.Common.{◌≡◌, ℕ, ◌+◌, ◌<◌, List, [], ◌∷
 use Rattle.std.proofs.lemmas.Option.{slice_get-map}
 use Rattle.std.proofs.lemmas.List.{map_push}
 use Rattle.std.specs.Prelude.{slice_get, option_map}
+use Rattle.wit_types.specs.declared.kind.TypeDefKind.{TypeDefKind}
 use Rattle.wit_types.specs.declared.interface.TypeDef.{TypeDef}
 use Rattle.wit_types.specs.declared.interface.TypeOwner.{TypeOwner}
 use Rattle.wit_scopes.specs.declared.members.Member.{Member}
-use Rattle.wit_scopes.specs.Members.{MemberTree}
+use Rattle.wit_scopes.specs.Members.{MemberKind, MemberTree}
 use Rattle.wit_scopes.specs.View as scope_view
 use Rattle.wit_rules.proofs.Places.{read_at, taken}
 use Rattle.wit_arena.specs.Tree.{Name}
@@ -15,7 +16,8 @@ use Rattle.wit_arena.specs.Meaning.{Has}
 use Rattle.wit_arena.proofs.Lists.{has_map}
 use Rattle.wit_package_types.specs.Stability.{AreGates}
 use Rattle.wit_package_types.specs.Known.{KnownTypes}
-use Rattle.wit_package_types.specs.Fill.{names_of, member_names, IsFound, AreFillable, Defines, Fills, fills_none, fills_more}
+use Rattle.wit_arena.proofs.Extending.{Extends, extends_self, extends_through, kind_extends}
+use Rattle.wit_package_types.specs.Fill.{names_of, member_names, IsFound, AreFillable, GivesKind, gives_defined, gives_used, Defines, Fills, fills_none, fills_more}
 
 -- each stands under its name
 pub names_filled : (k : KnownTypes) (owner : TypeOwner) (a : List TypeDef) (ms : List MemberTree) (b : List TypeDef) (t : Entries) → Fills k owner a ms b t → names_of t ≡ member_names ms
@@ -46,3 +48,15 @@ module _ (k : KnownTypes) (owner : TypeOwner) (a : List TypeDef) (xs : List Memb
     next_filled c j d =
         subst (λ (ms : List MemberTree). Fills k owner a ms c (t ++ (x.name.name.now, j) ∷ [])) (sym (taken (scope_view.members xs) i (scope_view.member x) there))
         (fills_more (take i (scope_view.members xs)) (scope_view.member x) b c t j filled d)
+
+-- ---- what was there stays in front
+
+kind_given_extends : (k : KnownTypes) (t : Entries) (a b : List TypeDef) (mk : MemberKind) (n : TypeDefKind) → GivesKind k t a mk b n → Extends a b
+kind_given_extends k t a b mk n (gives_defined d b2 n2 low) = kind_extends t a b2 d n2 low
+kind_given_extends k t a b mk n (gives_used from y i f) = extends_self a
+
+pub filled_extends : (k : KnownTypes) (owner : TypeOwner) (a : List TypeDef) (ms : List MemberTree) (b : List TypeDef) (t : Entries) → Fills k owner a ms b t → Extends a b
+filled_extends k owner a ms b t fills_none = extends_self a
+filled_extends k owner a ms b t (fills_more ns m b2 c t2 i f d) =
+    extends_through a b2 c (filled_extends k owner a ns b2 t2 f)
+    (subst (Extends b2) (sym d.last) (extends_through b2 d.before (d.before ++ d.def ∷ []) (kind_given_extends k t2 b2 d.before m.kind d.kind d.gives) (d.def ∷ [], refl)))

@@ -1,0 +1,8 @@
+//! The functions of a package over the types of its scopes.
+#![tactic(auto)]
+
+mod function;
+mod signature;
+
+pub use function::lower_function;
+pub use signature::Signature;

@@ -1,0 +1,158 @@
+//! What is known of types.
+
+ghost use Rattle.std.specs.Prelude.{◌≡◌, [], Some, OnOk};
+ghost use Rattle.wit_types.specs.declared.kind.«Type».TheVariants.{Id};
+ghost use Rattle.wit_resources.specs.Natures as spec;
+
+use std::alloc::{AllocError, Global};
+use std::marker::Model;
+use wit_arena::Types;
+use wit_types::{Case, Field, Handle, Type, TypeDefKind, TypeId};
+
+/// What is known of a type. A type of another package may be a resource, and is taken for one.
+#[derive(Clone, Copy, Debug, PartialEq, Eq)]
+pub struct Nature {
+    /// Whether it is a resource, by whatever names.
+    pub is_resource: bool,
+    /// Whether a `borrow` stands in it, by whatever names.
+    pub holds_borrow: bool,
+}
+
+/// What is known of the types of an arena, by their ids.
+#[derive(Drop)]
+pub struct Natures {
+    known: Vec<Nature>,
+}
+
+impl Model for Natures {
+    ghost use Rattle.std.specs.Prelude.{List};
+    ghost use Rattle.wit_resources.specs.declared.natures.Nature.{Nature};
+
+    ghost Value = { List Nature };
+
+    ghost view = { λ n. n.known.items };
+}
+
+/// Of a type that is no resource.
+fn holding(holds_borrow: bool) -> Nature
+    ensures { result ≡ spec.holding holds_borrow }
+{
+    Nature {
+        is_resource: false,
+        holds_borrow,
+    }
+}
+
+/// What is known of a type where it is used.
+fn of_ref(known: &[Nature], ty: &Type) -> Nature
+    ensures { result ≡ spec.ref_nature known.now ty.now }
+{
+    match ty {
+        Type::Id(id) => match known.get(id.index()) {
+            Some(nature) => *nature,
+            None => holding(false),
+        },
+        _ => holding(false),
+    }
+}
+
+/// Whether a `borrow` stands in a part that may be missing.
+fn part_holds(known: &[Nature], part: &Option<Type>) -> bool
+    ensures { result ≡ spec.part_holds known.now part.now }
+{
+    match part {
+        Some(ty) => of_ref(known, ty).holds_borrow,
+        None => false,
+    }
+}
+
+/// Whether a `borrow` stands in a field.
+fn fields_hold(known: &[Nature], fields: &[Field]) -> bool
+    ensures { result ≡ spec.one_holds known.now (λ f. Some f.ty) fields.now }
+{
+    fields
+        .iter()
+        .any(|field| of_ref(known, &field.ty).holds_borrow)
+}
+
+/// Whether a `borrow` stands in one of the types.
+fn types_hold(known: &[Nature], types: &[Type]) -> bool
+    ensures { result ≡ spec.one_holds known.now (λ t. Some t) types.now }
+{
+    types.iter().any(|ty| of_ref(known, ty).holds_borrow)
+}
+
+/// Whether a `borrow` stands in a case.
+fn cases_hold(known: &[Nature], cases: &[Case]) -> bool
+    ensures { result ≡ spec.one_holds known.now (λ c. c.ty) cases.now }
+{
+    cases.iter().any(|case| part_holds(known, &case.ty))
+}
+
+/// What is known of a type by what it is.
+fn of_kind(known: &[Nature], kind: &TypeDefKind) -> Nature
+    ensures { result ≡ spec.kind_nature known.now kind.now }
+{
+    match kind {
+        TypeDefKind::Resource | TypeDefKind::Unknown => Nature {
+            is_resource: true,
+            holds_borrow: false,
+        },
+        TypeDefKind::Handle(Handle::Borrow(_)) => holding(true),
+        TypeDefKind::Handle(Handle::Own(_)) | TypeDefKind::Flags(_) | TypeDefKind::Enum(_) => {
+            holding(false)
+        }
+        TypeDefKind::Record(record) => holding(fields_hold(known, record.fields.as_slice())),
+        TypeDefKind::Tuple(tuple) => holding(types_hold(known, tuple.types.as_slice())),
+        TypeDefKind::Variant(variant) => holding(cases_hold(known, variant.cases.as_slice())),
+        TypeDefKind::Option(ty) | TypeDefKind::List(ty) | TypeDefKind::FixedLengthList(ty, _) => {
+            holding(of_ref(known, ty).holds_borrow)
+        }
+        TypeDefKind::Result(parts) => {
+            holding(part_holds(known, &parts.ok) || part_holds(known, &parts.err))
+        }
+        TypeDefKind::Future(part) | TypeDefKind::Stream(part) => holding(part_holds(known, part)),
+        TypeDefKind::Alias(ty) => of_ref(known, ty),
+    }
+}
+
+impl Natures {
+    /// Of no types.
+    pub fn new(alloc: Global) -> Natures
+        ensures { result ≡ [] }
+    {
+        Natures {
+            known: Vec::new(alloc),
+        }
+    }
+
+    /// What is known of the type under an id; of an id that has none yet, what is known of a plain type.
+    pub fn get(&self, id: TypeId) -> Nature
+        ensures { result ≡ spec.ref_nature self.now (Id id) }
+    {
+        match self.known.get(id.index()) {
+            Some(nature) => *nature,
+            None => holding(false),
+        }
+    }
+
+    /// Whether a `borrow` stands in a part that may be missing.
+    pub fn holds_borrow(&self, part: &Option<Type>) -> bool
+        ensures { result ≡ spec.part_holds self.now part.now }
+    {
+        part_holds(self.known.as_slice(), part)
+    }
+
+    /// Adds what is known of the types of the arena that came since.
+    pub fn catch_up(&mut self, types: &Types) -> Result<(), AllocError>
+        requires { spec.AreOfFirst types.now self.old }
+        ensures { OnOk result (self.new ≡ spec.natures types.now) }
+    {
+        for index in self.known.as_slice().len()..types.len() {
+            let def = types.get(TypeId::from_index(index));
+            let nature = of_kind(self.known.as_slice(), &def.kind);
+            self.known.push(nature)?;
+        }
+        Ok(())
+    }
+}
