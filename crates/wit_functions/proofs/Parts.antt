@@ -1,7 +1,6 @@
 -- Parameters and a result, one behind the other.
 use Rattle.std.proofs.Common.{◌≡◌, List, [], ◌∷◌, ◌++◌, Option, Some, map, codes, Vec, sym, subst, ap, ◌∙◌}
 use Rattle.std.specs.declared.alloc.Global.{Global}
-use Rattle.wit_words.specs.declared.source_map.Span.{Span}
 use Rattle.wit_words.specs.Slice.{Slice}
 use Rattle.wit_types.specs.declared.kind.«Type».{«Type» as Ref}
 use Rattle.wit_types.specs.declared.function.Param.{Param}
@@ -12,13 +11,11 @@ use Rattle.wit_items.specs.ItemTree.{ParamTree}
 use Rattle.wit_scopes.specs.TypeNames.{names_in_part, names_in_parts, param_parts, signature_parts}
 use Rattle.wit_scopes.proofs.Lists.{flat_map-push}
 use Rattle.wit_arena.specs.Table.{Entries}
-use Rattle.wit_arena.specs.Meaning.{Has}
 use Rattle.wit_arena.specs.Lower.{AreThere, Lowers, LowersPart, lowers_a_type, LowersParts, lowers_none, lowers_more}
 use Rattle.wit_arena.specs.LowerKind.{Label}
 use Rattle.wit_arena.specs.LowerParams.{written_param, param_label, LowersParams}
-use Rattle.wit_arena.proofs.Lists.{has_left, has_right, has_here, has_later}
+use Rattle.wit_arena.proofs.Lists.{has_left, has_right, has_later}
 use Rattle.wit_functions.specs.Signature.{with_self, behind, LowersSignature}
-use Rattle.wit_functions.specs.declared.signature.Signature.{Signature}
 
 module _ (table : Entries) where
   there_left : (xs ys : List Slice) → AreThere table (xs ++ ys) → AreThere table xs

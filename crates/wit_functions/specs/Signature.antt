@@ -35,7 +35,7 @@ abbrev pub or_resource : Slice → Span → Option TypeTree → Option TypeTree
 or_resource r whole None = Some (standing whole (written.own r))
 or_resource r whole (Some t) = Some t
 
-abbrev params_of : MemberKind → Slice → List ParamTree
+abbrev pub params_of : MemberKind → Slice → List ParamTree
 params_of (used t n) name = []
 params_of (defined k) name = []
 params_of (function f) name = f.params
@@ -43,7 +43,7 @@ params_of (method r f) name = with_self r name f.params
 params_of (static r f) name = f.params
 params_of (constructor r ps t) name = ps
 
-abbrev result_of : MemberKind → Span → Option TypeTree
+abbrev pub result_of : MemberKind → Span → Option TypeTree
 result_of (used t n) whole = None
 result_of (defined k) whole = None
 result_of (function f) whole = f.result

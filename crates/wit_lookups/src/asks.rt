@@ -17,7 +17,7 @@ use wit_scopes::{ExternKind, ItemScope, Member, MemberKind, Target, WorldMember}
 use wit_syntax::Span;
 
 /// As what something of another package is asked for.
-#[derive(Clone, Copy, Debug, PartialEq, Eq)]
+#[derive(Clone, Copy, Debug, PartialEq, Eq, Hash)]
 pub enum Asked {
     /// As an interface.
     Interface,

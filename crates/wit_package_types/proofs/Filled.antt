@@ -1,10 +1,7 @@
 -- The types of a scope stand for what they mean.
-use Rattle.std.proofs.Common.{◌≡◌, ℕ, ◌<◌, List, [], ◌∷◌, ◌++◌, ◌⊎◌, inl, inr, length, Some, refl, sym, subst, ap, ◌∙◌, arith}
-use Rattle.std.proofs.lemmas.Option.{same_Some, slice_get_within}
-use Rattle.std.specs.Prelude.{slice_get}
-use Rattle.name_places.specs.FirstPlaces.{place_of}
+use Rattle.std.proofs.Common.{◌≡◌, ℕ, ◌<◌, List, [], ◌∷◌, ◌++◌, inl, inr, length, Some, sym, subst, ap, ◌∙◌, arith}
+use Rattle.std.proofs.lemmas.Option.{slice_get_within}
 use Rattle.name_places.proofs.Places.{place_pushed, place_within}
-use Rattle.wit_words.specs.Slice.{Slice}
 use Rattle.wit_types.specs.declared.kind.«Type».TheVariants as ref
 use Rattle.wit_types.specs.declared.kind.TypeDefKind.{TypeDefKind}
 use Rattle.wit_types.specs.declared.interface.TypeDef.{TypeDef}
@@ -16,12 +13,12 @@ use Rattle.wit_arena.specs.Tree.{Name, PackageText, Place, in_interface, Owner, 
 use Rattle.wit_arena.specs.Table.{Entries}
 use Rattle.wit_arena.specs.Meaning.{Has, Declares}
 use Rattle.wit_arena.specs.Unfold.{Owners, owner_of, IsWhole}
-use Rattle.wit_arena.specs.Standing.{HasTree, Stands, AreStanding, Grows, IsDefinedAs, StandForTheirMeaning}
+use Rattle.wit_arena.specs.Standing.{Stands, AreStanding, Grows, IsDefinedAs, StandForTheirMeaning}
 use Rattle.wit_arena.proofs.Lists.{has_none, has_left, has_right, has_here, get_more}
 use Rattle.wit_arena.proofs.Growing.{grows_self, grows_through, ref_grown}
 use Rattle.wit_arena.proofs.Meanings.{types_stand_for_their_meaning}
 use Rattle.wit_package_types.specs.Foreign.{owner_in}
-use Rattle.wit_package_types.specs.Known.{KnownTypes, with_interface, FindsOwn}
+use Rattle.wit_package_types.specs.Known.{KnownTypes, with_interface}
 use Rattle.wit_package_types.specs.Fill.{IsTypeOf, GivesKind, gives_defined, gives_used, Defines, Fills, fills_none, fills_more}
 use Rattle.wit_package_types.specs.Standing.{AreKnownStanding, AreOfScope, FilledTypesStand, FilledTypesStandForTheirMeaning}
 

@@ -13,4 +13,4 @@ pub use fill::fill_types;
 pub use foreign::{ForeignTypes, TypePath};
 pub use known::Known;
 pub use law::{law_distinct_names_are_of_one_type, law_filled_types_stand_for_their_meaning};
-pub use stability::stability_of;
+pub use stability::{optional_version, stability_of};

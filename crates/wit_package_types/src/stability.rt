@@ -29,7 +29,7 @@ fn version_of(alloc: Global, version: &wit_syntax::Version<'_>) -> Result<Versio
 }
 
 /// The version that `semver` reads, if there is one.
-fn optional_version(
+pub fn optional_version(
     alloc: Global,
     version: &Option<wit_syntax::Version<'_>>,
 ) -> Result<Option<Version>, AllocError>

@@ -1,5 +1,5 @@
 -- What is known of types is what their trees say.
-use Rattle.std.proofs.Common.{◌≡◌, ℕ, ◌+◌, ◌<◌, Bool, true, false, ◌||◌, List, [], ◌∷◌, ◌++◌, inl, inr, length, Option, Some, None, map, get_or, refl, sym, subst, ap, ◌∙◌, arith}
+use Rattle.std.proofs.Common.{◌≡◌, ℕ, ◌+◌, ◌<◌, true, false, ◌||◌, List, [], ◌∷◌, ◌++◌, inl, inr, length, Option, Some, None, map, get_or, refl, sym, subst, ap, ◌∙◌}
 use Rattle.std.proofs.lemmas.Option.{same_Some, slice_get_within}
 use Rattle.std.proofs.lemmas.Bool.{cases_Bool}
 use Rattle.std.proofs.lemmas.List.{get_or_append_left, get_or_push, length_push}
@@ -15,25 +15,18 @@ use Rattle.wit_types.specs.declared.interface.TypeOwner.{TypeOwner}
 use Rattle.wit_types.specs.declared.interface.TypeOwner.TheVariants as belongs
 use Rattle.wit_arena.specs.Tree as tree
 use Rattle.wit_arena.specs.Tree.{Name, Owner, Tree, TreeOption, Trees, no_tree, a_tree, no_trees, trees_and, primitive, list_tree, fixed_length_list_tree, option_tree, tuple_tree, result_tree, future_tree, stream_tree, own_tree, borrow_tree, record_tree, flags_tree, enum_tree, variant_tree, resource_leaf, named_tree, is_resource, value_of}
-use Rattle.wit_arena.specs.Unfold.{Owners, flat, and_then, ref_tree, value_tree, part_tree, part_trees, handle_tree, kind_tree, named_kind_tree, owner_of, nameless_tree, def_tree_of, def_tree, trees_from, trees}
+use Rattle.wit_arena.specs.Unfold.{Owners, flat, and_then, ref_tree, value_tree, part_tree, part_trees, kind_tree, named_kind_tree, owner_of, nameless_tree, def_tree_of, def_tree, trees_from, trees}
 use Rattle.wit_arena.proofs.Lists.{get_more}
+use Rattle.wit_arena.proofs.Unfolding.{flat_some, option_map_some}
 use Rattle.wit_resources.specs.Holding.{holds_borrow, part_holds_borrow, parts_hold_borrow}
-use Rattle.wit_resources.specs.Natures.{nature_of, plain, holding, a_resource, ref_nature, part_holds, one_holds, handle_nature, kind_nature, natures_from, natures}
+use Rattle.wit_resources.specs.Natures.{nature_of, plain, holding, ref_nature, part_holds, one_holds, kind_nature, natures_from, natures}
 use Rattle.wit_resources.specs.declared.natures.Nature.{Nature}
 
 -- ---- options
 
-mapped : {X Y : Type 0} (f : X → Y) (o : Option X) (y : Y) → option_map f o ≡ Some y → (x : X) × (o ≡ Some x) × (f x ≡ y)
-mapped {X} {Y} f None y h = absurd cc
-mapped f (Some x) y h = (x, refl, same_Some (f x) y h)
-
 chained : {X Y : Type 0} (f : X → Option Y) (o : Option X) (y : Y) → and_then f o ≡ Some y → (x : X) × (o ≡ Some x) × (f x ≡ Some y)
 chained {X} {Y} f None y h = absurd cc
 chained f (Some x) y h = (x, refl, h)
-
-flattened : {X : Type 0} (o : Option (Option X)) (x : X) → flat o ≡ Some x → o ≡ Some (Some x)
-flattened {X} None x h = absurd cc
-flattened {X} (Some o) x h = ap (λ (p : Option X). Some p) h
 
 -- ---- trees
 
@@ -59,7 +52,7 @@ pub record Agree (done : List (Option Tree)) (ns : List Nature) : Type 0 where
 
 module _ (done : List (Option Tree)) (ns : List Nature) (agree : Agree done ns) where
   pub ref_agrees : (r : Ref) (t : Tree) → ref_tree done r ≡ Some t → ref_nature ns r ≡ nature_of t
-  ref_agrees (ref.Id i) t h = agree.each i t (flattened (slice_get done i) t h)
+  ref_agrees (ref.Id i) t h = agree.each i t (flat_some (slice_get done i) t h)
   ref_agrees ref.Bool t h = ap nature_of (same_Some (primitive tree.bool) t h)
   ref_agrees ref.U8 t h = ap nature_of (same_Some (primitive tree.u8) t h)
   ref_agrees ref.U16 t h = ap nature_of (same_Some (primitive tree.u16) t h)
@@ -77,49 +70,49 @@ module _ (done : List (Option Tree)) (ns : List Nature) (agree : Agree done ns) 
 
   pub value_agrees : (r : Ref) (v : Tree) → value_tree done r ≡ Some v → (ref_nature ns r).holds_borrow ≡ holds_borrow v
   value_agrees r v h =
-      let m = mapped value_of (ref_tree done r) v h in
+      let m = option_map_some value_of (ref_tree done r) v h in
       ap (λ (n : Nature). n.holds_borrow) (ref_agrees r m.0 m.1) ∙ sym (value_holds m.0) ∙ ap holds_borrow m.2
 
   pub part_agrees : (p : Option Ref) (u : TreeOption) → part_tree done p ≡ Some u → part_holds ns p ≡ part_holds_borrow u
   part_agrees None u h = ap part_holds_borrow (same_Some no_tree u h)
-  part_agrees (Some r) u h = let m = mapped a_tree (value_tree done r) u h in value_agrees r m.0 m.1 ∙ ap part_holds_borrow m.2
+  part_agrees (Some r) u h = let m = option_map_some a_tree (value_tree done r) u h in value_agrees r m.0 m.1 ∙ ap part_holds_borrow m.2
 
   parts_agree : {X : Type 0} (part : X → Option Ref) (xs : List X) (us : Trees) → part_trees done (map part xs) ≡ Some us → one_holds ns part xs ≡ parts_hold_borrow us
   parts_agree part [] us h = ap parts_hold_borrow (same_Some no_trees us h)
   parts_agree part (x ∷ xs) us h =
       let c = chained (λ t. option_map (trees_and t) (part_trees done (map part xs))) (part_tree done (part x)) us h in
-      let m = mapped (trees_and c.0) (part_trees done (map part xs)) us c.2 in
+      let m = option_map_some (trees_and c.0) (part_trees done (map part xs)) us c.2 in
       ap (λ b. b || one_holds ns part xs) (part_agrees (part x) c.0 c.1) ∙ ap (λ b. part_holds_borrow c.0 || b) (parts_agree part xs m.0 m.1) ∙ ap parts_hold_borrow m.2
 
   kind_agrees : (k : TypeDefKind) (u : Tree) → kind_tree done k ≡ Some u → kind_nature ns k ≡ nature_of u
   kind_agrees (kind.Record r) u h =
-      let m = mapped (record_tree (map (λ f. string_bytes f.name) r.fields.items)) (part_trees done (map (λ f. Some f.ty) r.fields.items)) u h in
+      let m = option_map_some (record_tree (map (λ f. string_bytes f.name) r.fields.items)) (part_trees done (map (λ f. Some f.ty) r.fields.items)) u h in
       ap holding (parts_agree (λ f. Some f.ty) r.fields.items m.0 m.1) ∙ ap nature_of m.2
   kind_agrees kind.Resource u h = absurd cc
-  kind_agrees (kind.Handle (handle.Own i)) u h = let m = mapped own_tree (flat (slice_get done i)) u h in ap nature_of m.2
-  kind_agrees (kind.Handle (handle.Borrow i)) u h = let m = mapped borrow_tree (flat (slice_get done i)) u h in ap nature_of m.2
+  kind_agrees (kind.Handle (handle.Own i)) u h = let m = option_map_some own_tree (flat (slice_get done i)) u h in ap nature_of m.2
+  kind_agrees (kind.Handle (handle.Borrow i)) u h = let m = option_map_some borrow_tree (flat (slice_get done i)) u h in ap nature_of m.2
   kind_agrees (kind.Flags f) u h = ap nature_of (same_Some (flags_tree (map (λ l. string_bytes l.name) f.flags.items)) u h)
   kind_agrees (kind.Tuple t) u h =
-      let m = mapped tuple_tree (part_trees done (map (λ r. Some r) t.types.items)) u h in
+      let m = option_map_some tuple_tree (part_trees done (map (λ r. Some r) t.types.items)) u h in
       ap holding (parts_agree (λ r. Some r) t.types.items m.0 m.1) ∙ ap nature_of m.2
   kind_agrees (kind.Variant v) u h =
-      let m = mapped (variant_tree (map (λ c. string_bytes c.name) v.cases.items)) (part_trees done (map (λ c. c.ty) v.cases.items)) u h in
+      let m = option_map_some (variant_tree (map (λ c. string_bytes c.name) v.cases.items)) (part_trees done (map (λ c. c.ty) v.cases.items)) u h in
       ap holding (parts_agree (λ c. c.ty) v.cases.items m.0 m.1) ∙ ap nature_of m.2
   kind_agrees (kind.Enum e) u h = ap nature_of (same_Some (enum_tree (map (λ c. string_bytes c.name) e.cases.items)) u h)
-  kind_agrees (kind.Option r) u h = let m = mapped option_tree (value_tree done r) u h in ap holding (value_agrees r m.0 m.1) ∙ ap nature_of m.2
+  kind_agrees (kind.Option r) u h = let m = option_map_some option_tree (value_tree done r) u h in ap holding (value_agrees r m.0 m.1) ∙ ap nature_of m.2
   kind_agrees (kind.Result r) u h =
       let c = chained (λ t. option_map (result_tree t) (part_tree done r.err)) (part_tree done r.ok) u h in
-      let m = mapped (result_tree c.0) (part_tree done r.err) u c.2 in
+      let m = option_map_some (result_tree c.0) (part_tree done r.err) u c.2 in
       ap (λ b. holding (b || part_holds ns r.err)) (part_agrees r.ok c.0 c.1) ∙ ap (λ b. holding (part_holds_borrow c.0 || b)) (part_agrees r.err m.0 m.1) ∙ ap nature_of m.2
-  kind_agrees (kind.List r) u h = let m = mapped list_tree (value_tree done r) u h in ap holding (value_agrees r m.0 m.1) ∙ ap nature_of m.2
-  kind_agrees (kind.FixedLengthList r n) u h = let m = mapped (λ t. fixed_length_list_tree t n) (value_tree done r) u h in ap holding (value_agrees r m.0 m.1) ∙ ap nature_of m.2
-  kind_agrees (kind.Future r) u h = let m = mapped future_tree (part_tree done r) u h in ap holding (part_agrees r m.0 m.1) ∙ ap nature_of m.2
-  kind_agrees (kind.Stream r) u h = let m = mapped stream_tree (part_tree done r) u h in ap holding (part_agrees r m.0 m.1) ∙ ap nature_of m.2
+  kind_agrees (kind.List r) u h = let m = option_map_some list_tree (value_tree done r) u h in ap holding (value_agrees r m.0 m.1) ∙ ap nature_of m.2
+  kind_agrees (kind.FixedLengthList r n) u h = let m = option_map_some (λ t. fixed_length_list_tree t n) (value_tree done r) u h in ap holding (value_agrees r m.0 m.1) ∙ ap nature_of m.2
+  kind_agrees (kind.Future r) u h = let m = option_map_some future_tree (part_tree done r) u h in ap holding (part_agrees r m.0 m.1) ∙ ap nature_of m.2
+  kind_agrees (kind.Stream r) u h = let m = option_map_some stream_tree (part_tree done r) u h in ap holding (part_agrees r m.0 m.1) ∙ ap nature_of m.2
   kind_agrees (kind.Alias r) u h = ref_agrees r u h
   kind_agrees kind.Unknown u h = absurd cc
 
   other_agrees : (o : Owner) (x : Name) (k : TypeDefKind) (u : Tree) → option_map (named_tree o x) (kind_tree done k) ≡ Some u → kind_nature ns k ≡ nature_of u
-  other_agrees o x k u h = let m = mapped (named_tree o x) (kind_tree done k) u h in kind_agrees k m.0 m.1 ∙ ap nature_of m.2
+  other_agrees o x k u h = let m = option_map_some (named_tree o x) (kind_tree done k) u h in kind_agrees k m.0 m.1 ∙ ap nature_of m.2
 
   named_agrees : (o : Owner) (x : Name) (k : TypeDefKind) (u : Tree) → named_kind_tree resource_leaf done o x k ≡ Some u → kind_nature ns k ≡ nature_of u
   named_agrees o x kind.Resource u h = ap nature_of (same_Some (resource_leaf o x) u h)

@@ -1,5 +1,5 @@
 -- What is known of types is what they mean.
-use Rattle.std.proofs.Common.{◌≡◌, ℕ, Bool, true, false, List, Some, refl, sym, subst, ap, ◌∙◌}
+use Rattle.std.proofs.Common.{◌≡◌, ℕ, List, Some, sym, ap, ◌∙◌}
 use Rattle.wit_words.specs.declared.source_map.Span.{Span}
 use Rattle.wit_words.specs.Slice.{Slice}
 use Rattle.wit_types.specs.declared.kind.«Type».{«Type» as Ref}
@@ -11,12 +11,12 @@ use Rattle.wit_rules.specs.declared.fault.PackageRule.{PackageRule}
 use Rattle.wit_rules.specs.Breaks.{IsKept}
 use Rattle.wit_arena.specs.Tree.{PackageText, Place, Tree, resource_leaf, is_resource}
 use Rattle.wit_arena.specs.Table.{Entries}
-use Rattle.wit_arena.specs.Meaning.{Has, Means, MeansName}
+use Rattle.wit_arena.specs.Meaning.{Has, Means}
 use Rattle.wit_arena.specs.Unfold.{Owners, value_tree, trees}
 use Rattle.wit_arena.specs.Standing.{AreStanding, AreFunctional}
 use Rattle.wit_arena.proofs.OneMeaning.{types_mean_one_tree}
 use Rattle.wit_resources.specs.Holding.{holds_borrow}
-use Rattle.wit_resources.specs.Natures.{nature_of, ref_nature, part_holds, natures}
+use Rattle.wit_resources.specs.Natures.{nature_of, ref_nature, natures}
 use Rattle.wit_resources.specs.declared.natures.Nature.{Nature}
 use Rattle.wit_resources.specs.Failing.{HandleFails, ResultFails}
 use Rattle.wit_resources.specs.Rules.{type_span, HandleBreaks, ResultBreaks}

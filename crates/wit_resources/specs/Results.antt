@@ -1,7 +1,6 @@
 -- Which results constructors may declare (WIT, Item: `resource`).
-use Rattle.std.specs.Prelude.{Bool, true, false, ◌||◌, List, Option, Some, None, option_and_then, map, slice_get, bytes_eq}
+use Rattle.std.specs.Prelude.{Bool, false, ◌||◌, List, Option, Some, None, option_and_then, map, slice_get, bytes_eq}
 use Rattle.name_places.specs.FirstPlaces.{place_of}
-use Rattle.wit_words.specs.Slice.{Slice}
 use Rattle.wit_productions.specs.TypeTree as written
 use Rattle.wit_productions.specs.TypeTree.{TypeTree, TypeShape, TypeOption, standing, no_type, a_type}
 use Rattle.wit_items.specs.ItemTree as item

@@ -1,10 +1,9 @@
 -- Handles that name no resource, results that hold what is lent, and results that constructors may not declare (WIT, Types, Item:
 -- `resource`). Of what another package has nothing is known: its types are taken for resources.
-use Rattle.std.specs.Prelude.{◌≡◌, Bool, true, false, List, [], ◌∷◌, Option, Some, None}
+use Rattle.std.specs.Prelude.{◌≡◌, true, false, List, Option, Some, None}
 use Rattle.wit_words.specs.declared.source_map.Span.{Span}
 use Rattle.wit_words.specs.Slice.{Slice}
 use Rattle.wit_productions.specs.TypeTree.{TypeTree, standing}
-use Rattle.wit_items.specs.ItemTree.{ParamTree}
 use Rattle.wit_scopes.specs.Members.{MemberKind, MemberTree, used, defined, function, method, static, constructor}
 use Rattle.wit_scopes.specs.Scopes.{ItemScope}
 use Rattle.wit_scopes.specs.TypeNames.{handles_in_member}

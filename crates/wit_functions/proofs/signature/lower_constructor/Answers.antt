@@ -1,4 +1,4 @@
-use Rattle.std.proofs.Common.{List, Option, Some, map, sym, subst}
+use Rattle.std.proofs.Common.{Option, Some, map, sym, subst}
 use Rattle.std.specs.Prelude.{option_map}
 use Rattle.wit_productions.specs.NameView.{id}
 use Rattle.wit_productions.specs.TypeTree as written

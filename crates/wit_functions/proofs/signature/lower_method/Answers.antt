@@ -1,6 +1,5 @@
-use Rattle.std.proofs.Common.{◌≡◌, List, map, refl, sym, subst, ap, ◌∙◌}
+use Rattle.std.proofs.Common.{List, map, refl, sym, subst}
 use Rattle.std.specs.Prelude.{option_map}
-use Rattle.wit_words.specs.Slice.{Slice}
 use Rattle.wit_productions.specs.NameView.{id}
 use Rattle.wit_productions.specs.TypeView.{type_tree}
 use Rattle.wit_items.specs.declared.items.Param.{Param as Written}

@@ -1,4 +1,4 @@
-use Rattle.std.proofs.Common.{ℕ, sym, subst}
+use Rattle.std.proofs.Common.{sym, subst}
 use Rattle.wit_types.specs.declared.kind.«Type».TheVariants.{Id}
 use Rattle.wit_types.specs.declared.kind.TypeDefKind.TheVariants as kind
 use Rattle.wit_syntax.specs.AstView as view

@@ -1,8 +1,7 @@
-use Rattle.std.proofs.Common.{◌∙◌, ℕ, Option, Some, None, sym, subst}
-use Rattle.std.specs.Prelude.{IfNone}
+use Rattle.std.proofs.Common.{◌∙◌, ℕ, sym, subst}
 use Rattle.wit_arena.specs.Meaning.{Has}
 use Rattle.wit_arena.proofs.Tables.{keyed_found, keyed_none}
-use Rattle.wit_package_types.specs.Foreign.{ForeignName, path_name}
+use Rattle.wit_package_types.specs.Foreign.{path_name}
 use Rattle.wit_package_types.proofs.Paths.{path_eq, path_eq-Decides}
 use Rattle.wit_package_types.proofs.Finding.{none_if}
 use Rattle.wit_package_types.proofs.foreign.ForeignTypes.get.Goals as goal

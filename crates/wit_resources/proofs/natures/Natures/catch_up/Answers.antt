@@ -1,5 +1,5 @@
 use Rattle.std.specs.Prelude.{slice_get}
-use Rattle.std.proofs.Common.{◌≡◌, ℕ, List, Some, take, length, ◌++◌, ◌∷◌, [], ◌+◌, sym, subst, ap, ◌∙◌}
+use Rattle.std.proofs.Common.{◌≡◌, ℕ, List, Some, take, length, ◌++◌, ◌∷◌, [], sym, subst, ap, ◌∙◌}
 use Rattle.wit_resources.specs.Natures.{kind_nature, natures, AreOfFirst}
 use Rattle.wit_resources.specs.declared.natures.Nature.{Nature}
 use Rattle.wit_resources.proofs.Counting.{of_first, of_more}

@@ -1,0 +1,12 @@
+mod Outcomes
+mod ItemPaths
+mod ItemFinding
+mod Gathering
+mod Uses
+mod Using
+mod Standing
+mod PackagePaths
+mod Grouping
+mod Depending
+mod PackageNames
+mod Parting

@@ -1,0 +1,27 @@
+use Rattle.std.proofs.Common.{◌∙◌, ◌+◌, List, take, sym, subst, arith}
+use Rattle.std.proofs.lemmas.List.{length-map}
+use Rattle.wit_arena.specs.Meaning.{Has}
+use Rattle.wit_foreign.specs.declared.needs.Need.{Need}
+use Rattle.wit_foreign.specs.View as seen
+use Rattle.wit_foreign.specs.GroupView.{row, rows}
+use Rattle.wit_foreign.specs.Groups.{item_key}
+use Rattle.wit_foreign.specs.Deps.{ItemEntry, IsItemDep, AreEntries}
+use Rattle.wit_foreign.proofs.Depending.{next_at, next_read, earlier_entry, row_at}
+use Rattle.wit_foreign.proofs.deps.items_in.Goals as goal
+
+pub add_item-requires-clause-new : goal.add_item-requires-clause-new
+add_item-requires-clause-new c = λ e has same. (let h = earlier_entry (IsItemDep c.args.items.now) c.args.firsts.now c.loop-place.place _ c.loop-place-test.true (rows c.args.rows.now) (c.loop-place.deps.entries) c.loop-place.invariant item_key c.requires.apart (length-map c.args.rows.now row ∙ c.requires.rows) e has in let is = h.2 in h.3 (sym is.name ∙ same))
+
+pub add_item-requires-clause-there : goal.add_item-requires-clause-there
+add_item-requires-clause-there c = c.requires.there _ (c.loop-place.place, next_at c.args.firsts.now c.loop-place.place _ c.loop-place-test.true)
+
+pub add_item-requires-clause-gates : goal.add_item-requires-clause-gates
+add_item-requires-clause-gates c = λ n has.
+    c.requires.gates (row c.index-rows-place.result) (c.loop-place.place, (row_at c.args.rows.now c.loop-place.place c.index-rows-place.result (let l = c.loop-place-test.true in let e = c.requires.rows in omega (arith, l, e)) c.index-rows-place.is)) n (subst (λ (xs : List Need). Has (seen.needs xs) n) c.as_slice.ensures.value has)
+
+pub loop-place-preserved : goal.loop-place-preserved
+loop-place-preserved c =
+    let added = c.in_ok-add_item.ensures in
+    subst (λ (es : List ItemEntry). AreEntries (IsItemDep c.args.items.now) (seen.needs (take (c.loop-place.place + 1) c.args.firsts.now)) (rows c.args.rows.now) es) (sym added.2)
+    (next_read (IsItemDep c.args.items.now) c.args.firsts.now c.loop-place.place _ c.loop-place-test.true (rows c.args.rows.now) (c.loop-place.deps.entries) c.loop-place.invariant c.index-rows-place.result c.as_slice.result.now added.0 c.as_slice.ensures.value (row_at c.args.rows.now c.loop-place.place c.index-rows-place.result (let l = c.loop-place-test.true in let e = c.requires.rows in omega (arith, l, e)) c.index-rows-place.is)
+    added.1)

@@ -1,0 +1,26 @@
+use Rattle.std.proofs.Common.{◌∙◌, [], List, map, ap, sym, subst}
+use Rattle.std.specs.Prelude.{Vec}
+use Rattle.std.specs.declared.alloc.Global.{Global}
+use Rattle.wit_foreign.specs.declared.needs.Need.{Need}
+use Rattle.wit_foreign.specs.View as seen
+use Rattle.wit_foreign.specs.GroupView.{rows}
+use Rattle.wit_foreign.specs.Groups.{AreGroups, no_groups, item_key}
+use Rattle.wit_foreign.proofs.Grouping.{rows_of, next_group}
+use Rattle.wit_foreign.proofs.groups.by_item.Goals as goal
+
+pub loop-need-init : goal.loop-need-init
+loop-need-init c = (
+  subst (λ (fs : List Need). AreGroups item_key [] (seen.needs fs) (rows c.new-rows.result.items)) (sym c.new-firsts.ensures.items)
+      (subst (λ (rs : List (Vec Need Global)). AreGroups item_key [] [] (rows rs)) (sym c.new-rows.ensures.items) no_groups),
+  c.new-names.ensures ∙ ap (λ (z : List Need). map item_key (seen.needs z)) (sym c.new-firsts.ensures.items),
+)
+
+pub add_by_item-requires-clause-rows : goal.add_by_item-requires-clause-rows
+add_by_item-requires-clause-rows c = rows_of item_key _ c.loop-need.firsts.items c.loop-need.rows.items c.loop-need.invariant.0
+
+pub loop-need-preserved : goal.loop-need-preserved
+loop-need-preserved c = (
+  next_group item_key c.args.needs.now c.loop-need.need-index _ c.loop-need-test.true (seen.needs c.loop-need.firsts.items) (rows c.loop-need.rows.items) (seen.needs c.add_by_item.new.firsts.items) (rows c.add_by_item.new.rows.items) c.loop-need.invariant.0
+      c.in_ok-add_by_item.ensures.groups,
+  c.in_ok-add_by_item.ensures.names,
+)

@@ -1,0 +1,8 @@
+use Rattle.std.proofs.Common.{IfNone, subst}
+use Rattle.wit_types.specs.declared.«package».AstItem.{AstItem}
+use Rattle.wit_arena.specs.Tree.{Owner}
+use Rattle.wit_arena.specs.Meaning.{Has}
+use Rattle.wit_foreign.proofs.items.ForeignItems.get.Goals as goal
+
+pub returns-clause-none : goal.returns-clause-none
+returns-clause-none c = subst (λ (w : Owner). IfNone c.find.result ((i : AstItem) → Has c.args.self.now (w, i) → ⊥)) c.new.ensures c.find.ensures.none
