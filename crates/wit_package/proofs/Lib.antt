@@ -5,3 +5,4 @@ pub mod Orders
 pub mod Readying
 pub mod Scoping
 pub mod Meant
+pub mod Declaring

@@ -27,7 +27,7 @@ use Rattle.wit_package.proofs.Orders.{at_taken, sorted_has, has_sorted, named_be
 
 -- ---- what handles name is named
 
-either : {X : Type 0} (xs ys : List X) (x : X) → Has (xs ++ ys) x → Has xs x ⊎ Has ys x
+pub either : {X : Type 0} (xs ys : List X) (x : X) → Has (xs ++ ys) x → Has xs x ⊎ Has ys x
 either [] ys x h = inr h
 either (z ∷ xs) ys x (zero, e) = inl (zero, e)
 either (z ∷ xs) ys x (suc k, e) = elim (either xs ys x (k, e)) as (λ _. Has (z ∷ xs) x ⊎ Has ys x) [ inl l ↦ inl (has_later z xs x l) | inr r ↦ inr r ]

@@ -3,3 +3,4 @@ pub mod Finding
 pub mod Filling
 pub mod Filled
 pub mod Functional
+pub mod Gated

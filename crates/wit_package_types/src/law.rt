@@ -2,7 +2,9 @@
 
 ghost use Rattle.std.specs.Prelude.{List};
 ghost use Rattle.wit_scopes.specs.Scopes.{ItemScope};
-ghost use Rattle.wit_rules.specs.Breaks.{IsKept};
+ghost use Rattle.wit_items.specs.ItemTree.{AttributeTree};
+ghost use Rattle.wit_rules.specs.Breaks.{IsKept, GatesBreak};
+ghost use Rattle.wit_package_types.specs.Stability.{AreGates};
 ghost use Rattle.wit_rules.specs.Facts.{ScopesBreak};
 ghost use Rattle.wit_arena.specs.Standing.{AreFunctional};
 ghost use Rattle.wit_package_types.specs.Standing.{FilledTypesStandForTheirMeaning};
@@ -16,4 +18,9 @@ pub fn law_filled_types_stand_for_their_meaning()
 /// Where the names of each scope differ, a name of a place is of one type at most: so it means one tree at most.
 pub fn law_distinct_names_are_of_one_type()
     ensures { (scopes : List ItemScope) → IsKept (ScopesBreak scopes) → AreFunctional scopes }
+{}
+
+/// Attributes that keep their rules are gates that may stand together, whose versions `semver` reads (WIT, Feature Gates).
+pub fn law_kept_attributes_are_gates()
+    ensures { (attributes : List AttributeTree) → IsKept (GatesBreak attributes) → AreGates attributes }
 {}

@@ -12,5 +12,8 @@ pub use docs::docs_behind;
 pub use fill::fill_types;
 pub use foreign::{ForeignTypes, TypePath};
 pub use known::Known;
-pub use law::{law_distinct_names_are_of_one_type, law_filled_types_stand_for_their_meaning};
+pub use law::{
+    law_distinct_names_are_of_one_type, law_filled_types_stand_for_their_meaning,
+    law_kept_attributes_are_gates,
+};
 pub use stability::{optional_version, stability_of};

@@ -6,3 +6,4 @@ pub mod Kept
 pub mod Named
 pub mod Refused
 pub mod Apart
+pub mod Gating

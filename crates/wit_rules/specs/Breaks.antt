@@ -1,14 +1,15 @@
 -- Rules, and what breaks them where.
-use Rattle.std.specs.Prelude.{◌≡◌, ℕ, List, map, Some, None, slice_get, bytes_eq}
+use Rattle.std.specs.Prelude.{◌≡◌, ◌⊎◌, ℕ, Bool, false, List, map, Option, Some, None, slice_get, bytes_eq, is_ok}
+use Rattle.semver.specs.Parse.{version_parts}
 use Rattle.wit_words.specs.declared.source_map.Span.{Span}
 use Rattle.wit_words.specs.Slice.{Slice}
 use Rattle.wit_words.specs.NameKey.{name_key}
 use Rattle.wit_items.specs.ItemTree.{AttributeTree}
 use Rattle.wit_rules.specs.declared.fault.PackageRule.{PackageRule}
-use Rattle.wit_rules.specs.declared.fault.PackageRule.TheVariants.{DuplicateName, BadGate}
+use Rattle.wit_rules.specs.declared.fault.PackageRule.TheVariants.{DuplicateName, BadGate, BadVersion}
 use Rattle.wit_rules.specs.declared.fault.PackageFault.{PackageFault}
 use Rattle.wit_rules.specs.declared.fault.PackageFault.TheVariants.{OutOfMemory, Syntax, Broken}
-use Rattle.wit_rules.specs.Gates.{gates_in}
+use Rattle.wit_rules.specs.Gates.{GatesTree, ungated, of_feature, from_version, gates_in}
 use Rattle.wit_rules.specs.Repeats.{IsRepeat}
 
 -- which rules something breaks, and where
@@ -47,9 +48,31 @@ pub record PathsBreak (paths : List Slice) (rule : PackageRule) (at : Span) : Ty
   pub there : slice_get (map (λ p. p.span) paths) place ≡ Some at
 
 -- the attributes in front of an item may not stand together (WIT, Feature Gates): a break at the first of them
-pub record GatesBreak (attributes : List AttributeTree) (rule : PackageRule) (at : Span) : Type 0 where
+pub record GateFormBreaks (attributes : List AttributeTree) (rule : PackageRule) (at : Span) : Type 0 where
   pub rule_is : rule ≡ BadGate
   pub none : gates_in attributes ≡ None
   pub first : AttributeTree
   pub there : slice_get attributes 0 ≡ Some first
   pub place : first.span ≡ at
+
+-- `semver` doesn't read a version, of which a number has more than 64 bits: a break at the version
+pub record VersionBreaks (v : Slice) (rule : PackageRule) (at : Span) : Type 0 where
+  pub rule_is : rule ≡ BadVersion
+  pub unread : is_ok (version_parts v.text) ≡ false
+  pub place : v.span ≡ at
+
+-- a version that may be left out
+abbrev pub VersionWhereBreaks : Option Slice → Breaks
+VersionWhereBreaks None = λ rule at. ⊥
+VersionWhereBreaks (Some v) = VersionBreaks v
+
+-- the versions of gates
+abbrev pub GateVersionsBreak : GatesTree → Breaks
+GateVersionsBreak ungated = λ rule at. ⊥
+GateVersionsBreak (of_feature f d) = VersionWhereBreaks d
+GateVersionsBreak (from_version v d) = λ rule at. VersionBreaks v rule at ⊎ VersionWhereBreaks d rule at
+
+-- the attributes in front of an item are no gates, or have a version that isn't read
+pub data GatesBreak (attributes : List AttributeTree) (rule : PackageRule) (at : Span) : Type 0 where
+  by_form : GateFormBreaks attributes rule at → GatesBreak attributes rule at
+  by_version : (g : GatesTree) → gates_in attributes ≡ Some g → GateVersionsBreak g rule at → GatesBreak attributes rule at

@@ -43,6 +43,9 @@ pub enum PackageRule {
     /// P11: the gates of an item aren't none, one of `since` and `unstable`, or one of these with one `deprecated`.
     #[error("P11 BadGate")]
     BadGate,
+    /// S5: `semver` doesn't read a version of a tree, of which a number has more than 64 bits. No text is read to such a tree.
+    #[error("S5 BadVersion")]
+    BadVersion,
 }
 
 /// Why files aren't taken as a package.
@@ -51,7 +54,7 @@ pub enum PackageFault {
     /// A request for memory was refused.
     #[error("out of memory")]
     OutOfMemory,
-    /// A text isn't read, or a version in a tree is none that `semver` reads.
+    /// A text isn't read.
     #[error("{0}")]
     Syntax(SyntaxFault),
     /// The files break a rule.
@@ -59,7 +62,7 @@ pub enum PackageFault {
     Broken {
         /// The rule.
         rule: PackageRule,
-        /// Where: the name, the type, the result or the first gate that breaks it. Where no file has a header it is empty
+        /// Where: the name, the type, the result, the version or the first gate that breaks it. Where no file has a header it is empty
         /// and stands where texts begin.
         span: Span,
     },

@@ -1,13 +1,14 @@
 //! Gates in front of items.
 
-ghost use Rattle.std.specs.Prelude.{◌≡◌, map, option_map, OnOk, IfErr};
+ghost use Rattle.std.specs.Prelude.{◌≡◌, None, map, option_map, OnOk, IfErr};
 ghost use Rattle.wit_syntax.specs.AstView as view;
 ghost use Rattle.wit_rules.specs.Gates as spec;
-ghost use Rattle.wit_rules.specs.Breaks.{IsKept, IsFaultOf, GatesBreak};
+ghost use Rattle.wit_rules.specs.Breaks.{IsKept, IsFaultOf, GateFormBreaks, VersionBreaks, VersionWhereBreaks, GateVersionsBreak, GatesBreak};
 ghost use Rattle.wit_rules.specs.View as seen;
 
 use crate::fault::{PackageFault, PackageRule};
 use wit_syntax::{Attribute, Gate, Id, Version};
+use wit_words::is_read_by_semver;
 
 /// The gates in front of an item (WIT, Feature Gates).
 #[derive(Clone, Copy)]
@@ -60,19 +61,68 @@ pub fn gates_of<'a>(attributes: &[Attribute<'a>]) -> Option<Gates<'a>>
     }
 }
 
-/// Refuses attributes that may not stand together, at the first of them (WIT, Feature Gates).
+/// The refusal of attributes that may not stand together, at the first of them.
+fn bad_gates(attributes: &[Attribute<'_>]) -> PackageFault
+    requires { spec.gates_in (map view.attribute attributes.now) ≡ None }
+    ensures { IsFaultOf (GateFormBreaks (map view.attribute attributes.now)) result }
+{
+    match attributes.first() {
+        Some(first) => PackageFault::Broken {
+            rule: PackageRule::BadGate,
+            span: first.span,
+        },
+        None => unreachable!(),
+    }
+}
+
+/// Refuses a version that `semver` doesn't read.
+pub fn check_version(version: &Version<'_>) -> Result<(), PackageFault>
+    ensures ok { OnOk result (IsKept (VersionBreaks (view.version version.now))) }
+    ensures cause { IfErr result (IsFaultOf (VersionBreaks (view.version version.now))) }
+{
+    if is_read_by_semver(version.text) {
+        return Ok(());
+    }
+    Err(PackageFault::Broken {
+        rule: PackageRule::BadVersion,
+        span: version.span,
+    })
+}
+
+/// Refuses a version, if there is one, that `semver` doesn't read.
+fn check_version_where(version: &Option<Version<'_>>) -> Result<(), PackageFault>
+    ensures ok { OnOk result (IsKept (VersionWhereBreaks (option_map view.version version.now))) }
+    ensures cause { IfErr result (IsFaultOf (VersionWhereBreaks (option_map view.version version.now))) }
+{
+    match version {
+        Some(version) => check_version(version),
+        None => Ok(()),
+    }
+}
+
+/// Refuses gates of which `semver` doesn't read a version.
+fn check_gate_versions(gates: &Gates<'_>) -> Result<(), PackageFault>
+    ensures ok { OnOk result (IsKept (GateVersionsBreak (seen.gates gates.now))) }
+    ensures cause { IfErr result (IsFaultOf (GateVersionsBreak (seen.gates gates.now))) }
+{
+    match gates {
+        Gates::Ungated => Ok(()),
+        Gates::OfFeature { deprecated, .. } => check_version_where(deprecated),
+        Gates::FromVersion { since, deprecated } => match check_version(since) {
+            Ok(()) => check_version_where(deprecated),
+            Err(fault) => Err(fault),
+        },
+    }
+}
+
+/// Refuses attributes that may not stand together, at the first of them (WIT, Feature Gates), and a version in them that
+/// `semver` doesn't read, at the version.
 pub fn check_gates(attributes: &[Attribute<'_>]) -> Result<(), PackageFault>
     ensures ok { OnOk result (IsKept (GatesBreak (map view.attribute attributes.now))) }
     ensures cause { IfErr result (IsFaultOf (GatesBreak (map view.attribute attributes.now))) }
 {
-    let Some(first) = attributes.first() else {
-        return Ok(());
-    };
     match gates_of(attributes) {
-        Some(_) => Ok(()),
-        None => Err(PackageFault::Broken {
-            rule: PackageRule::BadGate,
-            span: first.span,
-        }),
+        Some(gates) => check_gate_versions(&gates),
+        None => Err(bad_gates(attributes)),
     }
 }
