@@ -1,6 +1,6 @@
 //! Types under the names of a scope.
 
-ghost use Rattle.std.specs.Prelude.{◌≡◌, ℕ, ◌∷◌, ◌++◌, [], OnErr, OnOk, IfSome, IfNone};
+ghost use Rattle.std.specs.Prelude.{◌≡◌, ℕ, ◌<◌, ◌∷◌, ◌++◌, [], Some, length, slice_get, OnErr, OnOk, IfSome, IfNone};
 ghost use Rattle.wit_arena.specs.Meaning.{Has};
 
 use indexmap::IndexMap;
@@ -51,5 +51,23 @@ impl<'a> Table<'a> {
         self.inner.reserve(1)?;
         self.inner.insert(name, id.index()).unwrap();
         Ok(())
+    }
+
+    /// How many names there are.
+    pub fn len(&self) -> usize
+        ensures { result ≡ length self.now }
+    {
+        self.inner.len()
+    }
+
+    /// The name at a place below that number, and what stands under it.
+    pub fn entry(&self, place: usize) -> (&'a str, TypeId)
+        requires { place < length self.now }
+        ensures { slice_get self.now place ≡ Some (result.0.now, result.1) }
+    {
+        match self.inner.get_index(place) {
+            Some((name, index)) => (*name, TypeId::from_index(*index)),
+            None => unreachable!(),
+        }
     }
 }

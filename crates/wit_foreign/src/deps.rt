@@ -4,7 +4,6 @@ ghost use Rattle.std.specs.Prelude.{◌≡◌, ℕ, ◌∷◌, ◌++◌, [], Lis
 ghost use Rattle.wit_syntax.specs.Ast.{PackageNameTree};
 ghost use Rattle.wit_types.specs.declared.«package».AstItem.{AstItem};
 ghost use Rattle.wit_syntax.specs.AstView as view;
-ghost use Rattle.wit_rules.specs.Facts as fact;
 ghost use Rattle.wit_arena.specs.Meaning.{Has, package_text};
 ghost use Rattle.wit_package_types.specs.Stability.{IsReadWhere};
 ghost use Rattle.wit_foreign.specs.Needs.{NeedTree};
@@ -20,6 +19,7 @@ use crate::needs::Need;
 use indexmap::IndexMap;
 use std::alloc::{AllocError, Global};
 use wit_package_types::{optional_version, stability_of};
+use wit_rules::name_span;
 use wit_syntax::Span;
 use wit_types::{AstItem, PackageName, Stability};
 
@@ -130,20 +130,6 @@ fn package_name(
         name: text,
         version,
     })
-}
-
-/// Where the name of a package stands.
-fn name_span(name: &wit_syntax::PackageName<'_>) -> Span
-    ensures { result ≡ fact.name_span (view.package_name name.now) }
-{
-    let end = match name.version {
-        None => name.name.span.end,
-        Some(version) => version.span.end,
-    };
-    Span {
-        start: name.namespace.span.start,
-        end,
-    }
 }
 
 /// Puts a package behind the others; none of them has its name.

@@ -128,6 +128,20 @@ impl<'a> ForeignItems<'a> {
         self.find(&ItemPath::new(from, item, asked))
     }
 
+    /// How many interfaces are asked for: their ids are the numbers below.
+    pub fn interfaces(&self) -> usize
+        ensures { result ≡ spec.interfaces_in self.now }
+    {
+        self.interfaces
+    }
+
+    /// How many worlds are asked for: their ids are the numbers below.
+    pub fn worlds(&self) -> usize
+        ensures { result ≡ spec.worlds_in self.now }
+    {
+        self.worlds
+    }
+
     /// Puts an item that isn't there behind the others, with the next id of its sort. Where memory is wanting nothing
     /// changes.
     fn add(&mut self, path: ItemPath<'a>) -> Result<(), AllocError>

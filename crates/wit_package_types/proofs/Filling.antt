@@ -55,8 +55,10 @@ kind_given_extends : (k : KnownTypes) (t : Entries) (a b : List TypeDef) (mk : M
 kind_given_extends k t a b mk n (gives_defined d b2 n2 low) = kind_extends t a b2 d n2 low
 kind_given_extends k t a b mk n (gives_used from y i f) = extends_self a
 
+pub defined_extends : (k : KnownTypes) (t : Entries) (owner : TypeOwner) (a : List TypeDef) (m : MemberTree) (b : List TypeDef) (i : ℕ) → Defines k t owner a m b i → Extends a b
+defined_extends k t owner a m b i d =
+    subst (Extends a) (sym d.last) (extends_through a d.before (d.before ++ d.def ∷ []) (kind_given_extends k t a d.before m.kind d.kind d.gives) (d.def ∷ [], refl))
+
 pub filled_extends : (k : KnownTypes) (owner : TypeOwner) (a : List TypeDef) (ms : List MemberTree) (b : List TypeDef) (t : Entries) → Fills k owner a ms b t → Extends a b
 filled_extends k owner a ms b t fills_none = extends_self a
-filled_extends k owner a ms b t (fills_more ns m b2 c t2 i f d) =
-    extends_through a b2 c (filled_extends k owner a ns b2 t2 f)
-    (subst (Extends b2) (sym d.last) (extends_through b2 d.before (d.before ++ d.def ∷ []) (kind_given_extends k t2 b2 d.before m.kind d.kind d.gives) (d.def ∷ [], refl)))
+filled_extends k owner a ms b t (fills_more ns m b2 c t2 i f d) = extends_through a b2 c (filled_extends k owner a ns b2 t2 f) (defined_extends k t2 owner b2 m c i d)

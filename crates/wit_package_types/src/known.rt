@@ -1,6 +1,7 @@
 //! What `use` finds.
 
 ghost use Rattle.std.specs.Prelude.{◌≡◌, ℕ, [], OnErr, OnOk, IfSome, IfNone};
+ghost use Rattle.name_places.specs.FirstPlaces.{place_of};
 ghost use Rattle.wit_syntax.specs.AstView as view;
 ghost use Rattle.wit_scopes.specs.View as scope_view;
 ghost use Rattle.wit_package_types.specs.Known.{KnownTypes, with_interface, FindsOwn, Finds};
@@ -67,6 +68,13 @@ impl<'a> Known<'a> {
         let place = self.names.first(interface.name)?;
         let table = self.tables.get(place)?;
         table.get(name.name)
+    }
+
+    /// The place of an interface among those of the package that are known: of two of one name the first counts.
+    pub fn place(&self, name: &str) -> Option<usize>
+        ensures { result ≡ place_of name.now self.now.names }
+    {
+        self.names.first(name)
     }
 
     /// Adds an interface of the package with its types, behind the others; of two of one name the first counts. Where memory

@@ -56,8 +56,8 @@ impl<'a> Checked for File<'a> {
     }
 }
 
-/// Where a package's name stands.
-fn name_span<'a>(name: &PackageName<'a>) -> Span
+/// Where a package's name stands, with its version.
+pub fn name_span<'a>(name: &PackageName<'a>) -> Span
     ensures { result ≡ spec.name_span (view.package_name name.now) }
 {
     let end = match name.version {

@@ -32,12 +32,10 @@ pub use kind::{
 };
 pub use law::{law_tracks_are_their_own, law_world_keys_are_lawful};
 pub use mangling::{AbiVariant, Mangling, UnknownMangling};
-pub use package::{
-    AstItem, ForeignItems, Package, PackageName, UnresolvedPackage, UnresolvedPackageGroup,
-};
+pub use package::{AstItem, ForeignItems, Package, PackageName, UnresolvedPackage};
 pub use size::{FlagsRepr, Int};
 pub use stability::Stability;
 pub use wit_order::{Need, OrderFault, toposort};
-use wit_words::{SourceMap, Span};
+use wit_words::Span;
 pub use world::{IncludeName, World, WorldInclude, WorldItem};
 pub use world_key::WorldKey;

@@ -3,13 +3,13 @@
 ghost use Rattle.std.specs.Prelude.{◌≡◌, Some, string_bytes, IfOk};
 ghost use Rattle.wit_types.specs.Package.{package_text, interface_text};
 
+use crate::Span;
 use crate::arena::{Arena, Stored};
 use crate::docs::Docs;
 use crate::id::{InterfaceId, PackageId, PackageTag, WorldId};
 use crate::interface::{Interface, TypeDef};
 use crate::stability::Stability;
 use crate::world::World;
-use crate::{SourceMap, Span};
 use indexmap::IndexMap;
 use semver::Version;
 use std::alloc::{AllocError, Global};
@@ -109,15 +109,4 @@ pub struct UnresolvedPackage {
     pub foreign_dep_spans: Vec<Span>,
     /// Where each unknown type is asked for, in the same order.
     pub unknown_type_spans: Vec<Span>,
-}
-
-/// A package with those that are nested in its files, and its texts.
-#[derive(Drop)]
-pub struct UnresolvedPackageGroup {
-    /// The package.
-    pub main: UnresolvedPackage,
-    /// Those that are nested in its files.
-    pub nested: Vec<UnresolvedPackage>,
-    /// The texts.
-    pub source_map: SourceMap,
 }

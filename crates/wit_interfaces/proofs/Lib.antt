@@ -1,0 +1,6 @@
+pub mod Bringing
+pub mod Knowing
+pub mod Growing
+pub mod SoFar
+pub mod Pairs
+pub mod Viewing

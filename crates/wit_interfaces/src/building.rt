@@ -1,0 +1,104 @@
+//! A package as far as it is brought together.
+
+ghost use Rattle.std.specs.Prelude.{◌≡◌, ℕ, [], ◌∷◌, ◌++◌, length, OnOk, IfErr};
+ghost use Rattle.wit_rules.specs.declared.fault.PackageFault.TheVariants.{OutOfMemory};
+ghost use Rattle.wit_package_types.specs.Known.{with_interface};
+ghost use Rattle.wit_rules.specs.Breaks.{IsKept, IsFaultOf};
+ghost use Rattle.wit_scopes.specs.View as scope_view;
+ghost use Rattle.wit_types.specs.declared.interface.TypeOwner.TheVariants as belongs;
+ghost use Rattle.wit_arena.specs.Tree.{in_interface};
+ghost use Rattle.wit_resources.specs.Natures.{natures as natures_of};
+ghost use Rattle.wit_resolved_scopes.specs.InArena.{Context};
+ghost use Rattle.wit_resolved_scopes.specs.Texts.{interface_text};
+ghost use Rattle.wit_resolved_scopes.specs.Fit.{Foreign, AreInterfacesReady, KnowsInterfaces};
+ghost use Rattle.wit_interfaces.specs.Adding as spec;
+ghost use Rattle.wit_interfaces.specs.View as seen;
+
+use crate::interface::{Made, make_interface};
+use crate::text::text_of;
+use wit_arena::Types;
+use wit_package_types::Known;
+use wit_resources::Natures;
+use wit_rules::PackageFault;
+use wit_scopes::InterfaceScope;
+use wit_types::{Arena, Interface, InterfaceId};
+
+/// A package as far as it is brought together.
+#[derive(Drop)]
+pub struct Building<'a> {
+    /// The types that `use` finds: those of the interfaces so far, by the names of these, and those of other packages.
+    pub known: Known<'a>,
+    /// All types so far.
+    pub types: Types,
+    /// What is known of each of them.
+    pub natures: Natures,
+    /// The interfaces of other packages that are asked for, and the package's own so far.
+    pub interfaces: Arena<Interface>,
+}
+
+/// Keeps what is made of an interface.
+fn keep_interface<'a>(
+    building: &mut Building<'a>,
+    name: &'a str,
+    made: Made<'a>,
+) -> Result<(), PackageFault>
+    ensures known { OnOk result (building.new.known ≡ with_interface building.old.known name.entry.now made.entry.table) }
+    ensures behind { OnOk result (building.new.interfaces ≡ building.old.interfaces ++ made.entry.interface ∷ []) }
+    ensures types { building.new.types ≡ building.old.types }
+    ensures natures { building.new.natures ≡ building.old.natures }
+    ensures memory { IfErr result (λ fault. fault ≡ OutOfMemory) }
+{
+    let Made { interface, table } = made;
+    building.known.add(name, table)?;
+    building.interfaces.alloc(interface)?;
+    Ok(())
+}
+
+/// Adds an interface behind the others; from then on its types are known.
+fn add_interface<'a>(
+    building: &mut Building<'a>,
+    interface: &'a InterfaceScope<'a>,
+) -> Result<(), PackageFault>
+    requires ready { spec.IsReadyIn building.old.known (interface_text (scope_view.interface_scope interface.now)) }
+    requires natures { building.old.natures ≡ natures_of building.old.types }
+    ensures adds { OnOk result (spec.AddsInterface building.old.known building.old.types building.old.interfaces (scope_view.interface_scope interface.entry.now) building.new.known building.new.types building.new.interfaces) }
+    ensures natures { OnOk result (building.new.natures ≡ natures_of building.new.types) }
+    ensures kept { (c : Context) → spec.MayBring c (in_interface interface.entry.now.name.name.now) (belongs.Interface (length building.old.interfaces)) building.old.known building.old.types (scope_view.interface_scope interface.entry.now).members → OnOk result (IsKept (spec.MembersBreak c (in_interface interface.entry.now.name.name.now) (scope_view.interface_scope interface.entry.now).members)) }
+    ensures cause { (c : Context) → spec.MayBring c (in_interface interface.entry.now.name.name.now) (belongs.Interface (length building.old.interfaces)) building.old.known building.old.types (scope_view.interface_scope interface.entry.now).members → IfErr result (IsFaultOf (spec.MembersBreak c (in_interface interface.entry.now.name.name.now) (scope_view.interface_scope interface.entry.now).members)) }
+{
+    let id = InterfaceId::from_index(building.interfaces.len());
+    let text = text_of(interface);
+    match make_interface(
+        &mut building.types,
+        &mut building.natures,
+        &building.known,
+        id,
+        &text,
+    ) {
+        Ok(made) => keep_interface(building, interface.name.name, made),
+        Err(fault) => Err(fault),
+    }
+}
+
+/// Adds the interfaces of a package behind the others, in this order, in which each stands behind those from which it uses
+/// types: from then on the types of each are known by its name. They are refused where one of their scopes is: P6 to P9.
+pub fn add_interfaces<'a>(
+    building: &mut Building<'a>,
+    interfaces: &[&'a InterfaceScope<'a>],
+) -> Result<(), PackageFault>
+    requires ready { (others : Foreign) × AreInterfacesReady others (seen.interfaces interfaces.now) × (building.old.known.foreign ≡ others.types) }
+    requires none { (building.old.known.names ≡ []) × (building.old.known.tables ≡ []) }
+    requires natures { building.old.natures ≡ natures_of building.old.types }
+    ensures natures { OnOk result (building.new.natures ≡ natures_of building.new.types) }
+    ensures knows { OnOk result (KnowsInterfaces building.new.known (seen.interfaces interfaces.now) × (building.new.known.foreign ≡ building.old.known.foreign)) }
+    ensures adds { (c : Context) → spec.MayAdd c building.old.known building.old.types (length building.old.interfaces) (seen.interfaces interfaces.now) → OnOk result (spec.AddsInterfaces c building.old.types building.old.interfaces (seen.interfaces interfaces.now) building.new.known building.new.types building.new.interfaces) }
+    ensures kept { (c : Context) → spec.MayAdd c building.old.known building.old.types (length building.old.interfaces) (seen.interfaces interfaces.now) → OnOk result (IsKept (spec.InterfacesBreak c (seen.interfaces interfaces.now))) }
+    ensures cause { (c : Context) → spec.MayAdd c building.old.known building.old.types (length building.old.interfaces) (seen.interfaces interfaces.now) → IfErr result (IsFaultOf (spec.InterfacesBreak c (seen.interfaces interfaces.now))) }
+{
+    for interface in interfaces {
+        if let Err(fault) = add_interface(building, interface) {
+            return Err(fault);
+        }
+    }
+    Ok(())
+}

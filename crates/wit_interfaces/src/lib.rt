@@ -1,0 +1,14 @@
+//! The interfaces of a package, each brought into the arena with all that it declares.
+#![tactic(auto)]
+
+mod building;
+mod interface;
+mod maps;
+mod members;
+mod text;
+
+pub use building::{Building, add_interfaces};
+pub use interface::{Made, make_interface};
+pub use maps::keyed;
+pub use members::bring_members;
+pub use text::InterfaceText;

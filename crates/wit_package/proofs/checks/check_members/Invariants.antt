@@ -1,7 +1,0 @@
-use Rattle.wit_scopes.specs.View as scope_view
-use Rattle.wit_lookups.proofs.Loops.{AreKeptTo}
-use Rattle.wit_package.specs.Faults.{MemberFails}
-use Rattle.wit_package.proofs.checks.check_members.Given as goal
-
-abbrev pub invariant-loop-member : goal.invariant-loop-member
-invariant-loop-member l = AreKeptTo (λ m. MemberFails l.natures l.table (scope_view.members l.types) m.kind) scope_view.member l.members l.member-index

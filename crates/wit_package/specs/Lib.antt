@@ -1,3 +1,0 @@
-pub mod Scope
-pub mod Faults
-pub mod Meaning

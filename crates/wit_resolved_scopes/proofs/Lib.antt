@@ -1,0 +1,12 @@
+pub mod Results
+pub mod Following
+pub mod Keeping
+pub mod Orders
+pub mod Eaches
+pub mod Among
+pub mod Readying
+pub mod Scoping
+pub mod Meant
+pub mod Declaring
+pub mod Placing
+pub mod Fitting

@@ -1,0 +1,148 @@
+-- A scope that is brought into an arena stands in it.
+use Rattle.std.proofs.Common.{◌≡◌, ℕ, ◌+◌, List, [], ◌∷◌, ◌++◌, length, length-append, Some, refl, sym, subst, ap, ◌∙◌}
+use Rattle.std.specs.Prelude.{slice_get}
+use Rattle.wit_types.specs.declared.kind.«Type».TheVariants.{Id}
+use Rattle.wit_types.specs.declared.function.Function.{Function}
+use Rattle.wit_types.specs.declared.interface.TypeDef.{TypeDef}
+use Rattle.wit_types.specs.declared.interface.TypeOwner.{TypeOwner}
+use Rattle.wit_scopes.specs.Members.{MemberTree}
+use Rattle.wit_orders.specs.Needs.{types_of}
+use Rattle.wit_arena.specs.Tree.{Name, Place, in_interface, Owner, Tree}
+use Rattle.wit_arena.specs.Table.{Entries}
+use Rattle.wit_arena.specs.Meaning.{Has}
+use Rattle.wit_arena.specs.Standing.{Stands, AreStanding}
+use Rattle.wit_arena.proofs.Lists.{get_kept, get_last}
+use Rattle.wit_arena.proofs.Extending.{Extends}
+use Rattle.wit_arena.proofs.Growing.{ref_grown}
+use Rattle.wit_package_types.specs.Known.{KnownTypes, with_interface}
+use Rattle.wit_package_types.specs.Fill.{IsTypeOf, Defines, Fills, fills_none, fills_more}
+use Rattle.wit_package_types.proofs.Filling.{defined_extends}
+use Rattle.wit_package_types.proofs.Filled.{filled_types_stand_for_their_meaning}
+use Rattle.wit_resolved_scopes.specs.Each.{Each}
+use Rattle.wit_resolved_scopes.specs.Scope.{functions_among, AddsFunction, adds_function, passes_type, LowersFunctions, no_members, one_more}
+use Rattle.wit_resolved_scopes.specs.Meaning.{StandsForFunction}
+use Rattle.wit_resolved_scopes.specs.InArena.{Context, IsTypeIn, IsFunctionOf, IsFunctionIn, IsScopeIn, GrowsFor, IsBuilt, ResolvedScopesAreIn}
+use Rattle.wit_resolved_scopes.proofs.Among.{function_pushed, type_passed}
+use Rattle.wit_resolved_scopes.proofs.Eaches.{each_push, each_to, each_given}
+use Rattle.wit_resolved_scopes.proofs.Following.{functions_extend}
+use Rattle.wit_resolved_scopes.proofs.Meant.{resolved_scopes_stand, function_grown}
+
+-- what stood at a place stands there
+pub get_extended : (a b : List TypeDef) (i : ℕ) (d : TypeDef) → Extends a b → slice_get a i ≡ Some d → slice_get b i ≡ Some d
+get_extended a b i d (more, e) at = ap (λ (z : List TypeDef). slice_get z i) e ∙ get_kept a more i d at
+
+-- ---- types
+
+-- a type under its name, aside from what it means
+record IsPut (whose : TypeOwner) (a : List TypeDef) (m : MemberTree) (e : Name × ℕ) : Type 0 where
+  name : e.0 ≡ m.name.text
+  def : TypeDef
+  there : slice_get a e.1 ≡ Some def
+  is : IsTypeOf whose m def.kind def
+
+put_kept : (whose : TypeOwner) (a b : List TypeDef) → Extends a b → (m : MemberTree) (e : Name × ℕ) → IsPut whose a m e → IsPut whose b m e
+put_kept whose a b more m e p = record { name = p.name; def = p.def; there = get_extended a b e.1 p.def more p.there; is = p.is }
+
+put_here : (k : KnownTypes) (table : Entries) (whose : TypeOwner) (a : List TypeDef) (m : MemberTree) (b : List TypeDef) (i : ℕ) → Defines k table whose a m b i → IsPut whose b m (m.name.text, i)
+put_here k table whose a m b i d = record {
+  name = refl;
+  def = d.def;
+  there = subst (λ (n : ℕ). slice_get b n ≡ Some d.def) (sym d.id_is) (ap (λ (z : List TypeDef). slice_get z (length d.before)) d.last ∙ get_last d.before d.def);
+  is = record { name = d.is.name; kind = refl; owner = d.is.owner; docs = d.is.docs; stability = d.is.stability; span = d.is.span };
+}
+
+types_put : (k : KnownTypes) (whose : TypeOwner) (a : List TypeDef) (ms : List MemberTree) (b : List TypeDef) (table : Entries) → Fills k whose a ms b table → Each (IsPut whose b) ms table
+types_put k whose a ms b table fills_none = tt
+types_put k whose a ms b table (fills_more ns m b2 c t i f d) =
+    each_push (IsPut whose c) ns t m (m.name.text, i) (each_to (IsPut whose b2) (IsPut whose c) ns t (λ n e h g p. put_kept whose b2 c (defined_extends k t whose b2 m c i d) n e p) (types_put k whose a ns b2 t f)) (put_here k t whose b2 m c i d)
+
+module _ (c : Context) (o : Place) (whose : TypeOwner) (a b : List TypeDef) (table : Entries) (more : Extends a b) (stands : (given : Owner → Name → Tree) → AreStanding c.me c.scopes given c.owners o table b) where
+  types_in : (ms : List MemberTree) → Each (IsPut whose a) ms table → Each (IsTypeIn c o whose b) ms table
+  types_in ms = each_to (IsPut whose a) (IsTypeIn c o whose b) ms table type_in
+    where
+      type_in : (m : MemberTree) (e : Name × ℕ) → Has ms m → Has table e → IsPut whose a m e → IsTypeIn c o whose b m e
+      type_in m e h there p =
+          let q : IsPut whose b m e = put_kept whose a b more m e p in
+          record {
+            name = q.name;
+            def = q.def;
+            there = q.there;
+            is = q.is;
+            means = λ given. subst (λ (x : Name). Stands c.me c.scopes given c.owners b o x e.1) q.name (stands given e.0 e.1 there);
+          }
+
+-- ---- functions
+
+module _ (table : Entries) where
+  function_put : (ns : List MemberTree) (fs : List Function) (a : List TypeDef) (m : MemberTree) (b : List TypeDef) (gs : List Function) → Each (IsFunctionOf table) (functions_among ns) fs → AddsFunction table a fs m b gs
+      → Each (IsFunctionOf table) (functions_among (ns ++ m ∷ [])) gs
+  function_put ns fs a m b gs before (adds_function b2 f of low) =
+      subst (λ (xs : List MemberTree). Each (IsFunctionOf table) xs (fs ++ f ∷ [])) (sym (function_pushed ns m of))
+      (each_push (IsFunctionOf table) (functions_among ns) fs m f before (record { name = low.name; kind = low.kind; labels = low.signature.labels; docs = low.docs; stability = low.stability; span = low.span }))
+  function_put ns fs a m b gs before (passes_type of) = subst (λ (xs : List MemberTree). Each (IsFunctionOf table) xs fs) (sym (type_passed ns m of)) before
+
+  pub functions_put : (a : List TypeDef) (ms : List MemberTree) (b : List TypeDef) (fs : List Function) → LowersFunctions table a ms b fs → Each (IsFunctionOf table) (functions_among ms) fs
+  functions_put a ms b fs no_members = tt
+  functions_put a ms b fs (one_more ns m b2 c fs2 gs l adds) = function_put ns fs2 b2 m c gs (functions_put a ns b2 fs2 l) adds
+
+-- ---- scopes
+
+module _ (c : Context) (k : KnownTypes) (a b : List TypeDef) where
+  built_grown : IsBuilt c k a → GrowsFor c a b → IsBuilt c k b
+  built_grown built grows = record {
+    functional = built.functional;
+    even = built.even;
+    whole = λ given. (grows given).whole;
+    known = λ given. (filled_types_stand_for_their_meaning c.me c.scopes given c.owners).kept k a b (grows given) (built.known given);
+  }
+
+pub resolved_scopes_are_in : ResolvedScopesAreIn
+resolved_scopes_are_in c o whose k a b ms table fs of built r =
+    let law = λ (given : Owner → Name → Tree). resolved_scopes_stand c.me c.scopes given c.owners o whose k a b (types_of ms) ms table fs of (built.whole given) (built.known given) r in
+    let grows : GrowsFor c a b = λ given. (law given).0 in
+    let functions : Each (λ m f. IsFunctionOf table m f × ((given : Owner → Name → Tree) → StandsForFunction c.me c.scopes given c.owners o b m f)) (functions_among ms) fs =
+    each_given (IsFunctionOf table) (λ (given : Owner → Name → Tree). StandsForFunction c.me c.scopes given c.owners o b) (functions_among ms) fs (functions_put table r.between ms b fs r.functions) (λ given. (law given).2) in (
+      grows,
+      built_grown c k a b built grows,
+      record {
+        sorted = r.types_are.sorted;
+        are_sorted = r.types_are.are_sorted;
+        types_are = types_in c o whose r.between b table (functions_extend table r.between b ms fs r.functions) (λ given. (law given).1) r.types_are.sorted (types_put k whose a r.types_are.sorted r.between table r.types_are.fills);
+        functions_are = each_to (λ m f. IsFunctionOf table m f × ((given : Owner → Name → Tree) → StandsForFunction c.me c.scopes given c.owners o b m f)) (IsFunctionIn c o b table) (functions_among ms) fs (λ m f h g p. record { is = p.0; means = p.1 }) functions;
+      },
+    )
+
+-- ---- what stands stays
+
+module _ (c : Context) (a b : List TypeDef) (grows : GrowsFor c a b) (more : Extends a b) where
+  pub type_grown : (o : Place) (whose : TypeOwner) (m : MemberTree) (e : Name × ℕ) → IsTypeIn c o whose a m e → IsTypeIn c o whose b m e
+  type_grown o whose m e t = record {
+    name = t.name;
+    def = t.def;
+    there = get_extended a b e.1 t.def more t.there;
+    is = t.is;
+    means = λ given. (let s = t.means given in (s.0, ref_grown c.owners given a b (Id e.1) s.0 (grows given) s.1, s.2));
+  }
+
+  pub function_in_grown : (o : Place) (table : Entries) (m : MemberTree) (f : Function) → IsFunctionIn c o a table m f → IsFunctionIn c o b table m f
+  function_in_grown o table m f g = record { is = g.is; means = λ given. function_grown c.me c.scopes given c.owners o a b (grows given) m f (g.means given) }
+
+  pub scope_grown : (o : Place) (whose : TypeOwner) (ms : List MemberTree) (table : Entries) (fs : List Function) → IsScopeIn c o whose a ms table fs → IsScopeIn c o whose b ms table fs
+  scope_grown o whose ms table fs s = record {
+    sorted = s.sorted;
+    are_sorted = s.are_sorted;
+    types_are = each_to (IsTypeIn c o whose a) (IsTypeIn c o whose b) s.sorted table (λ m e h g t. type_grown o whose m e t) s.types_are;
+    functions_are = each_to (IsFunctionIn c o a table) (IsFunctionIn c o b table) (functions_among ms) fs (λ m f h g i. function_in_grown o table m f i) s.functions_are;
+  }
+
+-- the types of an interface may be known by its name
+pub built_more : (c : Context) (k : KnownTypes) (a : List TypeDef) (x : Name) (table : Entries) → IsBuilt c k a → ((given : Owner → Name → Tree) → AreStanding c.me c.scopes given c.owners (in_interface x) table a) → IsBuilt c (with_interface k x table) a
+built_more c k a x table built stands = record {
+  functional = built.functional;
+  even = (let e : length k.names ≡ length k.tables = built.even in more_even e);
+  whole = built.whole;
+  known = λ given. (filled_types_stand_for_their_meaning c.me c.scopes given c.owners).known k a x table built.even (built.known given) (stands given);
+}
+  where
+    more_even : length k.names ≡ length k.tables → length (k.names ++ x ∷ []) ≡ length (k.tables ++ table ∷ [])
+    more_even e = length-append k.names (x ∷ []) ∙ ap (λ (n : ℕ). n + 1) e ∙ sym (length-append k.tables (table ∷ []))

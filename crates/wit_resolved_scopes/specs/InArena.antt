@@ -1,0 +1,83 @@
+-- What stands in an arena for a scope: its types and functions as the text has them, each standing for what it means (WIT, Item: `interface`, Use).
+use Rattle.std.specs.Prelude.{◌≡◌, ℕ, List, map, Some, length, slice_get, string_bytes}
+use Rattle.wit_types.specs.declared.function.Function.{Function}
+use Rattle.wit_types.specs.declared.interface.TypeDef.{TypeDef}
+use Rattle.wit_types.specs.declared.interface.TypeOwner.{TypeOwner}
+use Rattle.wit_scopes.specs.Members.{MemberTree}
+use Rattle.wit_scopes.specs.Scopes.{ItemScope}
+use Rattle.wit_rules.specs.Labels.{full_name}
+use Rattle.wit_orders.specs.Needs.{types_of, AreSorted}
+use Rattle.wit_arena.specs.Tree.{Name, PackageText, Place, Owner, Tree}
+use Rattle.wit_arena.specs.Table.{Entries}
+use Rattle.wit_arena.specs.Docs.{said, contents_of}
+use Rattle.wit_arena.specs.LowerParams.{written_param, param_label}
+use Rattle.wit_arena.specs.Unfold.{Owners, IsWhole}
+use Rattle.wit_arena.specs.Standing.{Stands, Grows, AreFunctional}
+use Rattle.wit_package_types.specs.Stability.{IsStabilityOf}
+use Rattle.wit_package_types.specs.Known.{KnownTypes}
+use Rattle.wit_package_types.specs.Fill.{IsTypeOf}
+use Rattle.wit_package_types.specs.Standing.{AreKnownStanding, AreOfScope}
+use Rattle.wit_functions.specs.Signature.{all_params, IsKindOf}
+use Rattle.wit_resolved_scopes.specs.Each.{Each}
+use Rattle.wit_resolved_scopes.specs.Scope.{functions_among, ResolvesScope}
+use Rattle.wit_resolved_scopes.specs.Meaning.{StandsForFunction}
+
+-- a package: its name, its scopes, and whose its interfaces and worlds are, by their ids
+pub record Context : Type 0 where
+  pub me : PackageText
+  pub scopes : List ItemScope
+  pub owners : Owners
+
+abbrev pub own_owner : Context → Place → Owner
+own_owner c o = record { package_text = c.me; place = o }
+
+-- ---- what stands for them
+
+-- a type under its name, of which the arena says what the text does; it stands for what the name means, whatever is given for names of other packages
+pub record IsTypeIn (c : Context) (o : Place) (whose : TypeOwner) (a : List TypeDef) (m : MemberTree) (e : Name × ℕ) : Type 0 where
+  pub name : e.0 ≡ m.name.text
+  pub def : TypeDef
+  pub there : slice_get a e.1 ≡ Some def
+  pub is : IsTypeOf whose m def.kind def
+  pub means : (given : Owner → Name → Tree) → Stands c.me c.scopes given c.owners a o m.name.text e.1
+
+-- a function of a scope with these types, of which the same is said as in the text
+pub record IsFunctionOf (table : Entries) (m : MemberTree) (f : Function) : Type 0 where
+  pub name : string_bytes f.name ≡ full_name m.kind m.name
+  pub kind : IsKindOf table m.kind f.kind
+  pub labels : map param_label f.params.items ≡ map written_param (all_params m)
+  pub docs : contents_of f.docs ≡ said m.docs
+  pub stability : IsStabilityOf m.attributes f.stability
+  pub span : f.span ≡ m.name.span
+
+-- its parameters and its result stand for what they mean
+pub record IsFunctionIn (c : Context) (o : Place) (a : List TypeDef) (table : Entries) (m : MemberTree) (f : Function) : Type 0 where
+  pub is : IsFunctionOf table m f
+  pub means : (given : Owner → Name → Tree) → StandsForFunction c.me c.scopes given c.owners o a m f
+
+-- a scope at a place: its types, each behind those that it names and in the least of such orders, and its functions in that of the text
+pub record IsScopeIn (c : Context) (o : Place) (whose : TypeOwner) (a : List TypeDef) (ms : List MemberTree) (table : Entries) (fs : List Function) : Type 0 where
+  pub sorted : List MemberTree
+  pub are_sorted : AreSorted (types_of ms) sorted
+  pub types_are : Each (IsTypeIn c o whose a) sorted table
+  pub functions_are : Each (IsFunctionIn c o a table) (functions_among ms) fs
+
+-- ---- arenas that grow
+
+-- the arena begins with the other, and is whole, whatever is given
+abbrev pub GrowsFor : Context → List TypeDef → List TypeDef → Type 0
+GrowsFor c a b = (given : Owner → Name → Tree) → Grows c.owners given a b
+
+-- an arena under construction: it is whole, and what `use` finds stands for what it means
+pub record IsBuilt (c : Context) (k : KnownTypes) (a : List TypeDef) : Type 0 where
+  pub functional : AreFunctional c.scopes
+  pub even : length k.names ≡ length k.tables
+  pub whole : (given : Owner → Name → Tree) → IsWhole c.owners given a
+  pub known : (given : Owner → Name → Tree) → AreKnownStanding c.me c.scopes given c.owners k a
+
+-- a scope that is brought into such an arena stands in it, and what stood there stays
+abbrev pub ResolvedScopesAreIn : Type 0
+ResolvedScopesAreIn =
+    (c : Context) (o : Place) (whose : TypeOwner) (k : KnownTypes) (a b : List TypeDef) (ms : List MemberTree) (table : Entries) (fs : List Function)
+    → AreOfScope c.me c.scopes c.owners o whose (types_of ms) → IsBuilt c k a → ResolvesScope k whose a (types_of ms) ms b table fs
+    → GrowsFor c a b × IsBuilt c k b × IsScopeIn c o whose b ms table fs

@@ -1,0 +1,10 @@
+//! Packages: what their files declare, brought together.
+#![tactic(auto)]
+
+mod checks;
+mod functions;
+mod law;
+mod scope;
+
+pub use law::{law_resolved_scopes_are_in_the_arena, law_resolved_scopes_stand_for_their_meaning};
+pub use scope::{ResolvedScope, resolve_scope};
