@@ -4,3 +4,5 @@ pub mod Growing
 pub mod SoFar
 pub mod Pairs
 pub mod Viewing
+pub mod Behind
+pub mod Labelling

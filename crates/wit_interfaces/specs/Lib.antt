@@ -1,3 +1,4 @@
 pub mod Interfaces
 pub mod View
 pub mod Adding
+pub mod Labelled

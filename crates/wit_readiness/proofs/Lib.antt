@@ -1,0 +1,12 @@
+pub mod Flat
+pub mod Sorted
+pub mod Parts
+pub mod Needing
+pub mod Resources
+pub mod Named
+pub mod Found
+pub mod Members
+pub mod Interfaces
+pub mod Sides
+pub mod Worlds
+pub mod Ready

@@ -1,0 +1,6 @@
+pub mod Worlds
+pub mod View
+pub mod Paths
+pub mod PathView
+pub mod Listing
+pub mod Laws
