@@ -1,5 +1,5 @@
 -- What is made for the members of a world stands for them.
-use Rattle.std.proofs.Common.{◌≡◌, ℕ, List, Some, ap, ◌∙◌}
+use Rattle.std.proofs.Common.{◌≡◌, ℕ, List, Some, sym, subst, ap, ◌∙◌}
 use Rattle.std.specs.Prelude.{slice_get}
 use Rattle.wit_types.specs.declared.function.Function.{Function}
 use Rattle.wit_types.specs.declared.interface.TypeDef.{TypeDef}
@@ -20,6 +20,7 @@ use Rattle.wit_resolved_scopes.specs.Texts.{InterfaceText, listed_text, labelled
 use Rattle.wit_resolved_scopes.proofs.Eaches.{each_at, each_to}
 use Rattle.wit_worlds.specs.Worlds.{Entry, target_owner, function_member, IsFunctionEntry, IsInterfaceEntry, IsExternEntry, IsEntryOf, IsIncludeOf, AreLists}
 use Rattle.wit_worlds.specs.Paths.{PathsTree, IsInterfaceId, IsWorldId, LeadRight}
+use Rattle.wit_worlds.specs.Laws.{MadeWorldsStandForTheirTexts}
 use Rattle.wit_worlds.specs.Listing.{MakesFunctionEntry, MakesInterfaceEntry, MakesInclude, ArePaired, IsExternMade, IsEntryMade, AreListsMade}
 
 module _ (c : Context) (ps : PathsTree) (leads : LeadRight c ps) where
@@ -64,3 +65,26 @@ module _ (c : Context) (ps : PathsTree) (leads : LeadRight c ps) where
         exports_are = each_to (IsEntryMade ps w.name.text (functions_among (own_members w.members)) fs (labelled_texts w) ids) (IsEntryOf c w.name.text a table) (side_members Export w.members) exports (λ x e h g m. entry_is x e m) made.exports_are;
         includes_are = each_to (MakesInclude ps) (IsIncludeOf c) (includes_of w.members) includes (λ i d h g m. include_is i d m) made.includes_are;
       }
+
+-- so does the world that is made of it
+pub made_worlds_stand : MadeWorldsStandForTheirTexts
+made_worlds_stand c ps w a table fs ids id d leads in_arena labels made =
+    let lists = lists_are c ps leads w a table fs ids in_arena.functions_are labels made.other_imports made.exports made.includes made.lists_are in
+    record {
+      name = made.is.name;
+      table = table;
+      sorted = in_arena.sorted;
+      are_sorted = in_arena.are_sorted;
+      types_are = in_arena.types_are;
+      type_entries = made.type_entries;
+      type_entries_are = made.type_entries_are;
+      other_imports = made.other_imports;
+      imports_are = made.is.imports_are;
+      lists_are =
+          subst (λ (es : List Entry). AreLists c w a table made.other_imports es d.includes.items) (sym made.is.exports_are)
+          (subst (λ (is : List WorldInclude). AreLists c w a table made.other_imports made.exports is) (sym made.is.includes_are) lists);
+      docs = made.is.docs;
+      stability = made.is.stability;
+      loose = made.is.loose;
+      span = made.is.span;
+    }

@@ -5,3 +5,4 @@ pub mod Adding
 pub mod Viewing
 pub mod Entries
 pub mod Keys
+pub mod Making
