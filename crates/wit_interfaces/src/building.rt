@@ -81,7 +81,8 @@ fn add_interface<'a>(
 }
 
 /// Adds the interfaces of a package behind the others, in this order, in which each stands behind those from which it uses
-/// types: from then on the types of each are known by its name. They are refused where one of their scopes is: P6 to P9.
+/// types: from then on the types of each are known by its name. They are refused where one of their scopes is: P6 to P9; then
+/// nothing is said of what is built, which is to be dropped.
 pub fn add_interfaces<'a>(
     building: &mut Building<'a>,
     interfaces: &[&'a InterfaceScope<'a>],

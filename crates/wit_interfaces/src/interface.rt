@@ -156,7 +156,7 @@ fn made_of<'a>(
 }
 
 /// Brings the scope of an interface into the arena, and makes the interface of that id with its types and functions. It is
-/// refused where its scope is: P6 to P9.
+/// refused where its scope is: P6 to P9; then nothing is said of the arena, which is to be dropped.
 pub fn make_interface<'a>(
     types: &mut Types,
     natures: &mut Natures,

@@ -113,7 +113,7 @@ fn add_member_text<'a>(
 }
 
 /// Adds the interfaces that stand in a world behind the others, in the order of the text, and answers their ids. They are
-/// refused where one of their scopes is: P6 to P9.
+/// refused where one of their scopes is: P6 to P9; then nothing is said of what is built, which is to be dropped.
 pub fn add_labelled<'a>(
     building: &mut Building<'a>,
     world: &'a WorldScope<'a>,

@@ -21,7 +21,7 @@ use wit_types::TypeOwner;
 
 /// Brings the members of a scope into the arena: its types, each behind those that it names, then its functions. They are
 /// refused where a type leads back to itself (P6), where a `borrow` stands in a result (P7), where a constructor declares
-/// another result than it may (P8), and where a handle names no resource (P9).
+/// another result than it may (P8), and where a handle names no resource (P9); then nothing is said of the arena.
 pub fn bring_members<'a>(
     types: &mut Types,
     natures: &mut Natures,

@@ -1,4 +1,4 @@
-//! Laws of packages.
+//! Laws of scopes in an arena.
 
 ghost use Rattle.wit_resolved_scopes.specs.Meaning.{ResolvedScopesStandForTheirMeaning};
 ghost use Rattle.wit_resolved_scopes.specs.InArena.{ResolvedScopesAreIn};

@@ -1,4 +1,4 @@
-//! Packages: what their files declare, brought together.
+//! Scopes of a package, brought into an arena.
 #![tactic(auto)]
 
 mod checks;

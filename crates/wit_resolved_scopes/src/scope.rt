@@ -55,7 +55,8 @@ fn fill_sorted<'a>(
 
 /// Brings a scope into the arena: the types that it declares, each behind those that it names, then its functions. It is
 /// refused where a type leads back to itself (P6), where a `borrow` stands in a result (P7), where a constructor declares
-/// another result than it may (P8), and where a handle names no resource (P9).
+/// another result than it may (P8), and where a handle names no resource (P9). Then nothing is said of the arena, which is to
+/// be dropped.
 pub fn resolve_scope<'a>(
     types: &mut Types,
     natures: &mut Natures,
