@@ -4,7 +4,7 @@ mod ItemFinding
 mod Gathering
 mod Uses
 mod Using
-mod Standing
+pub mod Standing
 mod PackagePaths
 mod Grouping
 mod Depending

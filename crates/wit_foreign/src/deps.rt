@@ -114,8 +114,8 @@ fn item_deps<'a>(
     )
 }
 
-/// The name of a package, of whose version `semver` reads what it is.
-fn package_name(
+/// The name of a package, whose version `semver` reads.
+pub fn package_name(
     alloc: Global,
     name: &wit_syntax::PackageName<'_>,
 ) -> Result<PackageName, AllocError>

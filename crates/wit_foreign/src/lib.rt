@@ -9,7 +9,7 @@ mod law;
 mod needs;
 mod unknown;
 
-pub use deps::{ForeignDeps, foreign_deps};
+pub use deps::{ForeignDeps, foreign_deps, package_name};
 pub use items::{ForeignItems, ItemPath, foreign_items};
 pub use law::law_unknown_types_stand_for_what_is_given;
 pub use needs::{Need, foreign_needs};

@@ -19,7 +19,7 @@ module _ {X : Type 0} where
         | inr b ↦ inr (b.0, (let e : i ≡ length xs + b.0 = b.1 in omega arith), b.2)
       ]
 
-  get_right : (xs ys : List X) (i : ℕ) (x : X) → slice_get ys i ≡ Some x → slice_get (xs ++ ys) (length xs + i) ≡ Some x
+  pub get_right : (xs ys : List X) (i : ℕ) (x : X) → slice_get ys i ≡ Some x → slice_get (xs ++ ys) (length xs + i) ≡ Some x
   get_right [] ys i x h = let e : length {A = X} [] + i ≡ i = omega arith in rw e h
   get_right (y ∷ xs) ys i x h = let e : length (y ∷ xs) + i ≡ suc (length xs + i) = omega arith in rw e (get_right xs ys i x h)
 

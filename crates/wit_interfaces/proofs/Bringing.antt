@@ -7,7 +7,10 @@ use Rattle.wit_arena.specs.Table.{Entries}
 use Rattle.wit_resolved_scopes.specs.Each.{AreApartBy}
 use Rattle.wit_resolved_scopes.specs.Scope.{functions_among, ResolvesScope}
 use Rattle.wit_resolved_scopes.proofs.Eaches.{each_right}
+use Rattle.wit_resolved_scopes.proofs.Following.{functions_extend}
 use Rattle.wit_resolved_scopes.proofs.Placing.{functions_put}
+use Rattle.wit_arena.proofs.Extending.{Extends, extends_through}
+use Rattle.wit_package_types.proofs.Filling.{filled_extends}
 use Rattle.wit_types.specs.declared.interface.TypeDef.{TypeDef}
 use Rattle.wit_types.specs.declared.interface.TypeOwner.{TypeOwner}
 use Rattle.wit_scopes.specs.Members.{MemberTree}
@@ -20,6 +23,10 @@ use Rattle.wit_interfaces.specs.Adding.{MayBring}
 
 pub may_fill : (c : Context) (o : Place) (whose : TypeOwner) (k : KnownTypes) (a : List TypeDef) (ms : List MemberTree) → MayBring c o whose k a ms → MayBeFilled c.me c.scopes c.owners o whose k (types_of ms) a
 may_fill c o whose k a ms may = record { functional = may.built.functional; of_scope = may.of_scope; whole = may.built.whole resource_leaf; known = may.built.known resource_leaf }
+
+-- a scope that is brought in goes behind what stood there
+pub scope_extends : (k : KnownTypes) (whose : TypeOwner) (a b : List TypeDef) (types ms : List MemberTree) (table : Entries) (fs : List Function) → ResolvesScope k whose a types ms b table fs → Extends a b
+scope_extends k whose a b types ms table fs r = extends_through a r.between b (filled_extends k whose a r.types_are.sorted r.between table r.types_are.fills) (functions_extend table r.between b ms fs r.functions)
 
 -- functions whose full names are apart have names that are
 pub functions_named_apart : (k : KnownTypes) (whose : TypeOwner) (a b : List TypeDef) (ms : List MemberTree) (table : Entries) (fs : List Function) → ResolvesScope k whose a (types_of ms) ms b table fs → AreApartBy (λ m. full_name m.kind m.name) (functions_among ms)

@@ -127,6 +127,10 @@ one_text_breaks c t = one_breaks (λ u. MembersBreak c u.place u.members) (t ∷
 pub none_kept : (c : Context) (ts : List InterfaceText) → ts ≡ [] → IsKept (TextsBreak c ts)
 none_kept c ts none rule at b = has_none b.one (b.place, subst (λ (us : List InterfaceText). slice_get us b.place ≡ Some b.one) none b.there)
 
+-- no text has no id
+pub no_text_more : (ids : List ℕ) (ts : List InterfaceText) → ts ≡ [] → length ids ≡ length ids + length ts
+no_text_more ids ts none = let e : length ts ≡ 0 = ap length none in omega (arith, e)
+
 -- ---- members of worlds
 
 -- those that aren't imports or exports have none
@@ -195,7 +199,7 @@ module _ (w : WorldScope) (n : ℕ) (m : WorldMemberTree) (there : slice_get w.m
   around : (rest : List InterfaceText) × (labelled_texts w ≡ first_texts w n ++ (member_texts w.name.text m ++ rest))
   around = given_around (member_texts w.name.text) w.members n m there
 
-  next_texts : first_texts w (n + 1) ≡ first_texts w n ++ member_texts w.name.text m
+  pub next_texts : first_texts w (n + 1) ≡ first_texts w n ++ member_texts w.name.text m
   next_texts = ap (flat_map (member_texts w.name.text)) (taken w.members n m there) ∙ flat_map-push (member_texts w.name.text) (take n w.members) m
 
   pub member_breaks : (c : Context) (fault : PackageFault) → IsFaultOf (TextsBreak c (member_texts w.name.text m)) fault → IsFaultOf (TextsBreak c (labelled_texts w)) fault

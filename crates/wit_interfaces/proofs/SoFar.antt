@@ -34,6 +34,7 @@ module _ (k0 : KnownTypes) (a0 : List TypeDef) (old : List Interface) (is : List
     pub even : length k.names ≡ length k.tables
     pub knows : KnowsInterfaces k (take n is)
     pub foreign : k.foreign ≡ k0.foreign
+    pub count : length new ≡ length old + n
     pub adds : (c : Context) → MayAdd c k0 a0 (length old) is → AddsInterfaces c a0 old (take n is) k a new
     pub kept : (c : Context) → MayAdd c k0 a0 (length old) is → AreKept (λ i. MembersBreak c (in_interface i.name.text) i.members) is n
 
@@ -42,6 +43,7 @@ module _ (k0 : KnownTypes) (a0 : List TypeDef) (old : List Interface) (is : List
     even = ap length names ∙ sym (ap length tables);
     knows = record { names = names; types = λ i has. absurd (has_none i has) };
     foreign = refl;
+    count = omega arith;
     adds = λ c may. record { grows = grows_for_self c k0 a0 may.built; built = may.built; more = []; behind = sym (append-nil old); are_in = no_interfaces c a0 (length old) };
     kept = λ c may j x less at. absurd (omega (arith, less));
   }
@@ -98,6 +100,7 @@ module _ (k0 : KnownTypes) (a0 : List TypeDef) (old : List Interface) (is : List
             (knows_more is apart n i there k one.table so_far.even so_far.knows
             (λ y has. type_there k (types_of i.members) i.members next_ready.members (belongs.Interface (length new)) a one.makes.resolves.between one.table one.makes.resolves.types_are y has));
         foreign = ap (λ (z : KnownTypes). z.foreign) one.known ∙ so_far.foreign;
+        count = let more : length new2 ≡ length new + 1 = ap length one.behind ∙ length-append new (one.made ∷ []) in let was : length new ≡ length old + n = so_far.count in omega (arith, more, was);
         adds = next_adds;
         kept = λ c may. kept_more (λ j. MembersBreak c (in_interface j.name.text) j.members) is n i there (so_far.kept c may) (kept c (may_bring c may));
       }

@@ -1,6 +1,6 @@
 //! A package as far as it is brought together.
 
-ghost use Rattle.std.specs.Prelude.{◌≡◌, ℕ, [], ◌∷◌, ◌++◌, length, OnOk, IfErr};
+ghost use Rattle.std.specs.Prelude.{◌≡◌, ℕ, ◌+◌, [], ◌∷◌, ◌++◌, length, OnOk, IfErr};
 ghost use Rattle.wit_rules.specs.declared.fault.PackageFault.TheVariants.{OutOfMemory};
 ghost use Rattle.wit_package_types.specs.Known.{with_interface};
 ghost use Rattle.wit_rules.specs.Breaks.{IsKept, IsFaultOf};
@@ -92,6 +92,7 @@ pub fn add_interfaces<'a>(
     requires natures { building.old.natures ≡ natures_of building.old.types }
     ensures natures { OnOk result (building.new.natures ≡ natures_of building.new.types) }
     ensures knows { OnOk result (KnowsInterfaces building.new.known (seen.interfaces interfaces.now) × (building.new.known.foreign ≡ building.old.known.foreign)) }
+    ensures so_many { OnOk result (length building.new.interfaces ≡ length building.old.interfaces + length interfaces.now) }
     ensures adds { (c : Context) → spec.MayAdd c building.old.known building.old.types (length building.old.interfaces) (seen.interfaces interfaces.now) → OnOk result (spec.AddsInterfaces c building.old.types building.old.interfaces (seen.interfaces interfaces.now) building.new.known building.new.types building.new.interfaces) }
     ensures kept { (c : Context) → spec.MayAdd c building.old.known building.old.types (length building.old.interfaces) (seen.interfaces interfaces.now) → OnOk result (IsKept (spec.InterfacesBreak c (seen.interfaces interfaces.now))) }
     ensures cause { (c : Context) → spec.MayAdd c building.old.known building.old.types (length building.old.interfaces) (seen.interfaces interfaces.now) → IfErr result (IsFaultOf (spec.InterfacesBreak c (seen.interfaces interfaces.now))) }

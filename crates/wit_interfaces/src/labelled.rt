@@ -1,12 +1,13 @@
 //! Interfaces that stand in worlds.
 
-ghost use Rattle.std.specs.Prelude.{◌≡◌, ℕ, ◌∷◌, ◌++◌, [], length, map, IfOk, OnOk, IfErr};
+ghost use Rattle.std.specs.Prelude.{◌≡◌, ℕ, ◌+◌, List, ◌∷◌, ◌++◌, [], length, map, IfOk, OnOk, IfErr};
 ghost use Rattle.wit_syntax.specs.AstView as view;
 ghost use Rattle.wit_scopes.specs.View as scope_view;
 ghost use Rattle.wit_scopes.specs.Scopes.{WorldScope};
 ghost use Rattle.wit_rules.specs.Breaks.{IsKept, IsFaultOf};
 ghost use Rattle.wit_rules.specs.declared.fault.PackageFault.TheVariants.{OutOfMemory};
 ghost use Rattle.wit_types.specs.declared.interface.Interface.{Interface as Built};
+ghost use Rattle.wit_types.specs.declared.interface.TypeDef.{TypeDef};
 ghost use Rattle.wit_types.specs.declared.interface.TypeOwner.TheVariants as belongs;
 ghost use Rattle.wit_arena.specs.Meaning.{Has};
 ghost use Rattle.wit_arena.specs.Tree.{Name, Place, in_listed};
@@ -69,6 +70,7 @@ fn add_labelled_interface<'a>(
     ensures adds { (w : Name) → OnOk result ((table : Entries) × (made : Built) × adding.MakesInterface building.old.known building.old.types (listed_text w (scope_view.listed listed.entry.now) (scope_view.members members.entry.now)) (length building.old.interfaces) building.new.types table made × (building.new.interfaces ≡ building.old.interfaces ++ made ∷ [])) }
     ensures ids { OnOk result (ids.new.items ≡ ids.old.items ++ length building.old.interfaces ∷ []) }
     ensures known { OnOk result (building.new.known ≡ building.old.known) }
+    ensures grown { OnOk result ((more : List TypeDef) × (building.new.types ≡ building.old.types ++ more)) }
     ensures natures { OnOk result (building.new.natures ≡ natures_of building.new.types) }
     ensures kept { (c : Context) (o : Place) → adding.MayBring c o (belongs.Interface (length building.old.interfaces)) building.old.known building.old.types (scope_view.members members.entry.now) → OnOk result (IsKept (adding.MembersBreak c o (scope_view.members members.entry.now))) }
     ensures cause { (c : Context) (o : Place) → adding.MayBring c o (belongs.Interface (length building.old.interfaces)) building.old.known building.old.types (scope_view.members members.entry.now) → IfErr result (IsFaultOf (adding.MembersBreak c o (scope_view.members members.entry.now))) }
@@ -96,6 +98,8 @@ fn add_member_text<'a>(
     requires ready { (w : Name) × ((t : Text) → Has (member_texts w (scope_view.world_member member.now)) t → adding.IsReadyIn building.old.known t) }
     requires natures { building.old.natures ≡ natures_of building.old.types }
     ensures known { OnOk result (building.new.known ≡ building.old.known) }
+    ensures grown { OnOk result ((more : List TypeDef) × (building.new.types ≡ building.old.types ++ more)) }
+    ensures so_many { (w : Name) → OnOk result (length ids.new.items ≡ length ids.old.items + length (member_texts w (scope_view.world_member member.entry.now))) }
     ensures natures { OnOk result (building.new.natures ≡ natures_of building.new.types) }
     ensures adds { (c : Context) (w : Name) → spec.MayAddTexts c building.old.known building.old.types (length building.old.interfaces) (member_texts w (scope_view.world_member member.entry.now)) → OnOk result (spec.AddsMore c building.old.known building.old.types building.old.interfaces ids.old.items (member_texts w (scope_view.world_member member.entry.now)) building.new.types building.new.interfaces ids.new.items) }
     ensures kept { (c : Context) (w : Name) → spec.MayAddTexts c building.old.known building.old.types (length building.old.interfaces) (member_texts w (scope_view.world_member member.entry.now)) → OnOk result (IsKept (spec.TextsBreak c (member_texts w (scope_view.world_member member.entry.now)))) }
@@ -112,7 +116,7 @@ fn add_member_text<'a>(
     }
 }
 
-/// Adds the interfaces that stand in a world behind the others, in the order of the text, and answers their ids. They are
+/// Adds the interfaces that stand in a world behind the others, in the order of the text, and answers the id of each. They are
 /// refused where one of their scopes is: P6 to P9; then nothing is said of what is built, which is to be dropped.
 pub fn add_labelled<'a>(
     building: &mut Building<'a>,
@@ -121,6 +125,8 @@ pub fn add_labelled<'a>(
     requires ready { (t : Text) → Has (labelled_texts (scope_view.world_scope world.now)) t → adding.IsReadyIn building.old.known t }
     requires natures { building.old.natures ≡ natures_of building.old.types }
     ensures known { OnOk result (building.new.known ≡ building.old.known) }
+    ensures grown { OnOk result ((more : List TypeDef) × (building.new.types ≡ building.old.types ++ more)) }
+    ensures so_many { IfOk result (λ ids. length ids.items ≡ length (labelled_texts (scope_view.world_scope world.entry.now))) }
     ensures natures { OnOk result (building.new.natures ≡ natures_of building.new.types) }
     ensures adds { (c : Context) → spec.MayAddTexts c building.old.known building.old.types (length building.old.interfaces) (labelled_texts (scope_view.world_scope world.entry.now)) → IfOk result (λ ids. spec.AddsTexts c building.old.known building.old.types building.old.interfaces (labelled_texts (scope_view.world_scope world.entry.now)) building.new.types building.new.interfaces ids.items) }
     ensures kept { (c : Context) → spec.MayAddTexts c building.old.known building.old.types (length building.old.interfaces) (labelled_texts (scope_view.world_scope world.entry.now)) → OnOk result (IsKept (spec.TextsBreak c (labelled_texts (scope_view.world_scope world.entry.now)))) }

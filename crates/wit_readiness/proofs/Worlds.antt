@@ -85,7 +85,7 @@ listed_cases ms l there m (scope.ExternKind.function f) e h =
 listed_cases ms l there m (scope.ExternKind.interface ns) e h = absurd (has_none m h)
 listed_cases ms l there m (scope.item t) e h = absurd (has_none m h)
 
-own_cases : (ms : List WorldMemberTree) (m : MemberTree) → Has (own_members ms) m → Has ms (scope.member m) ⊎ IsListedFunction ms m
+pub own_cases : (ms : List WorldMemberTree) (m : MemberTree) → Has (own_members ms) m → Has ms (scope.member m) ⊎ IsListedFunction ms m
 own_cases ms m h = by r.0 r.1 r.2
   where
     r : (x : WorldMemberTree) × Has ms x × Has (own_member x) m

@@ -20,7 +20,7 @@ use std::alloc::{AllocError, Global};
 use wit_arena::{Table, Types, docs_of};
 use wit_interfaces::keyed;
 use wit_package_types::stability_of;
-use wit_scopes::WorldScope;
+use wit_scopes::{WorldMember, WorldScope};
 use wit_types::{World, WorldInclude, WorldItem, WorldKey};
 
 /// The types of a world as imports, each under its name.
@@ -85,32 +85,39 @@ fn world_from(alloc: Global, world: &WorldScope<'_>, lists: Lists) -> Result<Wor
     world_with(alloc, world, imports, exports, includes)
 }
 
+/// What a world declares, in the order of the text.
+fn members_of<'w, 'a>(world: &'w WorldScope<'a>) -> &'w [WorldMember<'a>]
+    ensures { result.now ≡ world.entry.now.members.items }
+{
+    world.members.as_slice()
+}
+
 /// What is listed in a world.
-fn lists_in<'a>(
+fn lists_in(
     alloc: Global,
-    paths: &Paths<'a>,
+    paths: &Paths<'_>,
     left: Left,
     imports: Vec<(WorldKey, WorldItem)>,
-    world: &'a WorldScope<'a>,
+    world: &WorldScope<'_>,
 ) -> Result<Lists, AllocError>
     requires { spec.MayList (seen.paths paths.now) (scope_view.world_scope world.now) left.functions.items left.labelled.items }
-    ensures { (w : Name) → IfOk result (λ lists. (others : List Entry) × (lists.imports.items ≡ imports.items ++ others) × AreListsMade (seen.paths paths.now) w (scope_view.world_scope world.entry.now).members left.functions.items left.labelled.items others lists.exports.items lists.includes.items) }
+    ensures { (w : Name) → IfOk result (λ lists. (others : List Entry) × (lists.imports.items ≡ imports.items ++ others) × AreListsMade (seen.paths paths.now) w (scope_view.world_scope world.now).members left.functions.items left.labelled.items others lists.exports.items lists.includes.items) }
 {
-    lists_of(alloc, paths, left, imports, world.members.as_slice())
+    lists_of(alloc, paths, left, imports, members_of(world))
 }
 
 /// A world of its types, of its functions and of the interfaces that stand in it: its types come first among its imports, and
 /// all else stands in the order of the text.
-pub fn world_of<'a>(
+pub fn world_of(
     alloc: Global,
     types: &Types,
-    paths: &Paths<'a>,
-    world: &'a WorldScope<'a>,
-    table: &Table<'a>,
+    paths: &Paths<'_>,
+    world: &WorldScope<'_>,
+    table: &Table<'_>,
     left: Left,
 ) -> Result<World, AllocError>
     requires { spec.MayMake (seen.paths paths.now) (scope_view.world_scope world.now) types.now table.now left.functions.items left.labelled.items }
-    ensures { IfOk result (spec.MakesWorld (seen.paths paths.now) (scope_view.world_scope world.entry.now) types.now table.now left.functions.items left.labelled.items) }
+    ensures { IfOk result (spec.MakesWorld (seen.paths paths.now) (scope_view.world_scope world.now) types.now table.now left.functions.items left.labelled.items) }
 {
     let imports = type_entries(alloc, types, table)?;
     let lists = lists_in(alloc, paths, left, imports, world)?;

@@ -1,18 +1,19 @@
-use Rattle.std.proofs.Common.{ℕ, List, [], refl, sym, subst, ◌∙◌}
+use Rattle.std.proofs.Common.{ℕ, ◌+◌, List, [], length, length-append, refl, sym, subst, ap, ◌∙◌}
 use Rattle.wit_scopes.specs.Scopes.{WorldScope}
 use Rattle.wit_scopes.specs.View as scope_view
 use Rattle.wit_rules.specs.Breaks.{IsKept}
-use Rattle.wit_resolved_scopes.specs.Texts.{InterfaceText, labelled_texts}
+use Rattle.wit_resolved_scopes.specs.Texts.{InterfaceText, member_texts, labelled_texts}
+use Rattle.wit_arena.proofs.Extending.{extends_self, extends_through}
 use Rattle.wit_interfaces.specs.Labelled.{TextsBreak}
 use Rattle.wit_interfaces.proofs.Viewing.{world_member_at, past_members}
-use Rattle.wit_interfaces.proofs.Labelling.{TextsSoFar, no_texts_so_far, all_texts, member_breaks, member_ready, may_add_member, next_member}
+use Rattle.wit_interfaces.proofs.Labelling.{TextsSoFar, no_texts_so_far, all_texts, member_breaks, member_ready, may_add_member, next_member, first_texts, next_texts}
 use Rattle.wit_interfaces.proofs.labelled.add_labelled.Goals as goal
 
 pub loop-member-init : goal.loop-member-init
 loop-member-init c =
     let now = c.args.building.now in
     let all : List InterfaceText = labelled_texts (scope_view.world_scope c.args.world.now) in
-    (subst (λ (ids : List ℕ). TextsSoFar now.known now.types now.interfaces all [] now.types now.interfaces ids) (sym c.new-ids.ensures.items) (no_texts_so_far now.known now.types now.interfaces all), refl, c.requires.natures)
+    (subst (λ (ids : List ℕ). TextsSoFar now.known now.types now.interfaces all [] now.types now.interfaces ids) (sym c.new-ids.ensures.items) (no_texts_so_far now.known now.types now.interfaces all), refl, c.requires.natures, extends_self now.types, ap length c.new-ids.ensures.items)
 
 pub add_member_text-requires-clause-ready : goal.add_member_text-requires-clause-ready
 add_member_text-requires-clause-ready c =
@@ -45,7 +46,18 @@ loop-member-preserved c =
           (λ d may. c.in_default.ensures.adds d w.name.text may) (λ d may. c.in_default.ensures.kept d w.name.text may),
       c.in_default.ensures.known ∙ c.loop-member.invariant.1,
       c.in_default.ensures.natures,
+      extends_through old.types so_far.types new.building.types c.loop-member.invariant.3 c.in_default.ensures.grown,
+      c.in_default.ensures.so_many w.name.text
+          ∙ ap (λ (k : ℕ). k + length (member_texts w.name.text m)) c.loop-member.invariant.4
+          ∙ sym (ap length (next_texts w n m there) ∙ length-append (first_texts w n) (member_texts w.name.text m)),
     )
+
+pub returns-clause-so_many : goal.returns-clause-so_many
+returns-clause-so_many c =
+    let w : WorldScope = scope_view.world_scope c.args.world.now in
+    let n : ℕ = c.loop-member.member-index in
+    let past = past_members c.args.world.now c.as_slice-member-items.result.now c.as_slice-member-items.ensures.value n c.loop-member-test.false in
+    c.loop-member.invariant.4 ∙ ap length (all_texts w n past)
 
 pub returns-clause-kept : goal.returns-clause-kept
 returns-clause-kept c = λ d may.

@@ -4,10 +4,12 @@ use Rattle.wit_types.specs.declared.interface.TypeOwner.TheVariants as belongs
 use Rattle.wit_scopes.specs.Members.{MemberTree}
 use Rattle.wit_scopes.specs.View as scope_view
 use Rattle.wit_rules.specs.Breaks.{IsKept, IsFaultOf}
+use Rattle.wit_orders.specs.Needs.{types_of}
 use Rattle.wit_arena.specs.Tree.{Place, in_listed}
+use Rattle.wit_arena.proofs.Extending.{Extends}
 use Rattle.wit_resolved_scopes.specs.Texts.{InterfaceText, listed_text}
 use Rattle.wit_interfaces.specs.Adding.{MembersBreak, MayBring, IsReadyIn, MakesInterface}
-use Rattle.wit_interfaces.proofs.Bringing.{on_any, on_both}
+use Rattle.wit_interfaces.proofs.Bringing.{on_any, on_both, scope_extends}
 use Rattle.wit_interfaces.proofs.labelled.add_labelled_interface.Goals as goal
 
 pub make_interface-requires-clause-ready : goal.make_interface-requires-clause-ready
@@ -30,6 +32,15 @@ returns-in-Ok-clause-adds c = λ w.
     let at_types : MakesInterface k a text (length c.args.building.now.interfaces) c.keep_labelled.new.building.types made.table made.interface =
     subst (λ (b : List TypeDef). MakesInterface k a text (length c.args.building.now.interfaces) b made.table made.interface) (sym c.keep_labelled.ensures.types) at_id in
     on_both c.keep_labelled.result (λ behind ids. (made.table, made.interface, at_types, behind)) c.keep_labelled.ensures.behind c.keep_labelled.ensures.ids
+
+pub returns-in-Ok-clause-grown : goal.returns-in-Ok-clause-grown
+returns-in-Ok-clause-grown c =
+    let o : Place = in_listed [] c.args.listed.now.side c.args.listed.now.name.name.now in
+    let a : List TypeDef = c.args.building.now.types in
+    let ms : List MemberTree = scope_view.members c.labelled_text-text.result.members.now in
+    let made = c.in-Ok.ensures.makes o in
+    let more : Extends a c.make_interface.new.types = scope_extends c.args.building.now.known (belongs.Interface c.from_index-id.result) a c.make_interface.new.types (types_of ms) ms c.in-Ok.made.table made.functions made.resolves in
+    on_any c.keep_labelled.result (subst (Extends a) (sym c.keep_labelled.ensures.types) more)
 
 pub returns-in-Ok-clause-kept : goal.returns-in-Ok-clause-kept
 returns-in-Ok-clause-kept c = λ d o may.

@@ -1,16 +1,17 @@
-use Rattle.std.proofs.Common.{◌≡◌, [], ◌∷◌, List, length, refl, sym, subst, ap, ◌∙◌}
+use Rattle.std.proofs.Common.{◌≡◌, ℕ, ◌+◌, [], ◌∷◌, List, length, length-append, refl, sym, subst, ap, ◌∙◌}
 use Rattle.std.specs.Prelude.{OnOk, IfErr, slice_get}
 use Rattle.wit_types.specs.declared.interface.Interface.{Interface}
 use Rattle.wit_types.specs.declared.interface.TypeDef.{TypeDef}
 use Rattle.wit_scopes.specs.View as scope_view
 use Rattle.wit_rules.specs.Breaks.{IsKept, IsFaultOf}
 use Rattle.wit_arena.specs.Tree.{Name}
+use Rattle.wit_arena.proofs.Extending.{extends_self}
 use Rattle.wit_resolved_scopes.specs.Texts.{InterfaceText, listed_text, member_texts}
 use Rattle.wit_interfaces.specs.Labelled.{TextsBreak, MayAddTexts, AddsMore}
 use Rattle.wit_scopes.proofs.Outcomes.{on_ok, if_err}
 use Rattle.wit_interfaces.specs.Adding.{MembersBreak}
 use Rattle.wit_interfaces.proofs.Bringing.{on_both}
-use Rattle.wit_interfaces.proofs.Labelling.{interface_texts, unlisted_texts, other_texts, may_bring_one, adds_one_more, adds_no_more, one_kept, one_text_breaks, none_kept}
+use Rattle.wit_interfaces.proofs.Labelling.{interface_texts, unlisted_texts, other_texts, may_bring_one, adds_one_more, adds_no_more, one_kept, one_text_breaks, none_kept, no_text_more}
 use Rattle.wit_interfaces.proofs.labelled.add_member_text.Goals as goal
 
 pub add_labelled_interface-requires-clause-ready : goal.add_labelled_interface-requires-clause-ready
@@ -19,6 +20,14 @@ add_labelled_interface-requires-clause-ready c = λ w.
     let are = interface_texts ready.0 c.args.member.now c.in-Listed.listed c.in-Interface.members c.as_slice.result.now c.in-Listed.is c.in-Interface.is c.as_slice.ensures.value in
     let r = ready.1 (listed_text ready.0 (scope_view.listed c.in-Listed.listed) (scope_view.members c.as_slice.result.now)) (0, ap (λ (ts : List InterfaceText). slice_get ts 0) are) in
     record { members = r.members; functions_apart = r.functions_apart; gates = r.gates }
+
+pub returns-in-Interface-clause-so_many : goal.returns-in-Interface-clause-so_many
+returns-in-Interface-clause-so_many c = λ w.
+    let are = interface_texts w c.args.member.now c.in-Listed.listed c.in-Interface.members c.as_slice.result.now c.in-Listed.is c.in-Interface.is c.as_slice.ensures.value in
+    let ids : List ℕ = c.args.ids.now.items in
+    on_ok c.add_labelled_interface.result
+    (λ behind. ap length behind ∙ length-append ids (length c.args.building.now.interfaces ∷ []) ∙ ap (λ (ts : List InterfaceText). length ids + length ts) (sym are))
+    c.add_labelled_interface.ensures.ids
 
 pub returns-in-Interface-clause-adds : goal.returns-in-Interface-clause-adds
 returns-in-Interface-clause-adds c = λ d w may.
@@ -60,6 +69,8 @@ returns-in_default-kind c =
     λ w. ap (λ m. member_texts w (scope_view.world_member m)) c.in-Listed.is ∙ other_texts w (scope_view.listed c.in-Listed.listed) c.in-Listed.listed.kind c.in_default-kind.not-Interface in
     record {
       known = refl;
+      grown = extends_self c.args.building.now.types;
+      so_many = λ w. no_text_more c.args.ids.now.items (member_texts w (scope_view.world_member c.args.member.now)) (are w);
       natures = c.requires.natures;
       adds = λ d w may. adds_no_more d c.args.building.now.known c.args.building.now.types c.args.building.now.interfaces c.args.ids.now.items (member_texts w (scope_view.world_member c.args.member.now)) (are w) may;
       kept = λ d w may. none_kept d (member_texts w (scope_view.world_member c.args.member.now)) (are w);
@@ -71,6 +82,8 @@ returns-in_default c =
     let are : (w : Name) → member_texts w (scope_view.world_member c.args.member.now) ≡ [] = λ w. unlisted_texts w c.args.member.now c.in_default.not-Listed in
     record {
       known = refl;
+      grown = extends_self c.args.building.now.types;
+      so_many = λ w. no_text_more c.args.ids.now.items (member_texts w (scope_view.world_member c.args.member.now)) (are w);
       natures = c.requires.natures;
       adds = λ d w may. adds_no_more d c.args.building.now.known c.args.building.now.types c.args.building.now.interfaces c.args.ids.now.items (member_texts w (scope_view.world_member c.args.member.now)) (are w) may;
       kept = λ d w may. none_kept d (member_texts w (scope_view.world_member c.args.member.now)) (are w);

@@ -1,0 +1,7 @@
+pub mod Owning
+pub mod Finding
+pub mod Scoping
+pub mod Building
+pub mod Whole
+pub mod Missing
+pub mod Lawful

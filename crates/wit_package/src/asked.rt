@@ -1,0 +1,70 @@
+//! What a package asks of others.
+
+ghost use Rattle.std.specs.Prelude.{◌≡◌, List, [], map, IfOk};
+ghost use Rattle.wit_scopes.specs.View as scope_view;
+ghost use Rattle.wit_resources.specs.Natures.{natures as natures_of};
+ghost use Rattle.wit_foreign.specs.Needs.{AreUses, needs_in};
+ghost use Rattle.wit_foreign.specs.Items.{AreItemsOf};
+ghost use Rattle.wit_foreign.specs.Unknown.{AreUnknown};
+ghost use Rattle.wit_foreign.specs.View as seen;
+ghost use Rattle.wit_package.specs.Start as spec;
+
+use name_places::FirstPlaces;
+use std::alloc::{AllocError, Global};
+use wit_arena::Types;
+use wit_built_worlds::BuiltWorlds;
+use wit_foreign::{ForeignItems, Need, add_unknown_types, foreign_items};
+use wit_interfaces::Building;
+use wit_package_types::Known;
+use wit_placeholders::placeholders_of;
+use wit_resources::Natures;
+use wit_syntax::Span;
+
+/// A package before anything of its own is brought in: the types, interfaces and worlds of others that it asks for are there.
+#[derive(Drop)]
+pub struct Start<'a> {
+    /// Its types and interfaces.
+    pub building: Building<'a>,
+    /// Its worlds.
+    pub worlds: BuiltWorlds<'a>,
+    /// Where each unknown type is first used.
+    pub spans: Vec<Span>,
+}
+
+/// What is known of all types.
+fn natures_in(types: &Types) -> Result<Natures, AllocError>
+    ensures { IfOk result (λ n. n ≡ natures_of types.now) }
+{
+    let mut natures = Natures::new(types.allocator());
+    natures.catch_up(types)?;
+    Ok(natures)
+}
+
+/// The types, interfaces and worlds of others that are asked for.
+pub fn start_of<'a>(
+    alloc: Global,
+    items: &ForeignItems<'a>,
+    needs: &[Need<'a>],
+) -> Result<Start<'a>, AllocError>
+    requires items { AreItemsOf (seen.needs needs.now) items.now }
+    requires uses { AreUses (seen.needs needs.now) }
+    ensures { IfOk result (λ s. spec.IsStart (seen.needs needs.now) items.now s.building.known s.building.types s.building.natures s.building.interfaces s.worlds.names s.worlds.worlds s.spans.items) }
+{
+    let mut types = Types::new(alloc);
+    let unknown = add_unknown_types(&mut types, items, needs)?;
+    let natures = natures_in(&types)?;
+    let others = placeholders_of(alloc, items, needs)?;
+    Ok(Start {
+        building: Building {
+            known: Known::new(alloc, unknown.types),
+            types,
+            natures,
+            interfaces: others.interfaces,
+        },
+        worlds: BuiltWorlds {
+            names: FirstPlaces::new(alloc),
+            worlds: others.worlds,
+        },
+        spans: unknown.spans,
+    })
+}

@@ -1,0 +1,120 @@
+-- The numbers of what is asked of other packages: interfaces are counted by themselves, and so are worlds.
+use Rattle.std.proofs.Common.{◌≡◌, ℕ, ◌+◌, ◌<◌, ◌≤◌, zero, suc, List, [], ◌∷◌, ◌++◌, inl, inr, length, Some, take, refl, sym, ap, ◌∙◌, arith}
+use Rattle.std.proofs.lemmas.Option.{same_Some, slice_get_within, get_or_from_slice_get}
+use Rattle.std.proofs.lemmas.List.{take_more}
+use Rattle.std.proofs.lemmas.Bool.{cases_lt}
+use Rattle.std.specs.Prelude.{slice_get}
+use Rattle.wit_types.specs.declared.«package».AstItem.{AstItem}
+use Rattle.wit_types.specs.declared.«package».AstItem.TheVariants as ids
+use Rattle.wit_arena.specs.Tree.{Place, in_interface, in_world, in_listed, Owner}
+use Rattle.wit_arena.specs.Meaning.{Has}
+use Rattle.wit_foreign.specs.Needs.{NeedTree}
+use Rattle.wit_foreign.specs.Items.{Items, interface_count, world_count, interfaces_in, worlds_in, IsNumbered, AreItemsOf}
+
+-- ---- lists
+
+pub length_more : {X : Type 0} (xs : List X) (x : X) → length (xs ++ x ∷ []) ≡ length xs + 1
+length_more [] x = omega arith
+length_more (y ∷ xs) x = (let h = length_more xs x in omega (arith, h))
+
+pub take_whole : {X : Type 0} (xs : List X) → take (length xs) xs ≡ xs
+take_whole [] = refl
+take_whole {X} (x ∷ xs) = ap (λ (zs : List X). x ∷ zs) (take_whole xs)
+
+pub take_next : {X : Type 0} (xs : List X) (k : ℕ) (x : X) → slice_get xs k ≡ Some x → take (k + 1) xs ≡ take k xs ++ x ∷ []
+take_next {X} xs k x at = take_more xs k x (slice_get_within xs k x at) ∙ ap (λ (y : X). take k xs ++ y ∷ []) (get_or_from_slice_get xs k x x at)
+
+pub got_at : {X : Type 0} (xs : List X) (k : ℕ) → k < length xs → (x : X) × (slice_get xs k ≡ Some x)
+got_at [] k l = absurd (omega arith)
+got_at (x ∷ xs) zero l = (x, refl)
+got_at (x ∷ xs) (suc k) l = got_at xs k (omega arith)
+
+-- ---- counts
+
+pub interfaces_more : (es : Items) (e : Owner × AstItem) → interfaces_in (es ++ e ∷ []) ≡ interfaces_in es + interface_count e.1
+interfaces_more [] e = omega arith
+interfaces_more (d ∷ es) e = (let h = interfaces_more es e in omega (arith, h))
+
+pub worlds_more : (es : Items) (e : Owner × AstItem) → worlds_in (es ++ e ∷ []) ≡ worlds_in es + world_count e.1
+worlds_more [] e = omega arith
+worlds_more (d ∷ es) e = (let h = worlds_more es e in omega (arith, h))
+
+-- more stand in front of a later place
+pub interfaces_between : (es : Items) (p q : ℕ) (e : Owner × AstItem) → p < q → slice_get es p ≡ Some e → interfaces_in (take p es) + interface_count e.1 ≤ interfaces_in (take q es)
+interfaces_between [] p q e less at = absurd cc
+interfaces_between (f ∷ es) p zero e less at = absurd (omega (arith, less))
+interfaces_between (f ∷ es) zero (suc q) e less at = (let same : interface_count f.1 ≡ interface_count e.1 = ap (λ (z : Owner × AstItem). interface_count z.1) (same_Some f e at) in omega (arith, same))
+interfaces_between (f ∷ es) (suc p) (suc q) e less at = (let more = interfaces_between es p q e (omega (arith, less)) at in omega (arith, more))
+
+pub worlds_between : (es : Items) (p q : ℕ) (e : Owner × AstItem) → p < q → slice_get es p ≡ Some e → worlds_in (take p es) + world_count e.1 ≤ worlds_in (take q es)
+worlds_between [] p q e less at = absurd cc
+worlds_between (f ∷ es) p zero e less at = absurd (omega (arith, less))
+worlds_between (f ∷ es) zero (suc q) e less at = (let same : world_count f.1 ≡ world_count e.1 = ap (λ (z : Owner × AstItem). world_count z.1) (same_Some f e at) in omega (arith, same))
+worlds_between (f ∷ es) (suc p) (suc q) e less at = (let more = worlds_between es p q e (omega (arith, less)) at in omega (arith, more))
+
+-- ---- numbers
+
+interface_ids : (j k : ℕ) → ids.Interface j ≡ ids.Interface k → j ≡ k
+interface_ids j k e = cc
+
+world_ids : (j k : ℕ) → ids.World j ≡ ids.World k → j ≡ k
+world_ids j k e = cc
+
+pub interface_or_world : (j k : ℕ) → ids.Interface j ≡ ids.World k → ⊥
+interface_or_world j k e = cc
+
+-- the number of an interface or a world is how many stand in front of it
+numbered_interface : (n m : ℕ) (p : Place) (k : ℕ) → IsNumbered n m p (ids.Interface k) → k ≡ n
+numbered_interface n m (in_interface x) k e = interface_ids k n e
+numbered_interface n m (in_world x) k e = absurd (interface_or_world k m e)
+numbered_interface n m (in_listed w s x) k e = absurd e
+
+numbered_world : (n m : ℕ) (p : Place) (k : ℕ) → IsNumbered n m p (ids.World k) → k ≡ m
+numbered_world n m (in_interface x) k e = absurd (interface_or_world n k (sym e))
+numbered_world n m (in_world x) k e = world_ids k m e
+numbered_world n m (in_listed w s x) k e = absurd e
+
+module _ (needs : List NeedTree) (items : Items) (are : AreItemsOf needs items) where
+  pub interface_number : (p : ℕ) (w : Owner) (k : ℕ) → slice_get items p ≡ Some (w, ids.Interface k) → k ≡ interfaces_in (take p items)
+  interface_number p w k at = numbered_interface (interfaces_in (take p items)) (worlds_in (take p items)) w.place k (are.numbered p w (ids.Interface k) at)
+
+  pub world_number : (p : ℕ) (w : Owner) (k : ℕ) → slice_get items p ≡ Some (w, ids.World k) → k ≡ worlds_in (take p items)
+  world_number p w k at = numbered_world (interfaces_in (take p items)) (worlds_in (take p items)) w.place k (are.numbered p w (ids.World k) at)
+
+  one_owner : (p q : ℕ) (v w : Owner) (h i : AstItem) → slice_get items p ≡ Some (v, h) → slice_get items q ≡ Some (w, i) → p ≡ q → v ≡ w
+  one_owner p q v w h i at_p at_q same = ap (λ (e : Owner × AstItem). e.0) (same_Some (v, h) (w, i) (sym at_p ∙ ap (slice_get items) same ∙ at_q))
+
+  -- interfaces of one number are one
+  interface_apart : (p q : ℕ) (v w : Owner) (k : ℕ) → slice_get items p ≡ Some (v, ids.Interface k) → slice_get items q ≡ Some (w, ids.Interface k) → p < q → ⊥
+  interface_apart p q v w k at_p at_q less =
+      let is_p = interface_number p v k at_p in
+      let is_q = interface_number q w k at_q in
+      let more = interfaces_between items p q (v, ids.Interface k) less at_p in
+      omega (arith, more, is_p, is_q)
+
+  pub interface_alone : (v w : Owner) (k : ℕ) → Has items (v, ids.Interface k) → Has items (w, ids.Interface k) → v ≡ w
+  interface_alone v w k (p, at_p) (q, at_q) =
+      elim (cases_lt p q) as (λ _. v ≡ w) [
+        | inl less ↦ absurd (interface_apart p q v w k at_p at_q less)
+        | inr past ↦ elim (cases_lt q p) as (λ _. v ≡ w) [
+          | inl less ↦ absurd (interface_apart q p w v k at_q at_p less)
+          | inr not_past ↦ one_owner p q v w (ids.Interface k) (ids.Interface k) at_p at_q (omega (arith, past, not_past))
+        ]
+      ]
+
+  world_apart : (p q : ℕ) (v w : Owner) (k : ℕ) → slice_get items p ≡ Some (v, ids.World k) → slice_get items q ≡ Some (w, ids.World k) → p < q → ⊥
+  world_apart p q v w k at_p at_q less =
+      let is_p = world_number p v k at_p in
+      let is_q = world_number q w k at_q in
+      let more = worlds_between items p q (v, ids.World k) less at_p in
+      omega (arith, more, is_p, is_q)
+
+  pub world_alone : (v w : Owner) (k : ℕ) → Has items (v, ids.World k) → Has items (w, ids.World k) → v ≡ w
+  world_alone v w k (p, at_p) (q, at_q) =
+      elim (cases_lt p q) as (λ _. v ≡ w) [
+        | inl less ↦ absurd (world_apart p q v w k at_p at_q less)
+        | inr past ↦ elim (cases_lt q p) as (λ _. v ≡ w) [
+          | inl less ↦ absurd (world_apart q p w v k at_q at_p less)
+          | inr not_past ↦ one_owner p q v w (ids.World k) (ids.World k) at_p at_q (omega (arith, past, not_past))
+        ]
+      ]
