@@ -1,11 +1,10 @@
 -- Interfaces and worlds of a package that are brought in behind what it asks of others.
-use Rattle.std.proofs.Common.{◌≡◌, ℕ, ◌+◌, ◌≤◌, List, [], ◌∷◌, ◌++◌, length, length-append, Some, None, Option, map, refl, sym, subst, ap, ◌∙◌, append_assoc, arith}
+use Rattle.std.proofs.Common.{◌≡◌, ℕ, ◌+◌, ◌≤◌, List, ◌++◌, length, length-append, Some, None, Option, map, refl, sym, subst, ap, ◌∙◌, append_assoc, arith}
 use Rattle.std.proofs.lemmas.Option.{same_Some, slice_get-map}
 use Rattle.std.proofs.lemmas.List.{length-map}
 use Rattle.std.specs.Prelude.{slice_get, flat_map, option_map}
 use Rattle.name_places.specs.FirstPlaces.{place_of}
 use Rattle.name_places.proofs.Places.{place_names}
-use Rattle.wit_words.specs.declared.source_map.Span.{Span}
 use Rattle.wit_types.specs.declared.interface.Interface.{Interface}
 use Rattle.wit_types.specs.declared.interface.TypeDef.{TypeDef}
 use Rattle.wit_types.specs.declared.world.World.{World}
@@ -18,7 +17,7 @@ use Rattle.wit_arena.proofs.Lists.{get_kept}
 use Rattle.wit_package_types.specs.Known.{KnownTypes}
 use Rattle.wit_foreign.specs.Items.{Items, interfaces_in}
 use Rattle.wit_resolved_scopes.specs.InArena.{Context, own_owner}
-use Rattle.wit_resolved_scopes.specs.Texts.{InterfaceText, interface_text, labelled_texts}
+use Rattle.wit_resolved_scopes.specs.Texts.{interface_text, labelled_texts}
 use Rattle.wit_resolved_scopes.specs.Fit.{KnowsInterfaces}
 use Rattle.wit_interfaces.specs.Interfaces.{AreInterfacesIn}
 use Rattle.wit_interfaces.specs.Adding.{InterfacesBreak, MayAdd, AddsInterfaces}
@@ -27,7 +26,7 @@ use Rattle.wit_interfaces.proofs.Behind.{get_right}
 use Rattle.wit_interfaces.proofs.Growing.{grows_for_through, interfaces_grown}
 use Rattle.wit_interfaces.proofs.Labelling.{interfaces_behind}
 use Rattle.wit_built_worlds.specs.Adding.{WorldsBreak, AreReadyBehind, MayAddWorlds, AddsWorlds}
-use Rattle.wit_package.specs.Built.{texts_of, AreReadyTogether, MayBuild, Builds, ItemsBreak, by_interfaces, by_worlds}
+use Rattle.wit_package.specs.Built.{AreReadyTogether, MayBuild, Builds, ItemsBreak, by_interfaces, by_worlds}
 
 module _ (c : Context) (k : KnownTypes) (a : List TypeDef) (interfaces : List Interface) (items : Items) (worlds : List World) (is : List InterfaceScope) (ws : List WorldScope) (may : MayBuild c k a interfaces items worlds is ws) where
   pub may_add : MayAdd c k a (length interfaces) is

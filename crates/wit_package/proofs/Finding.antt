@@ -1,18 +1,14 @@
 -- What a package asks of others is there, so that its interfaces and worlds are ready.
-use Rattle.std.proofs.Common.{◌≡◌, ℕ, List, [], ◌∷◌, Some, map, refl, sym, subst, ap, ◌∙◌}
+use Rattle.std.proofs.Common.{◌≡◌, ℕ, List, ◌∷◌, subst, ap}
 use Rattle.wit_words.specs.declared.source_map.Span.{Span}
-use Rattle.wit_types.specs.declared.interface.Interface.{Interface}
 use Rattle.wit_types.specs.declared.interface.TypeDef.{TypeDef}
-use Rattle.wit_types.specs.declared.world.World.{World}
 use Rattle.wit_types.specs.declared.«package».AstItem.{AstItem}
-use Rattle.wit_types.specs.declared.«package».AstItem.TheVariants as ids
 use Rattle.wit_syntax.specs.Ast.{PackageNameTree, FileTree}
 use Rattle.wit_scopes.specs.Scopes.{ItemScope}
 use Rattle.wit_rules.specs.Breaks.{IsKept}
 use Rattle.wit_rules.specs.Facts.{IsDeclared}
 use Rattle.wit_lookups.specs.declared.asks.Asked.{Asked}
 use Rattle.wit_lookups.specs.Lookups.{LookupsBreak}
-use Rattle.wit_arena.specs.Tree.{Name, Place, Owner}
 use Rattle.wit_arena.specs.Meaning.{Has}
 use Rattle.wit_arena.proofs.Lists.{has_here, has_later, has_map}
 use Rattle.wit_package_types.specs.Foreign.{ForeignName}

@@ -1,5 +1,5 @@
 -- Laws of packages that are built.
-use Rattle.std.proofs.Common.{◌≡◌, List, refl}
+use Rattle.std.proofs.Common.{List, refl}
 use Rattle.wit_syntax.specs.Ast.{FileTree}
 use Rattle.wit_scopes.specs.Scopes.{package_scopes}
 use Rattle.wit_rules.proofs.Breaking.{widened}

@@ -4,4 +4,5 @@ pub mod Scoping
 pub mod Building
 pub mod Whole
 pub mod Missing
+pub mod Naming
 pub mod Lawful

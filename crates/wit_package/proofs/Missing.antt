@@ -1,5 +1,5 @@
 -- A name that isn't there is found by looking names up, and by nothing else.
-use Rattle.std.proofs.Common.{◌≡◌, List, ◌⊎◌, inl, inr, Option, Some, None, sym, subst, ap, ◌∙◌}
+use Rattle.std.proofs.Common.{◌≡◌, List, inl, inr, Option, Some, None, sym, subst, ◌∙◌}
 use Rattle.std.proofs.lemmas.Option.{same_Some}
 use Rattle.wit_words.specs.declared.source_map.Span.{Span}
 use Rattle.wit_words.specs.Slice.{Slice}

@@ -1,6 +1,5 @@
 -- What the interfaces and worlds of a package break in their order, its scopes do.
-use Rattle.std.proofs.Common.{◌≡◌, List, [], ◌∷◌, refl, sym, subst}
-use Rattle.std.specs.Prelude.{flat_map}
+use Rattle.std.proofs.Common.{◌≡◌, List, [], refl, sym, subst}
 use Rattle.wit_words.specs.declared.source_map.Span.{Span}
 use Rattle.wit_rules.specs.declared.fault.PackageRule.{PackageRule}
 use Rattle.wit_rules.specs.Breaks.{IsKept}

@@ -1,5 +1,5 @@
 -- A package that is built of its files is what they are resolved to.
-use Rattle.std.proofs.Common.{◌≡◌, ℕ, ◌+◌, List, [], ◌∷◌, ◌++◌, length, Some, map, refl, sym, subst, ap, ◌∙◌}
+use Rattle.std.proofs.Common.{◌≡◌, ℕ, ◌+◌, List, [], ◌++◌, length, Some, map, sym, subst, ap, ◌∙◌}
 use Rattle.std.proofs.lemmas.Option.{slice_get-map}
 use Rattle.std.specs.Prelude.{slice_get, option_map}
 use Rattle.wit_words.specs.declared.source_map.Span.{Span}
@@ -9,20 +9,20 @@ use Rattle.wit_types.specs.declared.world.World.{World}
 use Rattle.wit_types.specs.declared.«package».UnresolvedPackage.{UnresolvedPackage}
 use Rattle.wit_syntax.specs.Ast.{PackageNameTree, FileTree}
 use Rattle.wit_scopes.specs.Scopes.{WorldScope, ItemScope, package_scopes}
-use Rattle.wit_rules.specs.Facts.{package_name, IsDeclared}
+use Rattle.wit_rules.specs.Facts.{IsDeclared}
 use Rattle.name_places.specs.FirstPlaces.{place_of}
 use Rattle.wit_arena.specs.Tree.{Name, in_world, Owner, Tree}
-use Rattle.wit_arena.specs.Meaning.{Has, package_text}
+use Rattle.wit_arena.specs.Meaning.{package_text}
 use Rattle.wit_arena.specs.Unfold.{IsWhole}
 use Rattle.wit_package_types.specs.Known.{KnownTypes, FindsOwn}
 use Rattle.wit_package_types.specs.Standing.{AreKnownStanding}
 use Rattle.wit_package_types.proofs.Functional.{are_functional}
 use Rattle.wit_resources.specs.declared.natures.Nature.{Nature}
-use Rattle.wit_foreign.specs.Needs.{NeedTree, needs_in}
-use Rattle.wit_foreign.specs.Items.{Items, interfaces_in, worlds_in, AreItemsOf}
+use Rattle.wit_foreign.specs.Needs.{needs_in}
+use Rattle.wit_foreign.specs.Items.{Items, AreItemsOf}
 use Rattle.wit_foreign.specs.Unknown.{AreUnknown, LeadToOwners}
 use Rattle.wit_foreign.proofs.Standing.{unknown_types_stand}
-use Rattle.wit_resolved_scopes.specs.InArena.{Context, own_owner, IsBuilt}
+use Rattle.wit_resolved_scopes.specs.InArena.{own_owner, IsBuilt}
 use Rattle.wit_resolved_scopes.specs.Texts.{InterfaceText, AreItemsSorted, interfaces_of, worlds_of, interface_texts}
 use Rattle.wit_interfaces.specs.Interfaces.{AreInterfacesIn}
 use Rattle.wit_interfaces.specs.Labelled.{IsIdOf}

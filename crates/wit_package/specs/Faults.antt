@@ -1,7 +1,6 @@
 -- What the files of a package break (WIT, Packages, Name Resolution, Types).
-use Rattle.std.specs.Prelude.{◌≡◌, ℕ, List, [], ◌∷◌, ◌++◌, map, flat_map, Option, Some, None}
+use Rattle.std.specs.Prelude.{◌≡◌, List, ◌∷◌, map, Some}
 use Rattle.wit_words.specs.declared.source_map.Span.{Span}
-use Rattle.wit_words.specs.Slice.{Slice}
 use Rattle.wit_syntax.specs.Ast.{PackageNameTree, FileTree}
 use Rattle.wit_scopes.specs.Members.{MemberTree}
 use Rattle.wit_scopes.specs.Scopes as scope
@@ -10,7 +9,7 @@ use Rattle.wit_rules.specs.declared.fault.PackageRule.{PackageRule}
 use Rattle.wit_rules.specs.declared.fault.PackageRule.TheVariants.{NameNotFound, Cycle}
 use Rattle.wit_rules.specs.declared.fault.PackageFault.{PackageFault}
 use Rattle.wit_rules.specs.declared.fault.PackageFault.TheVariants.{OutOfMemory, Syntax, Broken}
-use Rattle.wit_rules.specs.Breaks.{Breaks, IsKept, AnyBreaks, VersionWhereBreaks}
+use Rattle.wit_rules.specs.Breaks.{Breaks, AnyBreaks, VersionWhereBreaks}
 use Rattle.wit_rules.specs.Facts.{FilesBreak, package_name}
 use Rattle.wit_lookups.specs.Lookups.{LookupsBreak}
 use Rattle.wit_orders.specs.Needs.{item_entry, types_of, CircleBreaks}

@@ -1,5 +1,5 @@
 -- A package of which the names from other packages are not looked up yet (WIT, Packages).
-use Rattle.std.specs.Prelude.{◌≡◌, ℕ, ◌+◌, List, [], ◌∷◌, ◌++◌, map, flat_map, Option, Some, None, length, take}
+use Rattle.std.specs.Prelude.{◌≡◌, ℕ, List, [], ◌∷◌, ◌++◌, map, flat_map, Option, Some, None, length}
 use Rattle.wit_words.specs.declared.source_map.Span.{Span}
 use Rattle.wit_words.specs.Slice.{Slice}
 use Rattle.wit_syntax.specs.Ast.{PackageNameTree, HeaderTree, FileTree}
@@ -9,7 +9,7 @@ use Rattle.wit_types.specs.declared.world.World.{World}
 use Rattle.wit_types.specs.declared.«package».AstItem.{AstItem}
 use Rattle.wit_types.specs.declared.«package».AstItem.TheVariants as ids
 use Rattle.wit_types.specs.declared.«package».UnresolvedPackage.{UnresolvedPackage}
-use Rattle.wit_scopes.specs.Scopes.{InterfaceScope, WorldScope, ItemScope, package_scopes}
+use Rattle.wit_scopes.specs.Scopes.{ItemScope, package_scopes}
 use Rattle.wit_rules.specs.Facts.{package_name}
 use Rattle.wit_arena.specs.Tree.{Name, PackageText, Place, in_world, Owner, Tree}
 use Rattle.wit_arena.specs.Arena.{IsUnique}
@@ -22,7 +22,7 @@ use Rattle.wit_foreign.specs.Items.{Items, AreItemsOf}
 use Rattle.wit_foreign.specs.Unknown.{AreUnknown}
 use Rattle.wit_foreign.specs.Deps.{IsPackageName, AreDeps, package_entries}
 use Rattle.wit_resolved_scopes.specs.InArena.{Context}
-use Rattle.wit_resolved_scopes.specs.Texts.{InterfaceText, AreItemsSorted, interfaces_of, worlds_of, interface_texts}
+use Rattle.wit_resolved_scopes.specs.Texts.{AreItemsSorted, worlds_of, interface_texts}
 use Rattle.wit_interfaces.specs.Interfaces.{AreInterfacesIn}
 use Rattle.wit_worlds.specs.Worlds.{AreWorldsIn}
 use Rattle.wit_placeholders.specs.Placeholders.{ArePlaceholders}
