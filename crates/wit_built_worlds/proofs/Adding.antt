@@ -1,14 +1,11 @@
 -- A world that goes behind the others.
-use Rattle.std.proofs.Common.{◌≡◌, ℕ, List, [], ◌∷◌, ◌++◌, length, Some, Result, Ok, Err, sym, subst}
-use Rattle.std.specs.Prelude.{OnOk, IfOk}
-use Rattle.wit_words.specs.declared.source_map.Span.{Span}
+use Rattle.std.proofs.Common.{◌≡◌, ℕ, List, [], ◌∷◌, ◌++◌, length}
 use Rattle.wit_types.specs.declared.function.Function.{Function}
 use Rattle.wit_types.specs.declared.interface.Interface.{Interface}
 use Rattle.wit_types.specs.declared.interface.TypeDef.{TypeDef}
 use Rattle.wit_types.specs.declared.interface.TypeOwner.TheVariants as belongs
 use Rattle.wit_types.specs.declared.world.World.{World}
 use Rattle.wit_scopes.specs.Scopes.{WorldScope}
-use Rattle.wit_rules.specs.declared.fault.PackageRule.{PackageRule}
 use Rattle.wit_rules.specs.declared.fault.PackageFault.{PackageFault}
 use Rattle.wit_rules.specs.Breaks.{IsKept, IsFaultOf}
 use Rattle.wit_rules.proofs.Breaking.{widened}

@@ -1,6 +1,6 @@
 -- The types of a world and of the interfaces that stand in it are declared there.
 use Rattle.std.proofs.Common.{◌≡◌, List, inl, inr, refl, sym, subst}
-use Rattle.wit_scopes.specs.Members.{MemberKind, MemberTree}
+use Rattle.wit_scopes.specs.Members.{MemberTree}
 use Rattle.wit_scopes.specs.Scopes as scope
 use Rattle.wit_scopes.specs.Scopes.{ExternKind, ListedTree, WorldMemberTree, WorldScope, ItemScope}
 use Rattle.wit_orders.specs.Needs.{types_of}

@@ -1,14 +1,14 @@
 -- The ids of what is asked of other packages.
-use Rattle.std.proofs.Common.{◌≡◌, ℕ, ◌+◌, ◌<◌, ◌≤◌, zero, suc, List, [], ◌∷◌, inl, inr, Some, take, refl, sym, subst, ap, ◌∙◌, arith}
+use Rattle.std.proofs.Common.{◌≡◌, ℕ, ◌+◌, ◌<◌, ◌≤◌, zero, suc, List, [], ◌∷◌, inl, inr, Some, take, sym, subst, ap, ◌∙◌, arith}
 use Rattle.std.proofs.lemmas.Option.{same_Some}
 use Rattle.std.proofs.lemmas.Bool.{cases_lt}
 use Rattle.std.specs.Prelude.{slice_get}
 use Rattle.wit_types.specs.declared.«package».AstItem.{AstItem}
 use Rattle.wit_types.specs.declared.«package».AstItem.TheVariants as ids
-use Rattle.wit_arena.specs.Tree.{Name, Place, in_interface, in_world, in_listed, Owner}
+use Rattle.wit_arena.specs.Tree.{Place, in_interface, in_world, in_listed, Owner}
 use Rattle.wit_arena.specs.Meaning.{Has}
 use Rattle.wit_foreign.specs.Needs.{NeedTree}
-use Rattle.wit_foreign.specs.Items.{Items, interface_count, world_count, interfaces_in, worlds_in, IsNumbered, AreItemsOf}
+use Rattle.wit_foreign.specs.Items.{Items, interface_count, interfaces_in, worlds_in, IsNumbered, AreItemsOf}
 use Rattle.wit_worlds.specs.Paths.{AreSorts}
 
 -- how many stand in front of a place, and there

@@ -4,14 +4,13 @@ use Rattle.std.specs.Prelude.{slice_get}
 use Rattle.wit_scopes.specs.Paths.{TargetTree, own, foreign}
 use Rattle.wit_scopes.specs.Scopes as scope
 use Rattle.wit_scopes.specs.Scopes.{ListedTree, IncludedTree, WorldMemberTree, WorldScope}
-use Rattle.wit_types.specs.declared.«package».AstItem.TheVariants as ids
 use Rattle.wit_arena.specs.Tree.{Name, in_interface, in_world}
 use Rattle.wit_arena.specs.Meaning.{Has, package_text}
 use Rattle.wit_arena.proofs.Lists.{has_here}
 use Rattle.wit_package_types.specs.Known.{KnownTypes}
 use Rattle.wit_foreign.specs.Needs.{NeedTree}
 use Rattle.wit_foreign.specs.Items.{Items, AreItemsOf}
-use Rattle.wit_resolved_scopes.specs.Texts.{InterfaceText, labelled_texts, own_members, included_in}
+use Rattle.wit_resolved_scopes.specs.Texts.{own_members, included_in}
 use Rattle.wit_resolved_scopes.specs.Fit.{IsInterfaceAmong, IsWorldAmong, IsWorldReady}
 use Rattle.wit_resolved_scopes.proofs.Fitting.{fit_ready}
 use Rattle.wit_readiness.proofs.Flat.{flat_has}

@@ -1,7 +1,7 @@
 -- Worlds one behind the other, as far as they are brought in.
-use Rattle.std.proofs.Common.{◌≡◌, ℕ, ◌+◌, ◌<◌, List, [], ◌∷◌, ◌++◌, length, length-append, Some, None, Option, map, take, refl, sym, subst, ap, ◌∙◌, append_assoc, append-nil, arith}
-use Rattle.std.proofs.lemmas.Option.{same_Some, slice_get_within, slice_get-map}
-use Rattle.std.proofs.lemmas.List.{map_push, length-map, length-take-le}
+use Rattle.std.proofs.Common.{◌≡◌, ℕ, ◌+◌, List, [], ◌∷◌, ◌++◌, length, length-append, Some, None, Option, map, take, refl, sym, subst, ap, ◌∙◌, append_assoc, append-nil, arith}
+use Rattle.std.proofs.lemmas.Option.{same_Some, slice_get-map}
+use Rattle.std.proofs.lemmas.List.{map_push}
 use Rattle.std.specs.Prelude.{slice_get, flat_map, option_map}
 use Rattle.name_places.specs.FirstPlaces.{place_of}
 use Rattle.name_places.proofs.Places.{place_names}
@@ -15,7 +15,7 @@ use Rattle.wit_rules.proofs.Breaking.{AreKept, kept_more}
 use Rattle.wit_rules.proofs.Places.{taken}
 use Rattle.wit_arena.specs.Tree.{Name, in_world}
 use Rattle.wit_package_types.specs.Known.{KnownTypes}
-use Rattle.wit_foreign.specs.Items.{Items, interfaces_in, worlds_in}
+use Rattle.wit_foreign.specs.Items.{Items, worlds_in}
 use Rattle.wit_resolved_scopes.specs.InArena.{Context, own_owner, IsBuilt}
 use Rattle.wit_resolved_scopes.specs.Texts.{InterfaceText, labelled_texts}
 use Rattle.wit_resolved_scopes.proofs.Orders.{at_taken}

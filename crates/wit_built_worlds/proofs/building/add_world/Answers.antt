@@ -3,7 +3,7 @@ use Rattle.wit_scopes.proofs.Outcomes.{if_err, on_ok}
 use Rattle.wit_scopes.specs.View as scope_view
 use Rattle.wit_types.specs.declared.interface.Interface.{Interface}
 use Rattle.wit_types.specs.declared.interface.TypeOwner.TheVariants as belongs
-use Rattle.wit_rules.specs.Breaks.{IsKept, IsFaultOf}
+use Rattle.wit_rules.specs.Breaks.{IsFaultOf}
 use Rattle.wit_orders.specs.Needs.{types_of}
 use Rattle.wit_arena.specs.Tree.{in_world}
 use Rattle.wit_package_types.specs.Known.{KnownTypes}

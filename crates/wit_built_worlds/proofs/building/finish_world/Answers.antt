@@ -1,4 +1,4 @@
-use Rattle.std.proofs.Common.{List, length, sym, subst}
+use Rattle.std.proofs.Common.{length, sym, subst}
 use Rattle.wit_scopes.proofs.Outcomes.{on_ok}
 use Rattle.wit_scopes.specs.View as scope_view
 use Rattle.wit_package_types.specs.Known.{KnownTypes}
