@@ -185,6 +185,7 @@ pub fn add_worlds<'a>(
     requires first { (built.old.names ≡ []) × (length built.old.worlds ≡ worlds_in items.now) }
     requires interfaces { interfaces_in items.now + length building.old.known.names ≤ length building.old.interfaces }
     requires natures { building.old.natures ≡ natures_of building.old.types }
+    ensures natures { OnOk result (building.new.natures ≡ natures_of building.new.types) }
     ensures known { OnOk result (building.new.known ≡ building.old.known) }
     ensures names { OnOk result (built.new.names ≡ map (λ w. w.name.text) (seen.worlds worlds.now)) }
     ensures adds { (c : Context) → spec.MayAddWorlds c building.old.known building.old.types building.old.interfaces items.now built.old.worlds (seen.worlds worlds.now) → OnOk result (spec.AddsWorlds c building.old.known building.old.types building.old.interfaces built.old.worlds (seen.worlds worlds.now) building.new.types building.new.interfaces built.new.worlds) }

@@ -2,14 +2,10 @@
 use Rattle.std.proofs.Common.{List, refl}
 use Rattle.wit_syntax.specs.Ast.{FileTree}
 use Rattle.wit_scopes.specs.Scopes.{package_scopes}
-use Rattle.wit_rules.proofs.Breaking.{widened}
-use Rattle.wit_resolved_scopes.specs.Texts.{interfaces_of, worlds_of}
-use Rattle.wit_package.specs.Built.{ItemsBreak}
-use Rattle.wit_package.specs.Faults.{OneScopeBreaks}
 use Rattle.wit_package.specs.Laws.{KeptPackagesMayBeBuilt, PackagesAreBuiltInTwoSteps, BuiltPackagesAreResolved, ItemsBreakAsScopesDo, MissingNamesComeFirst}
 use Rattle.wit_package.proofs.Finding.{ready_together}
 use Rattle.wit_package.proofs.Building.{may_add, may_add_worlds, are_numbered, builds, ready_behind, both_kept, interfaces_break, worlds_break}
-use Rattle.wit_package.proofs.Scoping.{items_break, scopes_kept}
+use Rattle.wit_package.proofs.Scoping.{items_break, scopes_break}
 use Rattle.wit_package.proofs.Whole.{may_build, is_resolved}
 use Rattle.wit_package.proofs.Missing.{missing_first, files_first, lookups_first}
 
@@ -36,10 +32,7 @@ are_resolved files me sorted items k a b ns interfaces interfaces2 names worlds 
     is_resolved files me begun.declared sorted begun.are_sorted items begun.items_are k a ns interfaces names worlds spans begun.start b interfaces2 worlds2 builds p made
 
 pub break_alike : ItemsBreakAsScopesDo
-break_alike c sorted are = record {
-  kept = scopes_kept c.scopes sorted are c refl;
-  broken = widened (ItemsBreak c (interfaces_of sorted) (worlds_of sorted)) (OneScopeBreaks c.me c.scopes) (items_break c.scopes sorted are c refl);
-}
+break_alike c sorted are = record { by_items = items_break c.scopes sorted are c refl; by_scopes = scopes_break c.scopes sorted are c refl }
 
 pub missing_come_first : (files : List FileTree) → MissingNamesComeFirst files
 missing_come_first files = record {

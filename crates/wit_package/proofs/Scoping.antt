@@ -2,7 +2,6 @@
 use Rattle.std.proofs.Common.{◌≡◌, List, [], refl, sym, subst}
 use Rattle.wit_words.specs.declared.source_map.Span.{Span}
 use Rattle.wit_rules.specs.declared.fault.PackageRule.{PackageRule}
-use Rattle.wit_rules.specs.Breaks.{IsKept}
 use Rattle.wit_scopes.specs.Members.{MemberTree}
 use Rattle.wit_scopes.specs.Scopes as scope
 use Rattle.wit_scopes.specs.Scopes.{ExternKind, ListedTree, WorldMemberTree, InterfaceScope, WorldScope, ItemScope}
@@ -77,7 +76,7 @@ module _ (scopes sorted : List ItemScope) (are : AreItemsSorted scopes sorted) w
     items_break rule at (by_interfaces b) = scope_breaks (in_interface b.one.name.text) b.one.members (interface_at b.one (interface_there b.one (b.place, b.there))) rule at b.breaks
     items_break rule at (by_worlds b) = world_breaks b.one (world_there b.one (b.place, b.there)) rule at b.breaks
 
-    -- ---- where none of the items does, no scope does
+    -- ---- the item in which a scope stands breaks it too
 
     broken_at : (o : Place) (ms : List MemberTree) → IsScopeAt scopes o ms → (rule : PackageRule) (at : Span) → MembersBreak c o ms rule at → ItemsBreak c (interfaces_of sorted) (worlds_of sorted) rule at
     broken_at o ms (interface_at i has) rule at b =
@@ -92,5 +91,5 @@ module _ (scopes sorted : List ItemScope) (are : AreItemsSorted scopes sorted) w
         let t = flat_has (member_texts w.name.text) w.members (scope.listed l) (listed_text w.name.text l ns) here given in
         by_worlds (record { place = h.0; one = w; there = h.1; breaks = by_labelled (record { place = t.0; one = listed_text w.name.text l ns; there = t.1; breaks = b }) })
 
-    pub scopes_kept : IsKept (ItemsBreak c (interfaces_of sorted) (worlds_of sorted)) → IsKept (OneScopeBreaks c.me c.scopes)
-    scopes_kept kept rule at b = kept rule at (broken_at b.place b.members (subst (λ (ss : List ItemScope). IsScopeAt ss b.place b.members) scopes_are b.there) rule at b.breaks)
+    pub scopes_break : (rule : PackageRule) (at : Span) → OneScopeBreaks c.me c.scopes rule at → ItemsBreak c (interfaces_of sorted) (worlds_of sorted) rule at
+    scopes_break rule at b = broken_at b.place b.members (subst (λ (ss : List ItemScope). IsScopeAt ss b.place b.members) scopes_are b.there) rule at b.breaks

@@ -7,6 +7,7 @@ use Rattle.wit_types.specs.declared.interface.TypeDef.{TypeDef}
 use Rattle.wit_types.specs.declared.world.World.{World}
 use Rattle.wit_types.specs.declared.«package».UnresolvedPackage.{UnresolvedPackage}
 use Rattle.wit_scopes.specs.Scopes.{ItemScope, InterfaceScope, WorldScope, package_scopes}
+use Rattle.wit_rules.specs.declared.fault.PackageRule.{PackageRule}
 use Rattle.wit_rules.specs.declared.fault.PackageFault.{PackageFault}
 use Rattle.wit_rules.specs.Breaks.{IsKept, IsFaultOf}
 use Rattle.wit_rules.specs.Facts.{package_name, IsDeclared, FilesBreak}
@@ -66,10 +67,10 @@ BuiltPackagesAreResolved =
     → IsBegun files me sorted items k a ns interfaces names worlds spans → Builds (context_of me files items sorted) a interfaces worlds (interfaces_of sorted) (worlds_of sorted) b interfaces2 worlds2
     → IsMade me (package_docs files) items (needs_in (package_scopes me files)) b interfaces2 worlds2 spans p → IsResolved files p
 
--- the interfaces and worlds in their order break a rule exactly where one of the package's scopes does
+-- the interfaces and worlds in their order break the rules that the package's scopes do, at the same places
 pub record BreakAlike (c : Context) (sorted : List ItemScope) : Type 0 where
-  pub kept : IsKept (ItemsBreak c (interfaces_of sorted) (worlds_of sorted)) → IsKept (OneScopeBreaks c.me c.scopes)
-  pub broken : (fault : PackageFault) → IsFaultOf (ItemsBreak c (interfaces_of sorted) (worlds_of sorted)) fault → IsFaultOf (OneScopeBreaks c.me c.scopes) fault
+  pub by_items : (rule : PackageRule) (at : Span) → ItemsBreak c (interfaces_of sorted) (worlds_of sorted) rule at → OneScopeBreaks c.me c.scopes rule at
+  pub by_scopes : (rule : PackageRule) (at : Span) → OneScopeBreaks c.me c.scopes rule at → ItemsBreak c (interfaces_of sorted) (worlds_of sorted) rule at
 
 abbrev pub ItemsBreakAsScopesDo : Type 0
 ItemsBreakAsScopesDo = (c : Context) (sorted : List ItemScope) → AreItemsSorted c.scopes sorted → BreakAlike c sorted
