@@ -1,45 +1,9 @@
 -- The ids of what is asked of other packages.
-use Rattle.std.proofs.Common.{◌≡◌, ℕ, ◌+◌, ◌<◌, ◌≤◌, zero, suc, List, [], ◌∷◌, inl, inr, Some, take, sym, subst, ap, ◌∙◌, arith}
-use Rattle.std.proofs.lemmas.Option.{same_Some}
-use Rattle.std.proofs.lemmas.Bool.{cases_lt}
-use Rattle.std.specs.Prelude.{slice_get}
-use Rattle.wit_types.specs.declared.«package».AstItem.{AstItem}
-use Rattle.wit_types.specs.declared.«package».AstItem.TheVariants as ids
-use Rattle.wit_arena.specs.Tree.{Place, in_interface, in_world, in_listed, Owner}
-use Rattle.wit_arena.specs.Meaning.{Has}
+use Rattle.std.proofs.Common.{List, take, subst}
+use Rattle.wit_arena.specs.Tree.{Place}
 use Rattle.wit_foreign.specs.Needs.{NeedTree}
-use Rattle.wit_foreign.specs.Items.{Items, interface_count, interfaces_in, worlds_in, IsNumbered, AreItemsOf}
+use Rattle.wit_foreign.specs.Items.{Items, interfaces_in, worlds_in, IsNumbered, AreItemsOf}
 use Rattle.wit_worlds.specs.Paths.{AreSorts}
-
--- how many stand in front of a place, and there
-pub interfaces_before : (es : Items) (p : ℕ) (e : Owner × AstItem) → slice_get es p ≡ Some e → interfaces_in (take p es) + interface_count e.1 ≤ interfaces_in es
-interfaces_before [] p e at = absurd cc
-interfaces_before (f ∷ es) zero e at = let same : interface_count f.1 ≡ interface_count e.1 = ap (λ (z : Owner × AstItem). interface_count z.1) (same_Some f e at) in omega (arith, same)
-interfaces_before (f ∷ es) (suc p) e at = let less : interfaces_in (take p es) + interface_count e.1 ≤ interfaces_in es = interfaces_before es p e at in omega (arith, less)
-
--- more stand in front of a later one
-pub interfaces_between : (es : Items) (p q : ℕ) (e : Owner × AstItem) → p < q → slice_get es p ≡ Some e → interfaces_in (take p es) + interface_count e.1 ≤ interfaces_in (take q es)
-interfaces_between [] p q e less at = absurd cc
-interfaces_between (f ∷ es) p zero e less at = absurd (omega (arith, less))
-interfaces_between (f ∷ es) zero (suc q) e less at = let same : interface_count f.1 ≡ interface_count e.1 = ap (λ (z : Owner × AstItem). interface_count z.1) (same_Some f e at) in omega (arith, same)
-interfaces_between (f ∷ es) (suc p) (suc q) e less at = let more : interfaces_in (take p es) + interface_count e.1 ≤ interfaces_in (take q es) = interfaces_between es p q e (omega (arith, less)) at in omega (arith, more)
-
-interface_ids : (j k : ℕ) → ids.Interface j ≡ ids.Interface k → j ≡ k
-interface_ids j k e = cc
-
-world_ids : (j k : ℕ) → ids.World j ≡ ids.World k → j ≡ k
-world_ids j k e = cc
-
--- the number of an interface is how many stand in front of it
-numbered_interface : (n m : ℕ) (p : Place) (k : ℕ) → IsNumbered n m p (ids.Interface k) → k ≡ n
-numbered_interface n m (in_interface x) k e = interface_ids k n e
-numbered_interface n m (in_world x) k e = absurd (let f : ids.Interface k ≡ ids.World m = e in cc)
-numbered_interface n m (in_listed w s x) k e = absurd e
-
-numbered_world : (n m : ℕ) (p : Place) (k : ℕ) → IsNumbered n m p (ids.World k) → k ≡ m
-numbered_world n m (in_interface x) k e = absurd (let f : ids.World k ≡ ids.Interface n = e in cc)
-numbered_world n m (in_world x) k e = world_ids k m e
-numbered_world n m (in_listed w s x) k e = absurd e
 
 module _ (needs : List NeedTree) (items : Items) (are : AreItemsOf needs items) where
   -- each item has an id of its sort
@@ -48,29 +12,3 @@ module _ (needs : List NeedTree) (items : Items) (are : AreItemsOf needs items) 
     interfaces = λ w x i (p, at) e. (interfaces_in (take p items), subst (λ (o : Place). IsNumbered (interfaces_in (take p items)) (worlds_in (take p items)) o i) e (are.numbered p w i at));
     worlds = λ w x i (p, at) e. (worlds_in (take p items), subst (λ (o : Place). IsNumbered (interfaces_in (take p items)) (worlds_in (take p items)) o i) e (are.numbered p w i at));
   }
-
-  pub interface_number : (p : ℕ) (w : Owner) (k : ℕ) → slice_get items p ≡ Some (w, ids.Interface k) → k ≡ interfaces_in (take p items)
-  interface_number p w k at = numbered_interface (interfaces_in (take p items)) (worlds_in (take p items)) w.place k (are.numbered p w (ids.Interface k) at)
-
-  pub world_number : (p : ℕ) (w : Owner) (k : ℕ) → slice_get items p ≡ Some (w, ids.World k) → k ≡ worlds_in (take p items)
-  world_number p w k at = numbered_world (interfaces_in (take p items)) (worlds_in (take p items)) w.place k (are.numbered p w (ids.World k) at)
-
-  pub interface_below : (w : Owner) (k : ℕ) → Has items (w, ids.Interface k) → k < interfaces_in items
-  interface_below w k (p, at) =
-      let is : k ≡ interfaces_in (take p items) = interface_number p w k at in
-      let less : interfaces_in (take p items) + 1 ≤ interfaces_in items = interfaces_before items p (w, ids.Interface k) at in
-      omega (arith, less, is)
-
-  -- interfaces of one number stand at one place
-  pub interface_alone : (v w : Owner) (k : ℕ) → Has items (v, ids.Interface k) → Has items (w, ids.Interface k) → v ≡ w
-  interface_alone v w k (p, at_p) (q, at_q) =
-      let is_p : k ≡ interfaces_in (take p items) = interface_number p v k at_p in
-      let is_q : k ≡ interfaces_in (take q items) = interface_number q w k at_q in
-      let same : p ≡ q = elim (cases_lt p q) as (λ _. p ≡ q) [
-        | inl less ↦ absurd (let more : interfaces_in (take p items) + 1 ≤ interfaces_in (take q items) = interfaces_between items p q (v, ids.Interface k) less at_p in omega (arith, more, is_p, is_q))
-        | inr past ↦ elim (cases_lt q p) as (λ _. p ≡ q) [
-          | inl less ↦ absurd (let more : interfaces_in (take q items) + 1 ≤ interfaces_in (take p items) = interfaces_between items q p (w, ids.Interface k) less at_q in omega (arith, more, is_p, is_q))
-          | inr not_past ↦ omega (arith, past, not_past)
-        ]
-      ] in
-      ap (λ (e : Owner × AstItem). e.0) (same_Some (v, ids.Interface k) (w, ids.Interface k) (sym at_p ∙ ap (slice_get items) same ∙ at_q))

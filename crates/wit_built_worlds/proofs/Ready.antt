@@ -17,7 +17,8 @@ use Rattle.wit_readiness.proofs.Flat.{flat_has}
 use Rattle.wit_worlds.specs.Paths.{IsInterfaceThere, IsWorldThere}
 use Rattle.wit_worlds.specs.Listing.{IsThere}
 use Rattle.wit_built_worlds.specs.Adding.{paths_of, AreNumbered, IsWorldReadyIn, AreReadyBehind}
-use Rattle.wit_built_worlds.proofs.Numbers.{items_are_sorts, interface_below, interface_alone}
+use Rattle.wit_foreign.proofs.Numbers.{interface_below, interface_alone}
+use Rattle.wit_built_worlds.proofs.Numbers.{items_are_sorts}
 
 module _ (k : KnownTypes) (items : Items) (ws : List WorldScope) (behind : AreReadyBehind k items ws) (n : ℕ) (w : WorldScope) (there : slice_get ws n ≡ Some w) (names : List Name) (names_are : names ≡ map (λ v. v.name.text) (take n ws)) where
   ready : IsWorldReady behind.interfaces (take n ws) behind.others w

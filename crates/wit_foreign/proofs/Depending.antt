@@ -1,6 +1,6 @@
 -- What is asked of other packages, item by item.
 use Rattle.std.proofs.Common.{◌≡◌, ℕ, ◌+◌, ◌<◌, Bool, true, false, cond, List, [], ◌∷◌, ◌++◌, ◌⊎◌, inl, inr, length, Some, None, take, get_or, refl, sym, subst, ap, ◌∙◌, arith}
-use Rattle.std.proofs.lemmas.Option.{same_Some, slice_get_within, slice_get-map, slice_get-get_or}
+use Rattle.std.proofs.lemmas.Option.{same_Some, slice_get_within, slice_get-map}
 use Rattle.std.proofs.lemmas.List.{length-map}
 use Rattle.std.specs.Map.{lookup}
 use Rattle.std.specs.Prelude.{Vec, slice_get, option_map}
@@ -17,15 +17,12 @@ use Rattle.wit_foreign.specs.GroupView.{row, rows}
 use Rattle.wit_foreign.specs.Needs.{NeedTree}
 use Rattle.wit_foreign.specs.Groups.{AreGroups, AreApart}
 use Rattle.wit_foreign.specs.Deps.{HaveGates, AreStabilities, one_stability_more, AreEntries}
-use Rattle.wit_foreign.proofs.Gathering.{length_more, next_need}
+use Rattle.wit_foreign.proofs.Gathering.{length_more, next_need, next_at}
 use Rattle.wit_foreign.proofs.Standing.{got_at, length_taken}
 
 module _ (ns : List Need) (k : ℕ) (n : Need) (within : k < length ns) where
-  pub next_at : slice_get (seen.needs ns) k ≡ Some (seen.need (get_or ns k n))
-  next_at = slice_get-map seen.need ns k ∙ ap (option_map seen.need) (slice_get-get_or ns k n within)
-
   pub next_gates : HaveGates (seen.needs ns) → AreGates (seen.need (get_or ns k n)).attributes
-  next_gates gates = gates (seen.need (get_or ns k n)) (k, next_at)
+  next_gates gates = gates (seen.need (get_or ns k n)) (k, next_at ns k n within)
 
   pub next_stabilities : (ss : List Stability) (s : Stability) → AreStabilities (seen.needs (take k ns)) ss → IsStabilityOf (seen.need (get_or ns k n)).attributes s → AreStabilities (seen.needs (take (k + 1) ns)) (ss ++ s ∷ [])
   next_stabilities ss s so_far is =

@@ -1,8 +1,8 @@
 -- What is asked for, as it is gone through.
 use Rattle.std.proofs.Common.{◌≡◌, ℕ, ◌+◌, ◌<◌, ◌≤◌, zero, suc, List, [], ◌∷◌, ◌++◌, inl, inr, length, Some, take, get_or, refl, sym, subst, ap, ◌∙◌, arith}
-use Rattle.std.proofs.lemmas.Option.{slice_get_within}
+use Rattle.std.proofs.lemmas.Option.{slice_get_within, slice_get-map, slice_get-get_or}
 use Rattle.std.proofs.lemmas.List.{map_more}
-use Rattle.std.specs.Prelude.{slice_get}
+use Rattle.std.specs.Prelude.{slice_get, option_map}
 use Rattle.wit_types.specs.declared.«package».AstItem.{AstItem}
 use Rattle.wit_types.specs.declared.«package».AstItem.TheVariants as ids
 use Rattle.wit_arena.specs.Tree.{Owner}
@@ -192,6 +192,9 @@ taken_within old n new k (goes_last i absent next) l = (let e = length_more old 
 module _ (ns : List Need) (k : ℕ) (n : Need) (within : k < length ns) where
   pub next_need : seen.needs (take (k + 1) ns) ≡ seen.needs (take k ns) ++ seen.need (get_or ns k n) ∷ []
   next_need = map_more seen.need ns k n within
+
+  pub next_at : slice_get (seen.needs ns) k ≡ Some (seen.need (get_or ns k n))
+  next_at = slice_get-map seen.need ns k ∙ ap (option_map seen.need) (slice_get-get_or ns k n within)
 
   pub takes_next : (old new : Items) → AreItemsOf (seen.needs (take k ns)) old × (length old ≤ k) → TakesNeed old (seen.need (get_or ns k n)) new → AreItemsOf (seen.needs (take (k + 1) ns)) new × (length new ≤ k + 1)
   takes_next old new so_far h = (

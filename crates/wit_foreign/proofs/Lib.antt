@@ -1,7 +1,8 @@
 mod Outcomes
 mod ItemPaths
 mod ItemFinding
-mod Gathering
+pub mod Gathering
+pub mod Numbers
 mod Uses
 mod Using
 pub mod Standing

@@ -1,6 +1,6 @@
 -- The types that are used, as the needs are gone through.
 use Rattle.std.proofs.Common.{◌≡◌, ℕ, ◌+◌, ◌<◌, List, [], ◌∷◌, ◌++◌, inl, inr, length, Some, None, take, get_or, refl, sym, subst, ap, ◌∙◌, arith}
-use Rattle.std.proofs.lemmas.Option.{same_Some, slice_get_within, slice_get-map, slice_get-get_or}
+use Rattle.std.proofs.lemmas.Option.{same_Some, slice_get_within}
 use Rattle.std.specs.Prelude.{slice_get, option_map}
 use Rattle.wit_words.specs.declared.source_map.Span.{Span}
 use Rattle.wit_words.specs.Slice.{Slice}
@@ -17,7 +17,7 @@ use Rattle.wit_foreign.specs.View as seen
 use Rattle.wit_foreign.specs.Needs.{NeedTree, AreUses}
 use Rattle.wit_foreign.specs.Items.{Items, owner_asked, interfaces_in, AreItemsOf}
 use Rattle.wit_foreign.specs.Unknown.{name_used, used_name, HasInterface, IsUnknown, IsFirstUse, IsEntryAt, AreUnknown, AddsUsed, no_type, known_type, new_type}
-use Rattle.wit_foreign.proofs.Gathering.{length_more, has_last, next_need}
+use Rattle.wit_foreign.proofs.Gathering.{length_more, has_last, next_need, next_at}
 
 -- the interface of a type that is used is among the items
 pub has_interface : (needs : List NeedTree) (items : Items) → AreItemsOf needs items → AreUses needs → (n : NeedTree) → Has needs n → (y : Slice) → n.name ≡ Some y → HasInterface items (owner_in n.«package» n.item)
@@ -213,11 +213,8 @@ module _ (items : Items) (needs : List NeedTree) (n : NeedTree) (a : List TypeDe
 -- ---- a loop over the needs
 
 module _ (items : Items) (ns : List Need) (k : ℕ) (n : Need) (within : k < length ns) where
-  next_there : slice_get (seen.needs ns) k ≡ Some (seen.need (get_or ns k n))
-  next_there = slice_get-map seen.need ns k ∙ ap (option_map seen.need) (slice_get-get_or ns k n within)
-
   pub next_interface : AreItemsOf (seen.needs ns) items → AreUses (seen.needs ns) → (y : Slice) → (seen.need (get_or ns k n)).name ≡ Some y → HasInterface items (owner_in (seen.need (get_or ns k n)).«package» (seen.need (get_or ns k n)).item)
-  next_interface are uses y named = has_interface (seen.needs ns) items are uses (seen.need (get_or ns k n)) (k, next_there) y named
+  next_interface are uses y named = has_interface (seen.needs ns) items are uses (seen.need (get_or ns k n)) (k, next_at ns k n within) y named
 
   pub adds_next : (a : List TypeDef) (es : List (ForeignName × ℕ)) (ss : List Span) (b : List TypeDef) (fs : List (ForeignName × ℕ)) (ts : List Span) → AreUnknown items (seen.needs (take k ns)) a es ss
       → AddsUsed items (seen.need (get_or ns k n)) a es ss b fs ts → AreUnknown items (seen.needs (take (k + 1) ns)) b fs ts

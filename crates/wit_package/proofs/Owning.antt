@@ -12,7 +12,7 @@ use Rattle.wit_foreign.specs.Items.{Items, interface_count, world_count, interfa
 use Rattle.wit_interfaces.proofs.Behind.{get_right}
 use Rattle.wit_readiness.proofs.Flat.{has_one, in_flat}
 use Rattle.wit_built_worlds.specs.Adding.{AreOwnersIn}
-use Rattle.wit_built_worlds.proofs.Numbers.{interface_number, world_number}
+use Rattle.wit_foreign.proofs.Numbers.{interface_number, world_number}
 use Rattle.wit_package.specs.Resolved.{interface_asked, world_asked, foreign_owners}
 
 -- ---- how many there are

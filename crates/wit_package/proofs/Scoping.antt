@@ -1,5 +1,5 @@
 -- What the interfaces and worlds of a package break in their order, its scopes do.
-use Rattle.std.proofs.Common.{◌≡◌, List, [], refl, sym, subst}
+use Rattle.std.proofs.Common.{◌≡◌, List, [], sym, subst}
 use Rattle.wit_words.specs.declared.source_map.Span.{Span}
 use Rattle.wit_rules.specs.declared.fault.PackageRule.{PackageRule}
 use Rattle.wit_scopes.specs.Members.{MemberTree}
@@ -7,25 +7,18 @@ use Rattle.wit_scopes.specs.Scopes as scope
 use Rattle.wit_scopes.specs.Scopes.{ExternKind, ListedTree, WorldMemberTree, InterfaceScope, WorldScope, ItemScope}
 use Rattle.wit_arena.specs.Tree.{Place, in_interface, in_world, in_listed}
 use Rattle.wit_arena.specs.Meaning.{Has}
-use Rattle.wit_arena.proofs.Lists.{has_none, has_here}
+use Rattle.wit_arena.proofs.Lists.{has_here}
 use Rattle.wit_resolved_scopes.specs.InArena.{Context}
 use Rattle.wit_resolved_scopes.specs.Texts.{InterfaceText, listed_text, extern_texts, member_texts, labelled_texts, own_members, interface_of, world_of, interfaces_of, worlds_of, AreItemsSorted}
 use Rattle.wit_interfaces.specs.Adding.{MembersBreak}
-use Rattle.wit_readiness.proofs.Flat.{has_one, in_flat, flat_has}
+use Rattle.wit_readiness.proofs.Flat.{in_flat, flat_has}
+use Rattle.wit_readiness.proofs.Interfaces.{interface_given}
+use Rattle.wit_readiness.proofs.Worlds.{world_given}
+use Rattle.wit_readiness.proofs.Labelled.{labelled_given}
 use Rattle.wit_readiness.proofs.Sorted.{item_among, item_sorted}
 use Rattle.wit_built_worlds.specs.Adding.{WorldBreaks, by_own, by_labelled}
 use Rattle.wit_package.specs.Faults.{IsScopeAt, interface_at, world_at, listed_at, OneScopeBreaks}
 use Rattle.wit_package.specs.Built.{ItemsBreak, by_interfaces, by_worlds}
-
--- ---- the items of a sort
-
-interface_given : (s : ItemScope) (i : InterfaceScope) → Has (interface_of s) i → s ≡ scope.ItemScope.interface i
-interface_given (scope.ItemScope.interface j) i h = let e : i ≡ j = has_one j i h in subst (λ (z : InterfaceScope). scope.ItemScope.interface j ≡ scope.ItemScope.interface z) (sym e) refl
-interface_given (scope.world w) i h = absurd (has_none i h)
-
-world_given : (s : ItemScope) (w : WorldScope) → Has (world_of s) w → s ≡ scope.world w
-world_given (scope.ItemScope.interface i) w h = absurd (has_none w h)
-world_given (scope.world v) w h = let e : w ≡ v = has_one v w h in subst (λ (z : WorldScope). scope.world v ≡ scope.world z) (sym e) refl
 
 module _ (scopes sorted : List ItemScope) (are : AreItemsSorted scopes sorted) where
   pub interface_there : (i : InterfaceScope) → Has (interfaces_of sorted) i → Has scopes (scope.ItemScope.interface i)
@@ -51,22 +44,9 @@ module _ (scopes sorted : List ItemScope) (are : AreItemsSorted scopes sorted) w
     scope_breaks o ms there rule at b = record { place = o; members = ms; there = subst (λ (ss : List ItemScope). IsScopeAt ss o ms) (sym scopes_are) there; breaks = b }
 
     text_breaks : (w : WorldScope) → Has scopes (scope.world w) → (t : InterfaceText) → Has (labelled_texts w) t → (rule : PackageRule) (at : Span) → MembersBreak c t.place t.members rule at → OneScopeBreaks c.me c.scopes rule at
-    text_breaks w has t h rule at b = by r.0 r.1 r.2
-      where
-        r : (x : WorldMemberTree) × Has w.members x × Has (member_texts w.name.text x) t
-        r = in_flat (member_texts w.name.text) w.members t h
-
-        listed : (l : ListedTree) → Has w.members (scope.listed l) → (k : ExternKind) → l.kind ≡ k → Has (extern_texts w.name.text l k) t → OneScopeBreaks c.me c.scopes rule at
-        listed l here (scope.ExternKind.function f) e given = absurd (has_none t given)
-        listed l here (scope.ExternKind.interface ns) e given =
-            let same : t ≡ listed_text w.name.text l ns = has_one (listed_text w.name.text l ns) t given in
-            scope_breaks (in_listed w.name.text l.side l.name.text) ns (listed_at w l ns has here e) rule at (subst (λ (u : InterfaceText). MembersBreak c u.place u.members rule at) same b)
-        listed l here (scope.item p) e given = absurd (has_none t given)
-
-        by : (x : WorldMemberTree) → Has w.members x → Has (member_texts w.name.text x) t → OneScopeBreaks c.me c.scopes rule at
-        by (scope.member m) here given = absurd (has_none t given)
-        by (scope.listed l) here given = listed l here l.kind refl given
-        by (scope.included i) here given = absurd (has_none t given)
+    text_breaks w has t h rule at b =
+        let g = labelled_given w t h in
+        scope_breaks (in_listed w.name.text g.listed.side g.listed.name.text) g.members (listed_at w g.listed g.members has g.there g.kind) rule at (subst (λ (u : InterfaceText). MembersBreak c u.place u.members rule at) g.is b)
 
     world_breaks : (w : WorldScope) → Has scopes (scope.world w) → (rule : PackageRule) (at : Span) → WorldBreaks c w rule at → OneScopeBreaks c.me c.scopes rule at
     world_breaks w has rule at (by_own b) = scope_breaks (in_world w.name.text) (own_members w.members) (world_at w has) rule at b

@@ -1,10 +1,10 @@
 -- What is asked for, as it is gone through: the items have their interfaces and worlds up to some place, in front of which stands whatever
 -- was asked for.
-use Rattle.std.proofs.Common.{◌≡◌, ℕ, ◌+◌, ◌<◌, ◌≤◌, List, [], ◌∷◌, ◌++◌, inl, inr, length, Some, take, get_or, refl, sym, subst, ap, ◌∙◌, arith}
-use Rattle.std.proofs.lemmas.Option.{same_Some, slice_get_within, slice_get-map, slice_get-get_or}
+use Rattle.std.proofs.Common.{◌≡◌, ℕ, ◌+◌, ◌<◌, ◌≤◌, List, [], ◌∷◌, ◌++◌, inl, inr, length, Some, take, refl, sym, subst, ap, ◌∙◌, arith}
+use Rattle.std.proofs.lemmas.Option.{same_Some, slice_get_within}
 use Rattle.std.proofs.lemmas.List.{length-map}
 use Rattle.std.proofs.lemmas.Bool.{cases_lt}
-use Rattle.std.specs.Prelude.{slice_get, option_map}
+use Rattle.std.specs.Prelude.{slice_get}
 use Rattle.wit_types.specs.declared.interface.Interface.{Interface}
 use Rattle.wit_types.specs.declared.world.World.{World}
 use Rattle.wit_types.specs.declared.«package».AstItem.{AstItem}
@@ -17,7 +17,10 @@ use Rattle.wit_foreign.specs.View as seen
 use Rattle.wit_foreign.specs.Needs.{NeedTree}
 use Rattle.wit_foreign.specs.Items.{Items, need_owner, interfaces_in, worlds_in, interface_count, world_count, AreItemsOf}
 use Rattle.wit_placeholders.specs.Placeholders.{IsFirstAsk, IsUnknownInterface, IsUnknownWorld, ArePlaceholders}
-use Rattle.wit_placeholders.proofs.Numbers.{length_more, take_whole, take_next, got_at, interfaces_more, worlds_more, interfaces_between, worlds_between, interface_or_world, interface_number, world_number, interface_alone, world_alone}
+use Rattle.wit_rules.proofs.Places.{taken}
+use Rattle.wit_foreign.proofs.Gathering.{length_more, take_whole, interfaces_more, worlds_more}
+use Rattle.wit_foreign.proofs.Standing.{got_at}
+use Rattle.wit_foreign.proofs.Numbers.{interfaces_between, worlds_between, interface_or_world, interface_number, world_number, interface_alone, world_alone}
 
 -- an interface, and a world, of whoever first asks for it by that need
 abbrev pub IsInterfaceFor : NeedTree → Interface → Type 0
@@ -126,17 +129,17 @@ module _ (needs : List NeedTree) (items : Items) where
             omega (arith, one, l, new));
       }
 
-      taken : take (place + 1) items ≡ take so_far.reached items ++ (need_owner m, i) ∷ []
-      taken = take_next items place (need_owner m, i) there ∙ ap (λ (k : ℕ). take k items ++ (need_owner m, i) ∷ []) is_next
+      next_taken : take (place + 1) items ≡ take so_far.reached items ++ (need_owner m, i) ∷ []
+      next_taken = taken items place (need_owner m, i) there ∙ ap (λ (k : ℕ). take k items ++ (need_owner m, i) ∷ []) is_next
 
       interfaces_taken : interfaces_in (take (place + 1) items) ≡ length fs + interface_count i
       interfaces_taken =
-          let more = ap interfaces_in taken ∙ interfaces_more (take so_far.reached items) (need_owner m, i) in
+          let more = ap interfaces_in next_taken ∙ interfaces_more (take so_far.reached items) (need_owner m, i) in
           more ∙ ap (λ (k : ℕ). k + interface_count i) (sym so_far.so_many_interfaces)
 
       worlds_taken : worlds_in (take (place + 1) items) ≡ length ws + world_count i
       worlds_taken =
-          let more = ap worlds_in taken ∙ worlds_more (take so_far.reached items) (need_owner m, i) in
+          let more = ap worlds_in next_taken ∙ worlds_more (take so_far.reached items) (need_owner m, i) in
           more ∙ ap (λ (k : ℕ). k + world_count i) (sym so_far.so_many_worlds)
 
       before_new : StandBefore (n + 1) (place + 1)
@@ -262,10 +265,6 @@ module _ (needs : List NeedTree) (items : Items) where
     }
 
 -- ---- a loop over the needs
-
-module _ (ns : List Need) (k : ℕ) (n : Need) (within : k < length ns) where
-  pub next_at : slice_get (seen.needs ns) k ≡ Some (seen.need (get_or ns k n))
-  next_at = slice_get-map seen.need ns k ∙ ap (option_map seen.need) (slice_get-get_or ns k n within)
 
 pub past_all : (ns : List Need) (k : ℕ) → length ns ≤ k → length (seen.needs ns) ≤ k
 past_all ns k past = (let e = length-map ns seen.need in omega (arith, e, past))

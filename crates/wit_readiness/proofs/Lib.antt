@@ -8,5 +8,6 @@ pub mod Found
 pub mod Members
 pub mod Interfaces
 pub mod Sides
+pub mod Labelled
 pub mod Worlds
 pub mod Ready

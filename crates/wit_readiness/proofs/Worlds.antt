@@ -28,7 +28,7 @@ use Rattle.wit_package_types.specs.Stability.{AreGates}
 use Rattle.wit_foreign.specs.Needs.{NeedTree, path_needs, extern_needs, world_member_needs, item_needs, needs_in}
 use Rattle.wit_resolved_scopes.specs.Each.{AreApartBy}
 use Rattle.wit_resolved_scopes.specs.Scope.{all_names}
-use Rattle.wit_resolved_scopes.specs.Texts.{world_of, interface_of, interfaces_of, worlds_of, AreItemsSorted, InterfaceText, listed_text, extern_texts, member_texts, labelled_texts, listed_member, own_member, own_members, included_in}
+use Rattle.wit_resolved_scopes.specs.Texts.{world_of, interface_of, interfaces_of, worlds_of, AreItemsSorted, InterfaceText, listed_text, labelled_texts, listed_member, own_member, own_members, included_in}
 use Rattle.wit_resolved_scopes.specs.Fit.{Foreign, IsUsedAmong, AreFitAmong, IsInterfaceReady, IsInterfaceAmong, IsWorldAmong, IsWorldReady, AreWorldsReady}
 use Rattle.wit_readiness.specs.Readiness.{FindsForeign}
 use Rattle.wit_readiness.proofs.Flat.{AtMostOne, has_one, in_flat, flat_has, flat_apart, given_at}
@@ -39,6 +39,7 @@ use Rattle.wit_readiness.proofs.Named.{type_label, type_one, type_alone, world_n
 use Rattle.wit_readiness.proofs.Found.{IsItem, interface_there, world_there, found_in, kind_found}
 use Rattle.wit_readiness.proofs.Members.{functions_are_apart, use_leads, members_fit}
 use Rattle.wit_readiness.proofs.Interfaces.{scopes_apart, item_keeps, scope_resources}
+use Rattle.wit_readiness.proofs.Labelled.{labelled_given}
 use Rattle.wit_readiness.proofs.Sides.{keys_are_apart, world_type_given, types_have_no_key}
 
 -- ---- the members of a world's own
@@ -171,20 +172,7 @@ module _ (scopes : List ItemScope) (others : Foreign) (finds : FindsForeign scop
   }
 
   labelled_ready : (t : InterfaceText) → Has (labelled_texts w) t → IsInterfaceReady is others t
-  labelled_ready t h = by r.0 r.1 r.2
-    where
-      r : (x : WorldMemberTree) × Has w.members x × Has (member_texts w.name.text x) t
-      r = in_flat (member_texts w.name.text) w.members t h
-
-      listed : (l : ListedTree) → Has w.members (scope.listed l) → (k : ExternKind) → l.kind ≡ k → Has (extern_texts w.name.text l k) t → IsInterfaceReady is others t
-      listed l here (scope.ExternKind.function f) e given = absurd (has_none t given)
-      listed l here (scope.ExternKind.interface ns) e given = subst (IsInterfaceReady is others) (sym (has_one (listed_text w.name.text l ns) t given)) (listed_ready l ns here e)
-      listed l here (scope.item p) e given = absurd (has_none t given)
-
-      by : (x : WorldMemberTree) → Has w.members x → Has (member_texts w.name.text x) t → IsInterfaceReady is others t
-      by (scope.member m) here given = absurd (has_none t given)
-      by (scope.listed l) here given = listed l here l.kind refl given
-      by (scope.included i) here given = absurd (has_none t given)
+  labelled_ready t h = let g = labelled_given w t h in subst (IsInterfaceReady is others) (sym g.is) (listed_ready g.listed g.members g.there g.kind)
 
   -- ---- paths
 
@@ -232,7 +220,7 @@ world_one : (s : ItemScope) → AtMostOne (world_of s)
 world_one (scope.ItemScope.interface i) = inl refl
 world_one (scope.world w) = inr (w, refl)
 
-world_given : (s : ItemScope) (w : WorldScope) → Has (world_of s) w → s ≡ scope.world w
+pub world_given : (s : ItemScope) (w : WorldScope) → Has (world_of s) w → s ≡ scope.world w
 world_given (scope.ItemScope.interface i) w h = absurd (has_none w h)
 world_given (scope.world v) w h = ap (λ (z : WorldScope). scope.world z) (sym (has_one v w h))
 

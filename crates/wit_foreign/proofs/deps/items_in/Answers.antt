@@ -6,7 +6,8 @@ use Rattle.wit_foreign.specs.View as seen
 use Rattle.wit_foreign.specs.GroupView.{row, rows}
 use Rattle.wit_foreign.specs.Groups.{item_key}
 use Rattle.wit_foreign.specs.Deps.{ItemEntry, IsItemDep, AreEntries}
-use Rattle.wit_foreign.proofs.Depending.{next_at, next_read, earlier_entry, row_at}
+use Rattle.wit_foreign.proofs.Gathering.{next_at}
+use Rattle.wit_foreign.proofs.Depending.{next_read, earlier_entry, row_at}
 use Rattle.wit_foreign.proofs.deps.items_in.Goals as goal
 
 pub add_item-requires-clause-new : goal.add_item-requires-clause-new

@@ -6,7 +6,8 @@ use Rattle.wit_foreign.specs.View as seen
 use Rattle.wit_foreign.specs.GroupView.{row, rows}
 use Rattle.wit_foreign.specs.Groups.{package_key}
 use Rattle.wit_foreign.specs.Deps.{PackageEntry, package_entries, IsPackageDep, AreEntries}
-use Rattle.wit_foreign.proofs.Depending.{next_at, next_read, earlier_entry, row_at}
+use Rattle.wit_foreign.proofs.Gathering.{next_at}
+use Rattle.wit_foreign.proofs.Depending.{next_read, earlier_entry, row_at}
 use Rattle.wit_foreign.proofs.deps.packages_in.Goals as goal
 
 pub add_package-requires-clause-new : goal.add_package-requires-clause-new

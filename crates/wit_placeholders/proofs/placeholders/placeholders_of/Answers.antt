@@ -1,5 +1,6 @@
 use Rattle.wit_foreign.specs.View as seen
-use Rattle.wit_placeholders.proofs.Asking.{step, whole, next_at, past_all}
+use Rattle.wit_foreign.proofs.Gathering.{next_at}
+use Rattle.wit_placeholders.proofs.Asking.{step, whole, past_all}
 use Rattle.wit_placeholders.proofs.placeholders.placeholders_of.Goals as goal
 
 pub item_of-item-requires : goal.item_of-item-requires

@@ -1,7 +1,6 @@
 -- The numbers of what is asked of other packages: interfaces are counted by themselves, and so are worlds.
-use Rattle.std.proofs.Common.{◌≡◌, ℕ, ◌+◌, ◌<◌, ◌≤◌, zero, suc, List, [], ◌∷◌, ◌++◌, inl, inr, length, Some, take, refl, sym, ap, ◌∙◌, arith}
-use Rattle.std.proofs.lemmas.Option.{same_Some, slice_get_within, get_or_from_slice_get}
-use Rattle.std.proofs.lemmas.List.{take_more}
+use Rattle.std.proofs.Common.{◌≡◌, ℕ, ◌+◌, ◌<◌, ◌≤◌, zero, suc, List, [], ◌∷◌, inl, inr, Some, take, sym, ap, ◌∙◌, arith}
+use Rattle.std.proofs.lemmas.Option.{same_Some}
 use Rattle.std.proofs.lemmas.Bool.{cases_lt}
 use Rattle.std.specs.Prelude.{slice_get}
 use Rattle.wit_types.specs.declared.«package».AstItem.{AstItem}
@@ -11,33 +10,11 @@ use Rattle.wit_arena.specs.Meaning.{Has}
 use Rattle.wit_foreign.specs.Needs.{NeedTree}
 use Rattle.wit_foreign.specs.Items.{Items, interface_count, world_count, interfaces_in, worlds_in, IsNumbered, AreItemsOf}
 
--- ---- lists
-
-pub length_more : {X : Type 0} (xs : List X) (x : X) → length (xs ++ x ∷ []) ≡ length xs + 1
-length_more [] x = omega arith
-length_more (y ∷ xs) x = (let h = length_more xs x in omega (arith, h))
-
-pub take_whole : {X : Type 0} (xs : List X) → take (length xs) xs ≡ xs
-take_whole [] = refl
-take_whole {X} (x ∷ xs) = ap (λ (zs : List X). x ∷ zs) (take_whole xs)
-
-pub take_next : {X : Type 0} (xs : List X) (k : ℕ) (x : X) → slice_get xs k ≡ Some x → take (k + 1) xs ≡ take k xs ++ x ∷ []
-take_next {X} xs k x at = take_more xs k x (slice_get_within xs k x at) ∙ ap (λ (y : X). take k xs ++ y ∷ []) (get_or_from_slice_get xs k x x at)
-
-pub got_at : {X : Type 0} (xs : List X) (k : ℕ) → k < length xs → (x : X) × (slice_get xs k ≡ Some x)
-got_at [] k l = absurd (omega arith)
-got_at (x ∷ xs) zero l = (x, refl)
-got_at (x ∷ xs) (suc k) l = got_at xs k (omega arith)
-
--- ---- counts
-
-pub interfaces_more : (es : Items) (e : Owner × AstItem) → interfaces_in (es ++ e ∷ []) ≡ interfaces_in es + interface_count e.1
-interfaces_more [] e = omega arith
-interfaces_more (d ∷ es) e = (let h = interfaces_more es e in omega (arith, h))
-
-pub worlds_more : (es : Items) (e : Owner × AstItem) → worlds_in (es ++ e ∷ []) ≡ worlds_in es + world_count e.1
-worlds_more [] e = omega arith
-worlds_more (d ∷ es) e = (let h = worlds_more es e in omega (arith, h))
+-- how many stand in front of a place, and there
+pub interfaces_before : (es : Items) (p : ℕ) (e : Owner × AstItem) → slice_get es p ≡ Some e → interfaces_in (take p es) + interface_count e.1 ≤ interfaces_in es
+interfaces_before [] p e at = absurd cc
+interfaces_before (f ∷ es) zero e at = let same : interface_count f.1 ≡ interface_count e.1 = ap (λ (z : Owner × AstItem). interface_count z.1) (same_Some f e at) in omega (arith, same)
+interfaces_before (f ∷ es) (suc p) e at = let less : interfaces_in (take p es) + interface_count e.1 ≤ interfaces_in es = interfaces_before es p e at in omega (arith, less)
 
 -- more stand in front of a later place
 pub interfaces_between : (es : Items) (p q : ℕ) (e : Owner × AstItem) → p < q → slice_get es p ≡ Some e → interfaces_in (take p es) + interface_count e.1 ≤ interfaces_in (take q es)
@@ -80,6 +57,12 @@ module _ (needs : List NeedTree) (items : Items) (are : AreItemsOf needs items) 
 
   pub world_number : (p : ℕ) (w : Owner) (k : ℕ) → slice_get items p ≡ Some (w, ids.World k) → k ≡ worlds_in (take p items)
   world_number p w k at = numbered_world (interfaces_in (take p items)) (worlds_in (take p items)) w.place k (are.numbered p w (ids.World k) at)
+
+  pub interface_below : (w : Owner) (k : ℕ) → Has items (w, ids.Interface k) → k < interfaces_in items
+  interface_below w k (p, at) =
+      let is : k ≡ interfaces_in (take p items) = interface_number p w k at in
+      let less : interfaces_in (take p items) + 1 ≤ interfaces_in items = interfaces_before items p (w, ids.Interface k) at in
+      omega (arith, less, is)
 
   one_owner : (p q : ℕ) (v w : Owner) (h i : AstItem) → slice_get items p ≡ Some (v, h) → slice_get items q ≡ Some (w, i) → p ≡ q → v ≡ w
   one_owner p q v w h i at_p at_q same = ap (λ (e : Owner × AstItem). e.0) (same_Some (v, h) (w, i) (sym at_p ∙ ap (slice_get items) same ∙ at_q))
