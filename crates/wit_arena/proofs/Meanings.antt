@@ -15,7 +15,7 @@ use Rattle.wit_productions.specs.TypeTree.{TypeTree, TypeShape, TypeOption, stan
 use Rattle.wit_items.specs.ItemTree as item
 use Rattle.wit_items.specs.ItemTree.{FieldTree, CaseTree, LabelTree, TypeDefKindTree}
 use Rattle.wit_syntax.specs.Ast.{PackageNameTree}
-use Rattle.wit_scopes.specs.TypeNames.{field_parts, case_parts}
+use Rattle.wit_type_names.specs.TypeNames.{field_parts, case_parts}
 use Rattle.wit_scopes.specs.Paths.{own, foreign}
 use Rattle.wit_scopes.specs.Members.{used, defined}
 use Rattle.wit_scopes.specs.Scopes.{ItemScope}

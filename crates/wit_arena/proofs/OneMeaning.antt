@@ -6,7 +6,7 @@ use Rattle.wit_words.specs.Slice.{Slice}
 use Rattle.wit_productions.specs.TypeTree as written
 use Rattle.wit_productions.specs.TypeTree.{TypeTree, TypeShape, TypeOption, standing}
 use Rattle.wit_items.specs.ItemTree as item
-use Rattle.wit_scopes.specs.TypeNames.{field_parts, case_parts}
+use Rattle.wit_type_names.specs.TypeNames.{field_parts, case_parts}
 use Rattle.wit_scopes.specs.Paths.{own, foreign}
 use Rattle.wit_scopes.specs.Members.{MemberKind, used, defined, function, method, static, constructor}
 use Rattle.wit_scopes.specs.Scopes.{ItemScope}

@@ -7,8 +7,8 @@ use Rattle.wit_productions.specs.declared.types.«Type».{«Type» as Written}
 use Rattle.wit_productions.specs.TypeTree.{TypeOption, row, no_type}
 use Rattle.wit_productions.specs.TypeView.{type_tree}
 use Rattle.wit_words.specs.Slice.{Slice}
-use Rattle.wit_scopes.specs.TypeNames.{names_in_part, names_in_parts, names_in_row}
-use Rattle.wit_scopes.specs.TypeView.{type_part}
+use Rattle.wit_type_names.specs.TypeNames.{names_in_part, names_in_parts, names_in_row}
+use Rattle.wit_type_names.specs.TypeView.{type_part}
 use Rattle.wit_arena.specs.Meaning.{Has, parts}
 use Rattle.wit_arena.specs.Table.{Entries}
 use Rattle.wit_arena.specs.Lower.{AreThere, LowersPart, LowersParts, lowers_nothing, lowers_none, lowers_more}

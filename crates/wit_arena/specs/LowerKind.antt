@@ -16,7 +16,7 @@ use Rattle.wit_types.specs.declared.interface.TypeDef.{TypeDef}
 use Rattle.wit_productions.specs.TypeTree.{TypeTree}
 use Rattle.wit_items.specs.ItemTree as item
 use Rattle.wit_items.specs.ItemTree.{FieldTree, LabelTree, CaseTree, TypeDefKindTree, GatedTree, ResourceFuncTree}
-use Rattle.wit_scopes.specs.TypeNames.{field_parts, case_parts}
+use Rattle.wit_type_names.specs.TypeNames.{field_parts, case_parts}
 use Rattle.wit_arena.specs.Docs.{said, contents_of}
 use Rattle.wit_arena.specs.Table.{Entries}
 use Rattle.wit_arena.specs.Lower.{Lowers, LowersParts}

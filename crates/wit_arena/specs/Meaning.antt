@@ -8,7 +8,7 @@ use Rattle.wit_items.specs.ItemTree as item
 use Rattle.wit_items.specs.ItemTree.{FieldTree, LabelTree, CaseTree, TypeDefKindTree, GatedTree, ResourceFuncTree}
 use Rattle.wit_syntax.specs.Ast.{PackageNameTree}
 use Rattle.wit_scopes.specs.Paths.{own, foreign}
-use Rattle.wit_scopes.specs.TypeNames.{field_parts, case_parts}
+use Rattle.wit_type_names.specs.TypeNames.{field_parts, case_parts}
 use Rattle.wit_scopes.specs.Members.{MemberKind, MemberTree, used, defined}
 use Rattle.wit_scopes.specs.Scopes as scope
 use Rattle.wit_scopes.specs.Scopes.{ItemScope, InterfaceScope, WorldScope, ListedTree, WorldMemberTree}

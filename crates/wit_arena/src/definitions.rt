@@ -6,8 +6,8 @@ ghost use Rattle.wit_productions.specs.TypeTree.{TypeOption, no_type, opt};
 ghost use Rattle.wit_syntax.specs.AstView as view;
 ghost use Rattle.wit_syntax.specs.TypeView.{type_tree};
 ghost use Rattle.wit_items.specs.ItemTree as item;
-ghost use Rattle.wit_scopes.specs.TypeNames.{names_in_part, names_in_parts, definition_parts, field_parts, case_parts};
-ghost use Rattle.wit_scopes.specs.TypeView.{type_part};
+ghost use Rattle.wit_type_names.specs.TypeNames.{names_in_part, names_in_parts, definition_parts, field_parts, case_parts};
+ghost use Rattle.wit_type_names.specs.TypeView.{type_part};
 ghost use Rattle.wit_arena.specs.Lower.{AreThere, LowersPart, LowersParts};
 ghost use Rattle.wit_arena.specs.LowerKind.{Label, written_field, written_label, written_case, field_label, flag_label, enum_case_label, case_label, LowersKind};
 

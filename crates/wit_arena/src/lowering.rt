@@ -6,8 +6,8 @@ ghost use Rattle.wit_productions.specs.TypeTree.{row};
 ghost use Rattle.wit_productions.specs.TypeView.{type_tree, type_shape};
 ghost use Rattle.wit_arena.specs.Meaning.{Has};
 ghost use Rattle.wit_arena.specs.Shape.{shape_of};
-ghost use Rattle.wit_scopes.specs.TypeNames.{names_in, names_in_shape, names_in_part, names_in_row};
-ghost use Rattle.wit_scopes.specs.TypeView.{part_tree, type_part};
+ghost use Rattle.wit_type_names.specs.TypeNames.{names_in, names_in_shape, names_in_part, names_in_row};
+ghost use Rattle.wit_type_names.specs.TypeView.{part_tree, type_part};
 ghost use Rattle.wit_arena.specs.Lower.{primitive_ref, IsComposed, IsResult, err_part, AreThere, Lowers, LowersShape, LowersPart, LowersParts};
 
 use crate::shape::Shape;

@@ -20,13 +20,13 @@ use Rattle.wit_foreign.specs.Deps.{HaveGates, AreStabilities, one_stability_more
 use Rattle.wit_foreign.proofs.Gathering.{length_more, next_need, next_at}
 use Rattle.wit_foreign.proofs.Standing.{got_at, length_taken}
 
-module _ (ns : List Need) (k : ℕ) (n : Need) (within : k < length ns) where
-  pub next_gates : HaveGates (seen.needs ns) → AreGates (seen.need (get_or ns k n)).attributes
-  next_gates gates = gates (seen.need (get_or ns k n)) (k, next_at ns k n within)
+module _ (ns : List Need) (k : ℕ) (n : Need) (within : k < length ns) (this : n ≡ get_or ns k n) where
+  pub next_gates : HaveGates (seen.needs ns) → AreGates (seen.need n).attributes
+  next_gates gates = gates (seen.need n) (k, next_at ns k n within this)
 
-  pub next_stabilities : (ss : List Stability) (s : Stability) → AreStabilities (seen.needs (take k ns)) ss → IsStabilityOf (seen.need (get_or ns k n)).attributes s → AreStabilities (seen.needs (take (k + 1) ns)) (ss ++ s ∷ [])
+  pub next_stabilities : (ss : List Stability) (s : Stability) → AreStabilities (seen.needs (take k ns)) ss → IsStabilityOf (seen.need n).attributes s → AreStabilities (seen.needs (take (k + 1) ns)) (ss ++ s ∷ [])
   next_stabilities ss s so_far is =
-      subst (λ (xs : List NeedTree). AreStabilities xs (ss ++ s ∷ [])) (sym (next_need ns k n within)) (one_stability_more (seen.needs (take k ns)) ss (seen.need (get_or ns k n)) s so_far is)
+      subst (λ (xs : List NeedTree). AreStabilities xs (ss ++ s ∷ [])) (sym (next_need ns k n within this)) (one_stability_more (seen.needs (take k ns)) ss (seen.need n) s so_far is)
 
 either_bool : (b : Bool) → (b ≡ true) ⊎ (b ≡ false)
 either_bool true = inl refl
@@ -59,21 +59,21 @@ module _ {E : Type 0} (IsEntry : NeedTree → List NeedTree → E → Type 0) wh
     ];
   }
 
-  module _ (ns : List Need) (k : ℕ) (n : Need) (within : k < length ns) (rs : List (List NeedTree)) (es : List E) (so_far : AreEntries IsEntry (seen.needs (take k ns)) rs es) where
+  module _ (ns : List Need) (k : ℕ) (n : Need) (within : k < length ns) (this : n ≡ get_or ns k n) (rs : List (List NeedTree)) (es : List E) (so_far : AreEntries IsEntry (seen.needs (take k ns)) rs es) where
     so_many_taken : length (seen.needs (take k ns)) ≡ k
     so_many_taken = length-map (take k ns) seen.need ∙ length_taken ns k (omega (arith, within))
 
-    next_entries : (r : List NeedTree) (e : E) → slice_get rs k ≡ Some r → IsEntry (seen.need (get_or ns k n)) r e → AreEntries IsEntry (seen.needs (take (k + 1) ns)) rs (es ++ e ∷ [])
+    next_entries : (r : List NeedTree) (e : E) → slice_get rs k ≡ Some r → IsEntry (seen.need n) r e → AreEntries IsEntry (seen.needs (take (k + 1) ns)) rs (es ++ e ∷ [])
     next_entries r e at_r is =
-        subst (λ (fs : List NeedTree). AreEntries IsEntry fs rs (es ++ e ∷ [])) (sym (next_need ns k n within))
-        (entries_more (seen.needs (take k ns)) rs es (seen.need (get_or ns k n)) r e so_far (subst (λ (z : ℕ). slice_get rs z ≡ Some r) (sym so_many_taken) at_r) is)
+        subst (λ (fs : List NeedTree). AreEntries IsEntry fs rs (es ++ e ∷ [])) (sym (next_need ns k n within this))
+        (entries_more (seen.needs (take k ns)) rs es (seen.need n) r e so_far (subst (λ (z : ℕ). slice_get rs z ≡ Some r) (sym so_many_taken) at_r) is)
 
     -- of a row that code reads
-    pub next_read : (r : Vec Need Global) (now : List Need) (e : E) → now ≡ r.items → slice_get rs k ≡ Some (row r) → IsEntry (seen.need (get_or ns k n)) (seen.needs now) e → AreEntries IsEntry (seen.needs (take (k + 1) ns)) rs (es ++ e ∷ [])
-    next_read r now e same at_r is = next_entries (row r) e at_r (subst (λ (xs : List Need). IsEntry (seen.need (get_or ns k n)) (seen.needs xs) e) same is)
+    pub next_read : (r : Vec Need Global) (now : List Need) (e : E) → now ≡ r.items → slice_get rs k ≡ Some (row r) → IsEntry (seen.need n) (seen.needs now) e → AreEntries IsEntry (seen.needs (take (k + 1) ns)) rs (es ++ e ∷ [])
+    next_read r now e same at_r is = next_entries (row r) e at_r (subst (λ (xs : List Need). IsEntry (seen.need n) (seen.needs xs) e) same is)
 
     -- each earlier entry is of another key
-    pub earlier_entry : {K : Type 0} (key : NeedTree → K) → AreApart key (seen.needs ns) → length rs ≡ length ns → (e : E) → Has es e → (f : NeedTree) × (r : List NeedTree) × IsEntry f r e × (key f ≡ key (seen.need (get_or ns k n)) → ⊥)
+    pub earlier_entry : {K : Type 0} (key : NeedTree → K) → AreApart key (seen.needs ns) → length rs ≡ length ns → (e : E) → Has es e → (f : NeedTree) × (r : List NeedTree) × IsEntry f r e × (key f ≡ key (seen.need n) → ⊥)
     earlier_entry key apart same e has =
         let l = slice_get_within es has.0 e has.1 in
         let so_many = so_far.so_many in
@@ -85,7 +85,7 @@ module _ {E : Type 0} (IsEntry : NeedTree → List NeedTree → E → Type 0) wh
           f.0,
           r.0,
           subst (λ (z : E). IsEntry f.0 r.0 z) (same_Some d.0 e (sym d.1 ∙ has.1)) d.2,
-          λ one. (let j : has.0 ≡ k = apart has.0 k f.0 (seen.need (get_or ns k n)) before.1 (next_at ns k n within) one in let less : has.0 < k = before.0 in absurd (omega (arith, less))),
+          λ one. (let j : has.0 ≡ k = apart has.0 k f.0 (seen.need n) before.1 (next_at ns k n within this) one in let less : has.0 < k = before.0 in absurd (omega (arith, less))),
         )
 
 -- ---- rows

@@ -189,15 +189,15 @@ taken_within old n new k (goes_last i absent next) l = (let e = length_more old 
 
 -- ---- a loop over the needs
 
-module _ (ns : List Need) (k : ℕ) (n : Need) (within : k < length ns) where
-  pub next_need : seen.needs (take (k + 1) ns) ≡ seen.needs (take k ns) ++ seen.need (get_or ns k n) ∷ []
-  next_need = map_more seen.need ns k n within
+module _ (ns : List Need) (k : ℕ) (n : Need) (within : k < length ns) (this : n ≡ get_or ns k n) where
+  pub next_need : seen.needs (take (k + 1) ns) ≡ seen.needs (take k ns) ++ seen.need n ∷ []
+  next_need = map_more seen.need ns k n within ∙ ap (λ (m : Need). seen.needs (take k ns) ++ seen.need m ∷ []) (sym this)
 
-  pub next_at : slice_get (seen.needs ns) k ≡ Some (seen.need (get_or ns k n))
-  next_at = slice_get-map seen.need ns k ∙ ap (option_map seen.need) (slice_get-get_or ns k n within)
+  pub next_at : slice_get (seen.needs ns) k ≡ Some (seen.need n)
+  next_at = slice_get-map seen.need ns k ∙ ap (option_map seen.need) (slice_get-get_or ns k n within ∙ ap (λ (m : Need). Some m) (sym this))
 
-  pub takes_next : (old new : Items) → AreItemsOf (seen.needs (take k ns)) old × (length old ≤ k) → TakesNeed old (seen.need (get_or ns k n)) new → AreItemsOf (seen.needs (take (k + 1) ns)) new × (length new ≤ k + 1)
+  pub takes_next : (old new : Items) → AreItemsOf (seen.needs (take k ns)) old × (length old ≤ k) → TakesNeed old (seen.need n) new → AreItemsOf (seen.needs (take (k + 1) ns)) new × (length new ≤ k + 1)
   takes_next old new so_far h = (
-    subst (λ (xs : List NeedTree). AreItemsOf xs new) (sym next_need) (takes (seen.needs (take k ns)) old so_far.0 (seen.need (get_or ns k n)) new h),
-    taken_within old (seen.need (get_or ns k n)) new k h so_far.1,
+    subst (λ (xs : List NeedTree). AreItemsOf xs new) (sym next_need) (takes (seen.needs (take k ns)) old so_far.0 (seen.need n) new h),
+    taken_within old (seen.need n) new k h so_far.1,
   )

@@ -120,11 +120,11 @@ module _ {K : Type 0} (key : NeedTree → K) where
   pub rows_of : (ns : List NeedTree) (fs : List Need) (rs : List (Vec Need Global)) → AreGroups key ns (seen.needs fs) (rows rs) → length rs ≡ length fs
   rows_of ns fs rs g = sym (length-map rs row) ∙ so_many_rows ns (seen.needs fs) (rows rs) g ∙ length-map fs seen.need
 
-  module _ (ns : List Need) (k : ℕ) (n : Need) (within : k < length ns) where
-    pub next_group : (fs : List NeedTree) (rs : List (List NeedTree)) (gs : List NeedTree) (ss : List (List NeedTree)) → AreGroups key (seen.needs (take k ns)) fs rs → AddsNeed key (seen.need (get_or ns k n)) fs rs gs ss
+  module _ (ns : List Need) (k : ℕ) (n : Need) (within : k < length ns) (this : n ≡ get_or ns k n) where
+    pub next_group : (fs : List NeedTree) (rs : List (List NeedTree)) (gs : List NeedTree) (ss : List (List NeedTree)) → AreGroups key (seen.needs (take k ns)) fs rs → AddsNeed key (seen.need n) fs rs gs ss
         → AreGroups key (seen.needs (take (k + 1) ns)) gs ss
     next_group fs rs gs ss so_far add =
-        subst (λ (xs : List NeedTree). AreGroups key xs gs ss) (sym (next_need ns k n within)) (one_need_more (seen.needs (take k ns)) fs rs (seen.need (get_or ns k n)) gs ss so_far add)
+        subst (λ (xs : List NeedTree). AreGroups key xs gs ss) (sym (next_need ns k n within this)) (one_need_more (seen.needs (take k ns)) fs rs (seen.need n) gs ss so_far add)
 
 -- ---- what parts hold
 

@@ -212,11 +212,11 @@ module _ (items : Items) (needs : List NeedTree) (n : NeedTree) (a : List TypeDe
 
 -- ---- a loop over the needs
 
-module _ (items : Items) (ns : List Need) (k : ℕ) (n : Need) (within : k < length ns) where
-  pub next_interface : AreItemsOf (seen.needs ns) items → AreUses (seen.needs ns) → (y : Slice) → (seen.need (get_or ns k n)).name ≡ Some y → HasInterface items (owner_in (seen.need (get_or ns k n)).«package» (seen.need (get_or ns k n)).item)
-  next_interface are uses y named = has_interface (seen.needs ns) items are uses (seen.need (get_or ns k n)) (k, next_at ns k n within) y named
+module _ (items : Items) (ns : List Need) (k : ℕ) (n : Need) (within : k < length ns) (this : n ≡ get_or ns k n) where
+  pub next_interface : AreItemsOf (seen.needs ns) items → AreUses (seen.needs ns) → (y : Slice) → (seen.need n).name ≡ Some y → HasInterface items (owner_in (seen.need n).«package» (seen.need n).item)
+  next_interface are uses y named = has_interface (seen.needs ns) items are uses (seen.need n) (k, next_at ns k n within this) y named
 
   pub adds_next : (a : List TypeDef) (es : List (ForeignName × ℕ)) (ss : List Span) (b : List TypeDef) (fs : List (ForeignName × ℕ)) (ts : List Span) → AreUnknown items (seen.needs (take k ns)) a es ss
-      → AddsUsed items (seen.need (get_or ns k n)) a es ss b fs ts → AreUnknown items (seen.needs (take (k + 1) ns)) b fs ts
+      → AddsUsed items (seen.need n) a es ss b fs ts → AreUnknown items (seen.needs (take (k + 1) ns)) b fs ts
   adds_next a es ss b fs ts so_far h =
-      subst (λ (xs : List NeedTree). AreUnknown items xs b fs ts) (sym (next_need ns k n within)) (adds items (seen.needs (take k ns)) (seen.need (get_or ns k n)) a es ss so_far b fs ts h)
+      subst (λ (xs : List NeedTree). AreUnknown items xs b fs ts) (sym (next_need ns k n within this)) (adds items (seen.needs (take k ns)) (seen.need n) a es ss so_far b fs ts h)

@@ -18,7 +18,7 @@ use crate::items::ForeignItems;
 use crate::needs::Need;
 use indexmap::IndexMap;
 use std::alloc::{AllocError, Global};
-use wit_package_types::{optional_version, stability_of};
+use wit_package_types::{optional_version, stability_in};
 use wit_rules::name_span;
 use wit_syntax::Span;
 use wit_types::{AstItem, PackageName, Stability};
@@ -39,7 +39,7 @@ fn stabilities_of(alloc: Global, needs: &[Need<'_>]) -> Result<Vec<Stability>, A
 {
     let mut found = Vec::new(alloc);
     for need in needs {
-        let stability = stability_of(alloc, need.attributes)?;
+        let stability = stability_in(alloc, &need.front)?;
         found.push(stability)?;
     }
     Ok(found)

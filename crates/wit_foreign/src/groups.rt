@@ -85,7 +85,8 @@ fn begin<'a>(
     ensures rows { OnOk result (parts.rows rows.new.items ≡ parts.rows rows.old.items ++ (seen.need need.entry ∷ []) ∷ []) }
 {
     let mut row = Vec::new(alloc);
-    row.push(need)?;
+    let copy = need.clone()?;
+    row.push(copy)?;
     firsts.push(need)?;
     rows.push(row)?;
     Ok(())
@@ -121,7 +122,8 @@ pub fn by_item<'a>(alloc: Global, needs: &[Need<'a>]) -> Result<Groups<'a>, Allo
     let mut firsts = Vec::new(alloc);
     let mut rows = Vec::new(alloc);
     for need in needs {
-        add_by_item(alloc, &mut names, &mut firsts, &mut rows, *need)?;
+        let copy = need.clone()?;
+        add_by_item(alloc, &mut names, &mut firsts, &mut rows, copy)?;
     }
     Ok(Groups { firsts, rows })
 }
@@ -157,7 +159,8 @@ pub fn by_package<'a>(alloc: Global, needs: &[Need<'a>]) -> Result<Groups<'a>, A
     let mut firsts = Vec::new(alloc);
     let mut rows = Vec::new(alloc);
     for need in needs {
-        add_by_package(alloc, &mut packages, &mut firsts, &mut rows, *need)?;
+        let copy = need.clone()?;
+        add_by_package(alloc, &mut packages, &mut firsts, &mut rows, copy)?;
     }
     Ok(Groups { firsts, rows })
 }

@@ -7,12 +7,13 @@ ghost use Rattle.wit_foreign.specs.Needs as spec;
 ghost use Rattle.wit_foreign.specs.View as seen;
 
 use std::alloc::{AllocError, Global};
+use std::rc::Rc;
 use wit_lookups::Asked;
-use wit_scopes::{ExternKind, ItemScope, Listed, Member, MemberKind, Target, WorldMember};
-use wit_syntax::{Attribute, Id, PackageName};
+use wit_scopes::{ExternKind, Front, ItemScope, Listed, Member, MemberKind, Target, WorldMember};
+use wit_syntax::{Id, PackageName};
 
 /// An interface or a world of another package that is asked for.
-#[derive(Clone, Copy)]
+#[derive(Drop)]
 pub struct Need<'a> {
     /// The package.
     pub package: PackageName<'a>,
@@ -22,8 +23,25 @@ pub struct Need<'a> {
     pub asked: Asked,
     /// The type that is used from it, by its name there.
     pub name: Option<Id<'a>>,
-    /// The attributes of the `use`, `import`, `export` or `include`.
-    pub attributes: &'a [Attribute<'a>],
+    /// What stands in front of the `use`, `import`, `export` or `include`.
+    pub front: Rc<Front<'a>>,
+}
+
+impl<'a> Clone for Need<'a> {
+    ghost use Rattle.wit_foreign.specs.View.{need};
+
+    ghost is_clone = { λ of copy. need copy ≡ need of };
+
+    fn clone(&self) -> Result<Need<'a>, AllocError> {
+        let front = self.front.clone()?;
+        Ok(Need {
+            package: self.package,
+            item: self.item,
+            asked: self.asked,
+            name: self.name,
+            front,
+        })
+    }
 }
 
 /// Adds what a path asks for of another package.
@@ -32,21 +50,22 @@ fn add_path<'a>(
     asked: Asked,
     path: &Target<'a>,
     name: Option<Id<'a>>,
-    attributes: &'a [Attribute<'a>],
+    front: &Rc<Front<'a>>,
 ) -> Result<(), AllocError>
-    ensures { OnOk result (seen.needs found.new.items ≡ seen.needs found.old.items ++ spec.path_needs asked (option_map view.id name.entry) (map view.attribute attributes.entry.now) (scope_view.target path.now)) }
+    ensures { OnOk result (seen.needs found.new.items ≡ seen.needs found.old.items ++ spec.path_needs asked (option_map view.id name.entry) (map view.attribute front.now.value.attributes.items) (scope_view.target path.now)) }
 {
     if let Target::Foreign {
         package,
         name: item,
     } = path
     {
+        let front = front.clone()?;
         found.push(Need {
             package: *package,
             item: *item,
             asked,
             name,
-            attributes,
+            front,
         })?;
     }
     Ok(())
@@ -62,7 +81,7 @@ fn add_member<'a>(found: &mut Vec<Need<'a>>, member: &Member<'a>) -> Result<(), 
             Asked::Interface,
             from,
             Some(*name),
-            member.attributes,
+            &member.front,
         ),
         _ => Ok(()),
     }
@@ -80,12 +99,12 @@ fn add_members<'a>(found: &mut Vec<Need<'a>>, members: &[Member<'a>]) -> Result<
 
 /// Adds what an import or export asks for of other packages.
 fn add_listed<'a>(found: &mut Vec<Need<'a>>, listed: &Listed<'a>) -> Result<(), AllocError>
-    ensures { OnOk result (seen.needs found.new.items ≡ seen.needs found.old.items ++ spec.extern_needs (map view.attribute listed.now.attributes.now) (scope_view.extern_kind listed.now.kind)) }
+    ensures { OnOk result (seen.needs found.new.items ≡ seen.needs found.old.items ++ spec.extern_needs (map view.attribute listed.now.front.value.attributes.items) (scope_view.extern_kind listed.now.kind)) }
 {
     match &listed.kind {
         ExternKind::Function(_) => Ok(()),
         ExternKind::Interface(members) => add_members(found, members.as_slice()),
-        ExternKind::Item(path) => add_path(found, Asked::Interface, path, None, listed.attributes),
+        ExternKind::Item(path) => add_path(found, Asked::Interface, path, None, &listed.front),
     }
 }
 
@@ -104,7 +123,7 @@ fn add_world_member<'a>(
             Asked::World,
             &included.world,
             None,
-            included.attributes,
+            &included.front,
         ),
     }
 }

@@ -8,7 +8,7 @@ use Rattle.wit_types.specs.declared.interface.TypeDef.{TypeDef}
 use Rattle.wit_productions.specs.TypeTree as written
 use Rattle.wit_productions.specs.TypeTree.{TypeTree, TypeOption, standing, opt, a_type}
 use Rattle.wit_items.specs.ItemTree.{ParamTree}
-use Rattle.wit_scopes.specs.TypeNames.{names_in_part, names_in_parts, param_parts, signature_parts}
+use Rattle.wit_type_names.specs.TypeNames.{names_in_part, names_in_parts, param_parts, signature_parts}
 use Rattle.wit_scopes.proofs.Lists.{flat_map-push}
 use Rattle.wit_arena.specs.Table.{Entries}
 use Rattle.wit_arena.specs.Lower.{AreThere, Lowers, LowersPart, lowers_a_type, LowersParts, lowers_none, lowers_more}

@@ -9,7 +9,7 @@ use Rattle.wit_productions.specs.TypeTree as written
 use Rattle.wit_productions.specs.TypeTree.{TypeTree, standing}
 use Rattle.wit_items.specs.ItemTree.{ParamTree}
 use Rattle.wit_scopes.specs.Members.{MemberKind, MemberTree, used, defined, function, method, static, constructor}
-use Rattle.wit_scopes.specs.TypeNames.{signature_parts, names_in_member}
+use Rattle.wit_type_names.specs.TypeNames.{signature_parts, names_in_member}
 use Rattle.wit_arena.specs.Table.{Entries}
 use Rattle.wit_arena.specs.Meaning.{Has}
 use Rattle.wit_arena.specs.Lower.{LowersParts}

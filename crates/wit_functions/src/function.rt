@@ -12,8 +12,8 @@ ghost use Rattle.wit_functions.specs.Signature.{IsFunction, function_names, IsKi
 
 use crate::signature::{Signature, lower_signature};
 use std::alloc::{AllocError, Global};
-use wit_arena::{Table, Types};
-use wit_package_types::{docs_behind, stability_of};
+use wit_arena::{Table, Types, docs_of};
+use wit_package_types::stability_in;
 use wit_scopes::{Member, MemberKind};
 use wit_syntax::Id;
 use wit_types::{Function, FunctionKind, TypeId};
@@ -23,7 +23,7 @@ fn function_name(alloc: Global, member: &Member<'_>) -> Result<String, AllocErro
     ensures { IfOk result (λ s. string_bytes s ≡ full_name (scope_view.member_kind member.now.kind) (view.id member.now.name)) }
 {
     let name = member.name.name;
-    match member.kind {
+    match &member.kind {
         MemberKind::Method { resource, .. } => {
             let resource = resource.name;
             format!(in alloc; "[method]{resource}.{name}")
@@ -102,8 +102,8 @@ pub fn lower_function(
 {
     let alloc = types.allocator();
     let name = function_name(alloc, member)?;
-    let docs = docs_behind(alloc, &member.docs)?;
-    let stability = stability_of(alloc, member.attributes)?;
+    let docs = docs_of(alloc, &member.front.docs)?;
+    let stability = stability_in(alloc, &member.front)?;
     let signature = lower_signature(types, table, member)?;
     let Signature { params, result } = signature;
     Ok(Function {

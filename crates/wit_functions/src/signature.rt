@@ -5,7 +5,7 @@ ghost use Rattle.wit_productions.specs.NameView.{id};
 ghost use Rattle.wit_syntax.specs.AstView as view;
 ghost use Rattle.wit_syntax.specs.TypeView.{type_tree};
 ghost use Rattle.wit_scopes.specs.View as scope_view;
-ghost use Rattle.wit_scopes.specs.TypeNames.{names_in_parts, signature_parts};
+ghost use Rattle.wit_type_names.specs.TypeNames.{names_in_parts, signature_parts};
 ghost use Rattle.wit_arena.specs.Lower.{AreThere};
 ghost use Rattle.wit_functions.specs.Signature as spec;
 
@@ -110,17 +110,20 @@ pub fn lower_signature(
     requires names { AreThere table.now (spec.function_names (scope_view.member_kind member.now.kind)) }
     ensures { IfOk result (spec.LowersSignature table.now types.old (spec.all_params (scope_view.member member.now)) (spec.all_result (scope_view.member member.now)) types.new) }
 {
-    match member.kind {
+    match &member.kind {
         MemberKind::Function(func) => lower_func(types, table, func),
         MemberKind::Static { func, .. } => lower_func(types, table, func),
         MemberKind::Method { resource, func } => {
-            lower_method(types, table, member.name, &resource, func)
+            lower_method(types, table, member.name, resource, func)
         }
-        MemberKind::Constructor {
+        MemberKind::Constructor { resource, func } => lower_constructor(
+            types,
+            table,
+            member.span,
             resource,
-            params,
-            result,
-        } => lower_constructor(types, table, member.span, &resource, params, result),
+            func.params.as_slice(),
+            &func.result,
+        ),
         _ => unreachable!(),
     }
 }

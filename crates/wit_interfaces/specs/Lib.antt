@@ -2,3 +2,4 @@ pub mod Interfaces
 pub mod View
 pub mod Adding
 pub mod Labelled
+pub mod Places

@@ -1,9 +1,11 @@
 //! A package as far as it is brought together.
 
-ghost use Rattle.std.specs.Prelude.{◌≡◌, ℕ, ◌+◌, [], ◌∷◌, ◌++◌, length, OnOk, IfErr};
+ghost use Rattle.std.specs.Prelude.{◌≡◌, ℕ, ◌+◌, [], ◌∷◌, ◌++◌, length, map, slice_get, Some, OnOk, IfErr};
 ghost use Rattle.wit_rules.specs.declared.fault.PackageFault.TheVariants.{OutOfMemory};
 ghost use Rattle.wit_package_types.specs.Known.{with_interface};
 ghost use Rattle.wit_rules.specs.Breaks.{IsKept, IsFaultOf};
+ghost use Rattle.wit_scopes.specs.Scopes as scope;
+ghost use Rattle.wit_scopes.specs.Scopes.{InterfaceScope as InterfaceTree};
 ghost use Rattle.wit_scopes.specs.View as scope_view;
 ghost use Rattle.wit_types.specs.declared.interface.TypeOwner.TheVariants as belongs;
 ghost use Rattle.wit_arena.specs.Tree.{in_interface};
@@ -12,7 +14,7 @@ ghost use Rattle.wit_resolved_scopes.specs.InArena.{Context};
 ghost use Rattle.wit_resolved_scopes.specs.Texts.{interface_text};
 ghost use Rattle.wit_resolved_scopes.specs.Fit.{Foreign, AreInterfacesReady, KnowsInterfaces};
 ghost use Rattle.wit_interfaces.specs.Adding as spec;
-ghost use Rattle.wit_interfaces.specs.View as seen;
+ghost use Rattle.wit_interfaces.specs.Places.{interfaces_at, AreInterfacePlaces};
 
 use crate::interface::{Made, make_interface};
 use crate::text::text_of;
@@ -20,7 +22,7 @@ use wit_arena::Types;
 use wit_package_types::Known;
 use wit_resources::Natures;
 use wit_rules::PackageFault;
-use wit_scopes::InterfaceScope;
+use wit_scopes::{InterfaceScope, ItemScope};
 use wit_types::{Arena, Interface, InterfaceId};
 
 /// A package as far as it is brought together.
@@ -57,14 +59,14 @@ fn keep_interface<'a>(
 /// Adds an interface behind the others; from then on its types are known.
 fn add_interface<'a>(
     building: &mut Building<'a>,
-    interface: &'a InterfaceScope<'a>,
+    interface: &InterfaceScope<'a>,
 ) -> Result<(), PackageFault>
     requires ready { spec.IsReadyIn building.old.known (interface_text (scope_view.interface_scope interface.now)) }
     requires natures { building.old.natures ≡ natures_of building.old.types }
-    ensures adds { OnOk result (spec.AddsInterface building.old.known building.old.types building.old.interfaces (scope_view.interface_scope interface.entry.now) building.new.known building.new.types building.new.interfaces) }
+    ensures adds { OnOk result (spec.AddsInterface building.old.known building.old.types building.old.interfaces (scope_view.interface_scope interface.now) building.new.known building.new.types building.new.interfaces) }
     ensures natures { OnOk result (building.new.natures ≡ natures_of building.new.types) }
-    ensures kept { (c : Context) → spec.MayBring c (in_interface interface.entry.now.name.name.now) (belongs.Interface (length building.old.interfaces)) building.old.known building.old.types (scope_view.interface_scope interface.entry.now).members → OnOk result (IsKept (spec.MembersBreak c (in_interface interface.entry.now.name.name.now) (scope_view.interface_scope interface.entry.now).members)) }
-    ensures cause { (c : Context) → spec.MayBring c (in_interface interface.entry.now.name.name.now) (belongs.Interface (length building.old.interfaces)) building.old.known building.old.types (scope_view.interface_scope interface.entry.now).members → IfErr result (IsFaultOf (spec.MembersBreak c (in_interface interface.entry.now.name.name.now) (scope_view.interface_scope interface.entry.now).members)) }
+    ensures kept { (c : Context) → spec.MayBring c (in_interface interface.now.name.name.now) (belongs.Interface (length building.old.interfaces)) building.old.known building.old.types (scope_view.interface_scope interface.now).members → OnOk result (IsKept (spec.MembersBreak c (in_interface interface.now.name.name.now) (scope_view.interface_scope interface.now).members)) }
+    ensures cause { (c : Context) → spec.MayBring c (in_interface interface.now.name.name.now) (belongs.Interface (length building.old.interfaces)) building.old.known building.old.types (scope_view.interface_scope interface.now).members → IfErr result (IsFaultOf (spec.MembersBreak c (in_interface interface.now.name.name.now) (scope_view.interface_scope interface.now).members)) }
 {
     let id = InterfaceId::from_index(building.interfaces.len());
     let text = text_of(interface);
@@ -80,24 +82,38 @@ fn add_interface<'a>(
     }
 }
 
-/// Adds the interfaces of a package behind the others, in this order, in which each stands behind those from which it uses
-/// types: from then on the types of each are known by its name. They are refused where one of their scopes is: P6 to P9; then
-/// nothing is said of what is built, which is to be dropped.
+/// The interface that stands at a place.
+fn interface_at<'s, 'a>(scopes: &'s [ItemScope<'a>], place: usize) -> &'s InterfaceScope<'a>
+    requires { (i : InterfaceTree) × (slice_get (map scope_view.item_scope scopes.now) place ≡ Some (scope.ItemScope.interface i)) }
+    ensures { slice_get (map scope_view.item_scope scopes.entry.now) place ≡ Some (scope.ItemScope.interface (scope_view.interface_scope result.now)) }
+{
+    match &scopes[place] {
+        ItemScope::Interface(interface) => interface,
+        ItemScope::World(_) => unreachable!(),
+    }
+}
+
+/// Adds the interfaces of a package that stand at these places behind the others, in this order, in which each stands behind
+/// those from which it uses types: from then on the types of each are known by its name. They are refused where one of their
+/// scopes is: P6 to P9; then nothing is said of what is built, which is to be dropped.
 pub fn add_interfaces<'a>(
     building: &mut Building<'a>,
-    interfaces: &[&'a InterfaceScope<'a>],
+    scopes: &[ItemScope<'a>],
+    places: &[usize],
 ) -> Result<(), PackageFault>
-    requires ready { (others : Foreign) × AreInterfacesReady others (seen.interfaces interfaces.now) × (building.old.known.foreign ≡ others.types) }
+    requires places { AreInterfacePlaces (map scope_view.item_scope scopes.now) places.now }
+    requires ready { (others : Foreign) × AreInterfacesReady others (interfaces_at (map scope_view.item_scope scopes.now) places.now) × (building.old.known.foreign ≡ others.types) }
     requires none { (building.old.known.names ≡ []) × (building.old.known.tables ≡ []) }
     requires natures { building.old.natures ≡ natures_of building.old.types }
     ensures natures { OnOk result (building.new.natures ≡ natures_of building.new.types) }
-    ensures knows { OnOk result (KnowsInterfaces building.new.known (seen.interfaces interfaces.now) × (building.new.known.foreign ≡ building.old.known.foreign)) }
-    ensures so_many { OnOk result (length building.new.interfaces ≡ length building.old.interfaces + length interfaces.now) }
-    ensures adds { (c : Context) → spec.MayAdd c building.old.known building.old.types (length building.old.interfaces) (seen.interfaces interfaces.now) → OnOk result (spec.AddsInterfaces c building.old.types building.old.interfaces (seen.interfaces interfaces.now) building.new.known building.new.types building.new.interfaces) }
-    ensures kept { (c : Context) → spec.MayAdd c building.old.known building.old.types (length building.old.interfaces) (seen.interfaces interfaces.now) → OnOk result (IsKept (spec.InterfacesBreak c (seen.interfaces interfaces.now))) }
-    ensures cause { (c : Context) → spec.MayAdd c building.old.known building.old.types (length building.old.interfaces) (seen.interfaces interfaces.now) → IfErr result (IsFaultOf (spec.InterfacesBreak c (seen.interfaces interfaces.now))) }
+    ensures knows { OnOk result (KnowsInterfaces building.new.known (interfaces_at (map scope_view.item_scope scopes.now) places.now) × (building.new.known.foreign ≡ building.old.known.foreign)) }
+    ensures so_many { OnOk result (length building.new.interfaces ≡ length building.old.interfaces + length places.now) }
+    ensures adds { (c : Context) → spec.MayAdd c building.old.known building.old.types (length building.old.interfaces) (interfaces_at (map scope_view.item_scope scopes.now) places.now) → OnOk result (spec.AddsInterfaces c building.old.types building.old.interfaces (interfaces_at (map scope_view.item_scope scopes.now) places.now) building.new.known building.new.types building.new.interfaces) }
+    ensures kept { (c : Context) → spec.MayAdd c building.old.known building.old.types (length building.old.interfaces) (interfaces_at (map scope_view.item_scope scopes.now) places.now) → OnOk result (IsKept (spec.InterfacesBreak c (interfaces_at (map scope_view.item_scope scopes.now) places.now))) }
+    ensures cause { (c : Context) → spec.MayAdd c building.old.known building.old.types (length building.old.interfaces) (interfaces_at (map scope_view.item_scope scopes.now) places.now) → IfErr result (IsFaultOf (spec.InterfacesBreak c (interfaces_at (map scope_view.item_scope scopes.now) places.now))) }
 {
-    for interface in interfaces {
+    for place in places {
+        let interface = interface_at(scopes, *place);
         if let Err(fault) = add_interface(building, interface) {
             return Err(fault);
         }

@@ -21,7 +21,7 @@ use crate::text::InterfaceText;
 use indexmap::IndexMap;
 use std::alloc::{AllocError, Global};
 use wit_arena::{Table, Types, docs_of};
-use wit_package_types::{Known, stability_of};
+use wit_package_types::{Known, stability_in};
 use wit_resolved_scopes::ResolvedScope;
 use wit_resources::Natures;
 use wit_rules::PackageFault;
@@ -98,17 +98,17 @@ fn optional_name(alloc: Global, name: Option<&str>) -> Result<Option<String>, Al
 /// An interface with these types and functions.
 fn interface_with(
     alloc: Global,
-    text: &InterfaceText<'_>,
+    text: &InterfaceText<'_, '_>,
     types: IndexMap<String, TypeId>,
     functions: IndexMap<String, Function>,
 ) -> Result<Interface, AllocError>
-    requires gates { AreGates (map view.attribute text.now.attributes.now) }
+    requires gates { AreGates (map view.attribute text.now.front.now.attributes.items) }
     requires named { spec.AreNamed functions.entries }
     ensures { (o : Place) → IfOk result (spec.IsInterfaceOf (seen.text o text.now) (spec.named_types types.entries) (spec.functions_in functions.entries)) }
 {
     let name = optional_name(alloc, text.name)?;
-    let docs = docs_of(alloc, text.docs)?;
-    let stability = stability_of(alloc, text.attributes)?;
+    let docs = docs_of(alloc, &text.front.docs)?;
+    let stability = stability_in(alloc, text.front)?;
     Ok(Interface {
         name,
         types,
@@ -123,11 +123,11 @@ fn interface_with(
 /// An interface with the types and functions of its scope.
 fn interface_from(
     alloc: Global,
-    text: &InterfaceText<'_>,
+    text: &InterfaceText<'_, '_>,
     table: &Table<'_>,
     functions: Vec<Function>,
 ) -> Result<Interface, AllocError>
-    requires gates { AreGates (map view.attribute text.now.attributes.now) }
+    requires gates { AreGates (map view.attribute text.now.front.now.attributes.items) }
     requires types { AreApartBy (λ e. e.0) table.now }
     requires functions { AreApartBy (λ f. string_bytes f.name) functions.items }
     ensures { (o : Place) → IfOk result (spec.IsInterfaceOf (seen.text o text.now) table.now functions.items) }
@@ -140,10 +140,10 @@ fn interface_from(
 /// The interface with the types and functions of its scope, and its types by name.
 fn made_of<'a>(
     alloc: Global,
-    text: &InterfaceText<'a>,
+    text: &InterfaceText<'_, 'a>,
     scope: ResolvedScope<'a>,
 ) -> Result<Made<'a>, PackageFault>
-    requires gates { AreGates (map view.attribute text.now.attributes.now) }
+    requires gates { AreGates (map view.attribute text.now.front.now.attributes.items) }
     requires types { AreApartBy (λ e. e.0) scope.table }
     requires functions { AreApartBy (λ f. string_bytes f.name) scope.functions.items }
     ensures made { (o : Place) → IfOk result (λ m. spec.IsInterfaceOf (seen.text o text.now) scope.entry.table scope.entry.functions.items m.interface) }
@@ -162,7 +162,7 @@ pub fn make_interface<'a>(
     natures: &mut Natures,
     known: &Known<'a>,
     id: InterfaceId,
-    text: &InterfaceText<'a>,
+    text: &InterfaceText<'_, 'a>,
 ) -> Result<Made<'a>, PackageFault>
     requires ready { (o : Place) → adding.IsReadyIn known.now (seen.text o text.now) }
     requires natures { natures.old ≡ natures_of types.old }

@@ -28,14 +28,13 @@ use wit_scopes::{ExternKind, Listed, Member, WorldMember, WorldScope};
 use wit_types::{Interface, InterfaceId};
 
 /// An interface that stands in a world, with these members.
-fn labelled_text<'a>(listed: &'a Listed<'a>, members: &'a [Member<'a>]) -> InterfaceText<'a>
+fn labelled_text<'s, 'a>(listed: &'s Listed<'a>, members: &'s [Member<'a>]) -> InterfaceText<'s, 'a>
     ensures { (w : Name) → seen.text (in_listed w listed.entry.now.side listed.entry.now.name.name.now) result ≡ listed_text w (scope_view.listed listed.entry.now) (scope_view.members members.entry.now) }
 {
     InterfaceText {
         name: None,
         members,
-        docs: listed.docs,
-        attributes: listed.attributes,
+        front: &listed.front,
         span: listed.name.span,
     }
 }
@@ -62,18 +61,18 @@ fn keep_labelled<'a>(
 fn add_labelled_interface<'a>(
     building: &mut Building<'a>,
     ids: &mut VecDeque<InterfaceId>,
-    listed: &'a Listed<'a>,
-    members: &'a [Member<'a>],
+    listed: &Listed<'a>,
+    members: &[Member<'a>],
 ) -> Result<(), PackageFault>
     requires ready { (w : Name) → adding.IsReadyIn building.old.known (listed_text w (scope_view.listed listed.now) (scope_view.members members.now)) }
     requires natures { building.old.natures ≡ natures_of building.old.types }
-    ensures adds { (w : Name) → OnOk result ((table : Entries) × (made : Built) × adding.MakesInterface building.old.known building.old.types (listed_text w (scope_view.listed listed.entry.now) (scope_view.members members.entry.now)) (length building.old.interfaces) building.new.types table made × (building.new.interfaces ≡ building.old.interfaces ++ made ∷ [])) }
+    ensures adds { (w : Name) → OnOk result ((table : Entries) × (made : Built) × adding.MakesInterface building.old.known building.old.types (listed_text w (scope_view.listed listed.now) (scope_view.members members.now)) (length building.old.interfaces) building.new.types table made × (building.new.interfaces ≡ building.old.interfaces ++ made ∷ [])) }
     ensures ids { OnOk result (ids.new.items ≡ ids.old.items ++ length building.old.interfaces ∷ []) }
     ensures known { OnOk result (building.new.known ≡ building.old.known) }
     ensures grown { OnOk result ((more : List TypeDef) × (building.new.types ≡ building.old.types ++ more)) }
     ensures natures { OnOk result (building.new.natures ≡ natures_of building.new.types) }
-    ensures kept { (c : Context) (o : Place) → adding.MayBring c o (belongs.Interface (length building.old.interfaces)) building.old.known building.old.types (scope_view.members members.entry.now) → OnOk result (IsKept (adding.MembersBreak c o (scope_view.members members.entry.now))) }
-    ensures cause { (c : Context) (o : Place) → adding.MayBring c o (belongs.Interface (length building.old.interfaces)) building.old.known building.old.types (scope_view.members members.entry.now) → IfErr result (IsFaultOf (adding.MembersBreak c o (scope_view.members members.entry.now))) }
+    ensures kept { (c : Context) (o : Place) → adding.MayBring c o (belongs.Interface (length building.old.interfaces)) building.old.known building.old.types (scope_view.members members.now) → OnOk result (IsKept (adding.MembersBreak c o (scope_view.members members.now))) }
+    ensures cause { (c : Context) (o : Place) → adding.MayBring c o (belongs.Interface (length building.old.interfaces)) building.old.known building.old.types (scope_view.members members.now) → IfErr result (IsFaultOf (adding.MembersBreak c o (scope_view.members members.now))) }
 {
     let id = InterfaceId::from_index(building.interfaces.len());
     let text = labelled_text(listed, members);
@@ -93,17 +92,17 @@ fn add_labelled_interface<'a>(
 fn add_member_text<'a>(
     building: &mut Building<'a>,
     ids: &mut VecDeque<InterfaceId>,
-    member: &'a WorldMember<'a>,
+    member: &WorldMember<'a>,
 ) -> Result<(), PackageFault>
     requires ready { (w : Name) × ((t : Text) → Has (member_texts w (scope_view.world_member member.now)) t → adding.IsReadyIn building.old.known t) }
     requires natures { building.old.natures ≡ natures_of building.old.types }
     ensures known { OnOk result (building.new.known ≡ building.old.known) }
     ensures grown { OnOk result ((more : List TypeDef) × (building.new.types ≡ building.old.types ++ more)) }
-    ensures so_many { (w : Name) → OnOk result (length ids.new.items ≡ length ids.old.items + length (member_texts w (scope_view.world_member member.entry.now))) }
+    ensures so_many { (w : Name) → OnOk result (length ids.new.items ≡ length ids.old.items + length (member_texts w (scope_view.world_member member.now))) }
     ensures natures { OnOk result (building.new.natures ≡ natures_of building.new.types) }
-    ensures adds { (c : Context) (w : Name) → spec.MayAddTexts c building.old.known building.old.types (length building.old.interfaces) (member_texts w (scope_view.world_member member.entry.now)) → OnOk result (spec.AddsMore c building.old.known building.old.types building.old.interfaces ids.old.items (member_texts w (scope_view.world_member member.entry.now)) building.new.types building.new.interfaces ids.new.items) }
-    ensures kept { (c : Context) (w : Name) → spec.MayAddTexts c building.old.known building.old.types (length building.old.interfaces) (member_texts w (scope_view.world_member member.entry.now)) → OnOk result (IsKept (spec.TextsBreak c (member_texts w (scope_view.world_member member.entry.now)))) }
-    ensures cause { (c : Context) (w : Name) → spec.MayAddTexts c building.old.known building.old.types (length building.old.interfaces) (member_texts w (scope_view.world_member member.entry.now)) → IfErr result (IsFaultOf (spec.TextsBreak c (member_texts w (scope_view.world_member member.entry.now)))) }
+    ensures adds { (c : Context) (w : Name) → spec.MayAddTexts c building.old.known building.old.types (length building.old.interfaces) (member_texts w (scope_view.world_member member.now)) → OnOk result (spec.AddsMore c building.old.known building.old.types building.old.interfaces ids.old.items (member_texts w (scope_view.world_member member.now)) building.new.types building.new.interfaces ids.new.items) }
+    ensures kept { (c : Context) (w : Name) → spec.MayAddTexts c building.old.known building.old.types (length building.old.interfaces) (member_texts w (scope_view.world_member member.now)) → OnOk result (IsKept (spec.TextsBreak c (member_texts w (scope_view.world_member member.now)))) }
+    ensures cause { (c : Context) (w : Name) → spec.MayAddTexts c building.old.known building.old.types (length building.old.interfaces) (member_texts w (scope_view.world_member member.now)) → IfErr result (IsFaultOf (spec.TextsBreak c (member_texts w (scope_view.world_member member.now)))) }
 {
     match member {
         WorldMember::Listed(listed) => match &listed.kind {
@@ -120,17 +119,17 @@ fn add_member_text<'a>(
 /// refused where one of their scopes is: P6 to P9; then nothing is said of what is built, which is to be dropped.
 pub fn add_labelled<'a>(
     building: &mut Building<'a>,
-    world: &'a WorldScope<'a>,
+    world: &WorldScope<'a>,
 ) -> Result<VecDeque<InterfaceId>, PackageFault>
     requires ready { (t : Text) → Has (labelled_texts (scope_view.world_scope world.now)) t → adding.IsReadyIn building.old.known t }
     requires natures { building.old.natures ≡ natures_of building.old.types }
     ensures known { OnOk result (building.new.known ≡ building.old.known) }
     ensures grown { OnOk result ((more : List TypeDef) × (building.new.types ≡ building.old.types ++ more)) }
-    ensures so_many { IfOk result (λ ids. length ids.items ≡ length (labelled_texts (scope_view.world_scope world.entry.now))) }
+    ensures so_many { IfOk result (λ ids. length ids.items ≡ length (labelled_texts (scope_view.world_scope world.now))) }
     ensures natures { OnOk result (building.new.natures ≡ natures_of building.new.types) }
-    ensures adds { (c : Context) → spec.MayAddTexts c building.old.known building.old.types (length building.old.interfaces) (labelled_texts (scope_view.world_scope world.entry.now)) → IfOk result (λ ids. spec.AddsTexts c building.old.known building.old.types building.old.interfaces (labelled_texts (scope_view.world_scope world.entry.now)) building.new.types building.new.interfaces ids.items) }
-    ensures kept { (c : Context) → spec.MayAddTexts c building.old.known building.old.types (length building.old.interfaces) (labelled_texts (scope_view.world_scope world.entry.now)) → OnOk result (IsKept (spec.TextsBreak c (labelled_texts (scope_view.world_scope world.entry.now)))) }
-    ensures cause { (c : Context) → spec.MayAddTexts c building.old.known building.old.types (length building.old.interfaces) (labelled_texts (scope_view.world_scope world.entry.now)) → IfErr result (IsFaultOf (spec.TextsBreak c (labelled_texts (scope_view.world_scope world.entry.now)))) }
+    ensures adds { (c : Context) → spec.MayAddTexts c building.old.known building.old.types (length building.old.interfaces) (labelled_texts (scope_view.world_scope world.now)) → IfOk result (λ ids. spec.AddsTexts c building.old.known building.old.types building.old.interfaces (labelled_texts (scope_view.world_scope world.now)) building.new.types building.new.interfaces ids.items) }
+    ensures kept { (c : Context) → spec.MayAddTexts c building.old.known building.old.types (length building.old.interfaces) (labelled_texts (scope_view.world_scope world.now)) → OnOk result (IsKept (spec.TextsBreak c (labelled_texts (scope_view.world_scope world.now)))) }
+    ensures cause { (c : Context) → spec.MayAddTexts c building.old.known building.old.types (length building.old.interfaces) (labelled_texts (scope_view.world_scope world.now)) → IfErr result (IsFaultOf (spec.TextsBreak c (labelled_texts (scope_view.world_scope world.now)))) }
 {
     let mut ids = VecDeque::new(building.types.allocator());
     for member in world.members.as_slice() {

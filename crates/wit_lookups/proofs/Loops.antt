@@ -1,6 +1,6 @@
 -- Loops that ask each of many, by what they stand for.
 use Rattle.std.proofs.Common.{◌≡◌, ℕ, ◌+◌, ◌<◌, ◌≤◌, zero, suc, List, [], ◌∷◌, ◌++◌, ◌⊎◌, inl, inr, Some, None, map, length, get_or, refl, sym, ap, subst, ◌∙◌, arith}
-use Rattle.std.proofs.lemmas.Option.{same_Some}
+use Rattle.std.proofs.lemmas.Option.{same_Some, slice_get-get_or}
 use Rattle.std.specs.Prelude.{slice_get, flat_map}
 use Rattle.wit_words.specs.declared.source_map.Span.{Span}
 use Rattle.wit_rules.specs.declared.fault.PackageRule.{PackageRule}
@@ -17,8 +17,15 @@ module _ {X Y : Type 0} (breaks_of : Y → Breaks) (view : X → Y) (xs : List X
   pub kept_on : (i : ℕ) (x : X) → i < length xs → x ≡ get_or xs i x → AreKeptTo i → IsKept (breaks_of (view x)) → AreKeptTo (i + 1)
   kept_on i x within is kept here = kept_more (λ z. breaks_of (view z)) xs i x (read_at xs i x within is) kept here
 
+  -- the same of the element at an index by itself
+  pub kept_at : (i : ℕ) (d : X) → i < length xs → AreKeptTo i → IsKept (breaks_of (view (get_or xs i d))) → AreKeptTo (i + 1)
+  kept_at i d within = kept_more (λ z. breaks_of (view z)) xs i (get_or xs i d) (slice_get-get_or xs i d within)
+
   pub kept_through : (i : ℕ) → length xs ≤ i → AreKeptTo i → IsKept (AnyBreaks breaks_of (map view xs))
   kept_through i past kept = viewed_kept breaks_of view xs (all_kept (λ x. breaks_of (view x)) xs (λ k x less at. kept k x (omega arith) at))
+
+  pub refused_there : (i : ℕ) (d : X) → i < length xs → (fault : PackageFault) → IsFaultOf (breaks_of (view (get_or xs i d))) fault → IsFaultOf (AnyBreaks breaks_of (map view xs)) fault
+  refused_there i d within fault h = viewed_breaks breaks_of view xs fault (one_breaks (λ z. breaks_of (view z)) xs i (get_or xs i d) (slice_get-get_or xs i d within) fault h)
 
   pub refused_at : (i : ℕ) (x : X) → i < length xs → x ≡ get_or xs i x → (fault : PackageFault) → IsFaultOf (breaks_of (view x)) fault → IsFaultOf (AnyBreaks breaks_of (map view xs)) fault
   refused_at i x within is fault h = viewed_breaks breaks_of view xs fault (one_breaks (λ z. breaks_of (view z)) xs i x (read_at xs i x within is) fault h)

@@ -1,18 +1,18 @@
 -- Members that aren't used from elsewhere: their types alone may break something.
 use Rattle.std.proofs.Common.{◌≡◌, List, map, refl, subst}
 use Rattle.wit_productions.specs.declared.names.Id.{Id}
-use Rattle.wit_syntax.specs.Ast.{PackageNameTree, FileTree}
+use Rattle.wit_syntax.specs.Ast.{PackageNameTree, ToplevelUseTree}
 use Rattle.wit_scopes.specs.declared.paths.Target.{Target}
 use Rattle.wit_scopes.specs.declared.members.MemberKind.{MemberKind as Kind}
 use Rattle.wit_scopes.specs.declared.members.MemberKind.TheVariants as kinds
 use Rattle.wit_scopes.specs.Members.{MemberKind}
 use Rattle.wit_scopes.specs.Scopes.{ItemScope, WorldMemberTree}
-use Rattle.wit_scopes.specs.TypeNames.{names_in_member}
+use Rattle.wit_type_names.specs.TypeNames.{names_in_member}
 use Rattle.wit_scopes.specs.View.{member_kind}
 use Rattle.wit_rules.specs.declared.fault.PackageFault.{PackageFault}
 use Rattle.wit_rules.specs.Breaks.{IsKept, IsFaultOf, AnyBreaks}
 use Rattle.wit_lookups.specs.Lookups.{TypesBreak, MemberKindBreaks, WorldMemberBreaks, ItemsBreak, FileBreaks, AsksBreak, asks_in, LookupsBreak, by_item, by_file, by_asks}
-use Rattle.wit_lookups.specs.Names.{Name, file_known_names}
+use Rattle.wit_lookups.specs.Names.{Name, known_names}
 
 module _ (scopes : List ItemScope) (types others : List Name) where
   pub own_kept : (k : Kind) → ((from : Target) (name : Id) → k ≡ kinds.Used from name → ⊥) → IsKept (TypesBreak types others (names_in_member (member_kind k))) → IsKept (MemberKindBreaks scopes types others (member_kind k))
@@ -21,7 +21,7 @@ module _ (scopes : List ItemScope) (types others : List Name) where
   own_kept (kinds.Function f) own h = h
   own_kept (kinds.Method r f) own h = h
   own_kept (kinds.Static r f) own h = h
-  own_kept (kinds.Constructor r ps t) own h = h
+  own_kept (kinds.Constructor r f) own h = h
 
   pub own_refused : (k : Kind) → ((from : Target) (name : Id) → k ≡ kinds.Used from name → ⊥) → (fault : PackageFault) → IsFaultOf (TypesBreak types others (names_in_member (member_kind k))) fault → IsFaultOf (MemberKindBreaks scopes types others (member_kind k)) fault
   own_refused (kinds.Used f n) own fault h = absurd (own f n refl)
@@ -29,7 +29,7 @@ module _ (scopes : List ItemScope) (types others : List Name) where
   own_refused (kinds.Function f) own fault h = h
   own_refused (kinds.Method r f) own fault h = h
   own_refused (kinds.Static r f) own fault h = h
-  own_refused (kinds.Constructor r ps t) own fault h = h
+  own_refused (kinds.Constructor r f) own fault h = h
 
 -- the same of names that are equal
 pub same_kept : (scopes : List ItemScope) (t u o p : List Name) (k : MemberKind) → t ≡ u → o ≡ p → IsKept (MemberKindBreaks scopes t o k) → IsKept (MemberKindBreaks scopes u p k)
@@ -49,7 +49,7 @@ same_world_refused scopes known t u o p m fault types others h =
     subst (λ (z : List Name). IsFaultOf (WorldMemberBreaks scopes known u z m) fault) others (subst (λ (z : List Name). IsFaultOf (WorldMemberBreaks scopes known z o m) fault) types h)
 
 -- a package of which no part breaks anything
-pub lookups_kept : (me : PackageNameTree) (files : List FileTree) (scopes : List ItemScope) → IsKept (ItemsBreak scopes (map file_known_names files)) → IsKept (AnyBreaks (FileBreaks me scopes) files) → IsKept (AsksBreak (asks_in scopes)) → IsKept (LookupsBreak me files scopes)
-lookups_kept me files scopes items tops asks rule at (by_item b) = items rule at b
-lookups_kept me files scopes items tops asks rule at (by_file b) = tops rule at b
-lookups_kept me files scopes items tops asks rule at (by_asks b) = asks rule at b
+pub lookups_kept : (me : PackageNameTree) (uses : List (List ToplevelUseTree)) (scopes : List ItemScope) → IsKept (ItemsBreak scopes (map known_names uses)) → IsKept (AnyBreaks (FileBreaks me scopes) uses) → IsKept (AsksBreak (asks_in scopes)) → IsKept (LookupsBreak me uses scopes)
+lookups_kept me uses scopes items tops asks rule at (by_item b) = items rule at b
+lookups_kept me uses scopes items tops asks rule at (by_file b) = tops rule at b
+lookups_kept me uses scopes items tops asks rule at (by_asks b) = asks rule at b

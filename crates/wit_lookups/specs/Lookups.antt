@@ -2,12 +2,12 @@
 use Rattle.std.specs.Prelude.{◌≡◌, ◌≢◌, ℕ, ◌<◌, List, [], ◌∷◌, ◌++◌, map, flat_map, Option, Some, None, slice_get, if◌then◌else◌}
 use Rattle.wit_words.specs.declared.source_map.Span.{Span}
 use Rattle.wit_words.specs.Slice.{Slice}
-use Rattle.wit_syntax.specs.Ast.{PackageNameTree, ToplevelUseTree, FileTree}
+use Rattle.wit_syntax.specs.Ast.{PackageNameTree, ToplevelUseTree}
 use Rattle.wit_scopes.specs.Paths.{TargetTree, own, foreign, by_itself, item_uses}
 use Rattle.wit_scopes.specs.Members.{MemberKind, MemberTree, used, defined, function, method, static, constructor}
 use Rattle.wit_scopes.specs.Scopes as scope
 use Rattle.wit_scopes.specs.Scopes.{ExternKind, ListedTree, WorldMemberTree, InterfaceScope, WorldScope, ItemScope}
-use Rattle.wit_scopes.specs.TypeNames.{names_in_func, names_in_member}
+use Rattle.wit_type_names.specs.TypeNames.{names_in_func, names_in_member}
 use Rattle.wit_rules.specs.declared.fault.PackageRule.{PackageRule}
 use Rattle.wit_rules.specs.declared.fault.PackageRule.TheVariants.{NameNotFound, WrongKind}
 use Rattle.wit_rules.specs.Breaks.{Breaks, AnyBreaks}
@@ -16,7 +16,7 @@ use Rattle.wit_lookups.specs.declared.found.Found.{Found}
 use Rattle.wit_lookups.specs.declared.found.Found.TheVariants.{There, OfAnotherKind, Missing}
 use Rattle.wit_lookups.specs.declared.asks.Asked.{Asked}
 use Rattle.wit_lookups.specs.declared.asks.Asked.TheVariants.{Interface, World}
-use Rattle.wit_lookups.specs.Names.{Name, has, type_names, other_names, world_type_names, world_other_names, known_at, item_file, file_known_names, item_names, item_of}
+use Rattle.wit_lookups.specs.Names.{Name, has, type_names, other_names, world_type_names, world_other_names, known_at, item_file, known_names, item_names, item_of}
 
 -- ---- what is found under a name
 
@@ -119,8 +119,8 @@ ItemsBreak scopes known = AnyBreaks (λ s. ItemBreaks scopes (known_at known (it
 abbrev pub TopUseBreaks : PackageNameTree → List ItemScope → ToplevelUseTree → Breaks
 TopUseBreaks me scopes u = PathBreaks found_item scopes (by_itself me u.item)
 
-abbrev pub FileBreaks : PackageNameTree → List ItemScope → FileTree → Breaks
-FileBreaks me scopes f = AnyBreaks (TopUseBreaks me scopes) (item_uses f.items)
+abbrev pub FileBreaks : PackageNameTree → List ItemScope → List ToplevelUseTree → Breaks
+FileBreaks me scopes us = AnyBreaks (TopUseBreaks me scopes) us
 
 -- ---- names of other packages
 
@@ -181,7 +181,7 @@ pub record AsksBreak (asks : List AskTree) (rule : PackageRule) (at : Span) : Ty
 -- ---- packages
 
 -- the interfaces and worlds of a package of that name, and its files: a name of one of them isn't found, or is asked for as two things
-pub data LookupsBreak (me : PackageNameTree) (files : List FileTree) (scopes : List ItemScope) (rule : PackageRule) (at : Span) : Type 0 where
-  by_item : ItemsBreak scopes (map file_known_names files) rule at → LookupsBreak me files scopes rule at
-  by_file : AnyBreaks (FileBreaks me scopes) files rule at → LookupsBreak me files scopes rule at
-  by_asks : AsksBreak (asks_in scopes) rule at → LookupsBreak me files scopes rule at
+pub data LookupsBreak (me : PackageNameTree) (uses : List (List ToplevelUseTree)) (scopes : List ItemScope) (rule : PackageRule) (at : Span) : Type 0 where
+  by_item : ItemsBreak scopes (map known_names uses) rule at → LookupsBreak me uses scopes rule at
+  by_file : AnyBreaks (FileBreaks me scopes) uses rule at → LookupsBreak me uses scopes rule at
+  by_asks : AsksBreak (asks_in scopes) rule at → LookupsBreak me uses scopes rule at

@@ -2,7 +2,7 @@
 use Rattle.std.specs.Prelude.{ℕ, zero, suc, Bool, List, [], ◌∷◌, map, flat_map, Option, option_and_then, slice_get, bytes_eq}
 use Rattle.std.specs.List.{list_any}
 use Rattle.name_places.specs.FirstPlaces.{place_of}
-use Rattle.wit_syntax.specs.Ast.{ToplevelUseTree, GatedTree, FileItemTree, FileTree}
+use Rattle.wit_syntax.specs.Ast.{ToplevelUseTree}
 use Rattle.wit_scopes.specs.Paths.{known_name, file_item_uses}
 use Rattle.wit_scopes.specs.Members.{MemberKind, MemberTree, used, defined, function, method, static, constructor}
 use Rattle.wit_scopes.specs.Scopes as scope
@@ -75,13 +75,6 @@ world_other_names ms = flat_map world_other_name ms
 -- the names that `use` statements make known
 abbrev pub known_names : List ToplevelUseTree → List Name
 known_names us = map (λ u. (known_name u).text) us
-
--- those that an item of a file makes known, and those that all its items do
-abbrev pub item_known_names : GatedTree FileItemTree → List Name
-item_known_names g = known_names (file_item_uses g.item)
-
-abbrev pub file_known_names : FileTree → List Name
-file_known_names f = flat_map item_known_names f.items
 
 -- those of the file of that number, of these of all files
 abbrev pub known_at : List (List Name) → ℕ → List Name

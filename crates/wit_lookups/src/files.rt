@@ -2,7 +2,6 @@
 
 ghost use Rattle.std.specs.Prelude.{◌≡◌, map, slice_get, Some, OnOk, IfErr};
 ghost use Rattle.wit_syntax.specs.AstView as view;
-ghost use Rattle.wit_scopes.specs.Paths.{file_item_uses};
 ghost use Rattle.wit_scopes.specs.View as scope_view;
 ghost use Rattle.wit_rules.specs.Breaks.{IsKept, IsFaultOf, AnyBreaks};
 ghost use Rattle.wit_lookups.specs.Lookups as spec;
@@ -18,7 +17,7 @@ use name_places::FirstPlaces;
 use std::alloc::Global;
 use wit_rules::{Declared, PackageFault};
 use wit_scopes::{ItemScope, path_by_itself};
-use wit_syntax::{AstItem, File, FileItem, PackageName, ToplevelUse};
+use wit_syntax::{PackageName, ToplevelUse};
 
 /// The number of the file in which an interface or a world stands.
 fn item_file(item: &ItemScope<'_>) -> usize
@@ -113,36 +112,21 @@ fn check_top_use<'a>(
     check_item_path(scopes, index, &path)
 }
 
-/// Refuses an item of a file that is a `use` of what isn't there.
-fn check_file_item<'a>(
-    me: &PackageName<'a>,
-    scopes: &[ItemScope<'a>],
-    index: &PackageNames<'a>,
-    item: &FileItem<'a>,
-) -> Result<(), PackageFault>
-    requires { seen.AreNames (map scope_view.item_scope scopes.now) index.now }
-    ensures ok { OnOk result (IsKept (AnyBreaks (spec.TopUseBreaks (view.package_name me.now) (map scope_view.item_scope scopes.now)) (file_item_uses (view.file_item item.now)))) }
-    ensures cause { IfErr result (IsFaultOf (AnyBreaks (spec.TopUseBreaks (view.package_name me.now) (map scope_view.item_scope scopes.now)) (file_item_uses (view.file_item item.now)))) }
-{
-    match item {
-        FileItem::Item(AstItem::Use(item)) => check_top_use(me, scopes, index, item),
-        _ => Ok(()),
-    }
-}
-
 /// Refuses a file with a `use` at its top of what isn't there.
 fn check_file<'a>(
     me: &PackageName<'a>,
     scopes: &[ItemScope<'a>],
     index: &PackageNames<'a>,
-    file: &File<'a>,
+    uses: &[ToplevelUse<'a>],
 ) -> Result<(), PackageFault>
     requires { seen.AreNames (map scope_view.item_scope scopes.now) index.now }
-    ensures ok { OnOk result (IsKept (spec.FileBreaks (view.package_name me.now) (map scope_view.item_scope scopes.now) (view.file file.now))) }
-    ensures cause { IfErr result (IsFaultOf (spec.FileBreaks (view.package_name me.now) (map scope_view.item_scope scopes.now) (view.file file.now))) }
+    ensures ok { OnOk result (IsKept (spec.FileBreaks (view.package_name me.now) (map scope_view.item_scope scopes.now) (map view.toplevel_use uses.now))) }
+    ensures cause { IfErr result (IsFaultOf (spec.FileBreaks (view.package_name me.now) (map scope_view.item_scope scopes.now) (map view.toplevel_use uses.now))) }
 {
-    for gated in &file.items {
-        check_file_item(me, scopes, index, &gated.item)?;
+    for item in uses {
+        if let Err(fault) = check_top_use(me, scopes, index, item) {
+            return Err(fault);
+        }
     }
     Ok(())
 }
@@ -152,30 +136,27 @@ fn check_files<'a>(
     me: &PackageName<'a>,
     scopes: &[ItemScope<'a>],
     index: &PackageNames<'a>,
-    files: &[File<'a>],
+    files: &[Vec<ToplevelUse<'a>>],
 ) -> Result<(), PackageFault>
     requires { seen.AreNames (map scope_view.item_scope scopes.now) index.now }
-    ensures ok { OnOk result (IsKept (AnyBreaks (spec.FileBreaks (view.package_name me.now) (map scope_view.item_scope scopes.now)) (map view.file files.now))) }
-    ensures cause { IfErr result (IsFaultOf (AnyBreaks (spec.FileBreaks (view.package_name me.now) (map scope_view.item_scope scopes.now)) (map view.file files.now))) }
+    ensures ok { OnOk result (IsKept (AnyBreaks (spec.FileBreaks (view.package_name me.now) (map scope_view.item_scope scopes.now)) (scope_view.uses files.now))) }
+    ensures cause { IfErr result (IsFaultOf (AnyBreaks (spec.FileBreaks (view.package_name me.now) (map scope_view.item_scope scopes.now)) (scope_view.uses files.now))) }
 {
-    for file in files {
-        check_file(me, scopes, index, file)?;
+    for uses in files {
+        check_file(me, scopes, index, uses.as_slice())?;
     }
     Ok(())
 }
 
-/// Refuses files of a package, of which this is what they declare, where a name in them isn't found: P4 where nothing is
-/// there under it, P5 where what is there is of another kind than its place asks, and P5 at the later of two places that ask
-/// for one thing of another package as an interface and as a world. The place is that of the name.
-pub fn check_lookups<'a>(
-    alloc: Global,
-    files: &[File<'a>],
-    declared: &Declared<'a>,
-) -> Result<(), PackageFault>
-    ensures ok { OnOk result (IsKept (spec.LookupsBreak (view.package_name declared.now.name) (map view.file files.now) (map scope_view.item_scope declared.now.scopes.items))) }
-    ensures cause { IfErr result (IsFaultOf (spec.LookupsBreak (view.package_name declared.now.name) (map view.file files.now) (map scope_view.item_scope declared.now.scopes.items))) }
+/// Refuses a package, of which this is what its files declare, where a name in them isn't found: P4 where nothing is there
+/// under it, P5 where what is there is of another kind than its place asks, and P5 at the later of two places that ask for one
+/// thing of another package as an interface and as a world. The place is that of the name.
+pub fn check_lookups<'a>(alloc: Global, declared: &Declared<'a>) -> Result<(), PackageFault>
+    ensures ok { OnOk result (IsKept (spec.LookupsBreak (view.package_name declared.now.name) (scope_view.uses declared.now.uses.items) (map scope_view.item_scope declared.now.scopes.items))) }
+    ensures cause { IfErr result (IsFaultOf (spec.LookupsBreak (view.package_name declared.now.name) (scope_view.uses declared.now.uses.items) (map scope_view.item_scope declared.now.scopes.items))) }
 {
     let scopes = declared.scopes.as_slice();
+    let files = declared.uses.as_slice();
     let index = package_names(alloc, scopes)?;
     let known = known_names(alloc, files)?;
     check_items(alloc, scopes, &index, known.as_slice())?;

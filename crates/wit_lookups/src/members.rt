@@ -14,8 +14,9 @@ use crate::paths::check_use;
 use name_places::FirstPlaces;
 use std::alloc::Global;
 use wit_rules::PackageFault;
-use wit_scopes::{ItemScope, Member, MemberKind, member_type_names};
+use wit_scopes::{ItemScope, Member, MemberKind};
 use wit_syntax::Id;
+use wit_type_names::member_type_names;
 
 /// Whether something is known under a name besides the types of the scope: these others, what its file makes known, and the
 /// interfaces and worlds of the package.

@@ -3,7 +3,6 @@
 ghost use Rattle.std.specs.Prelude.{◌≡◌, ◌++◌, map, bytes_eq, IfOk, OnOk};
 ghost use Rattle.std.specs.List.{list_any};
 ghost use Rattle.wit_syntax.specs.AstView as view;
-ghost use Rattle.wit_scopes.specs.Paths.{file_item_uses};
 ghost use Rattle.wit_scopes.specs.View as scope_view;
 ghost use Rattle.wit_lookups.specs.Names as spec;
 ghost use Rattle.wit_lookups.specs.View as seen;
@@ -11,7 +10,7 @@ ghost use Rattle.wit_lookups.specs.View as seen;
 use name_places::FirstPlaces;
 use std::alloc::{AllocError, Global};
 use wit_scopes::{ExternKind, ItemScope, Listed, Member, MemberKind, WorldMember, known_name};
-use wit_syntax::{AstItem, File, FileItem};
+use wit_syntax::ToplevelUse;
 
 /// Adds a member's name where it is one of a type.
 fn add_type_name<'a>(found: &mut FirstPlaces<'a>, member: &Member<'a>) -> Result<(), AllocError>
@@ -157,23 +156,16 @@ pub fn world_other_names<'a>(
     Ok(found)
 }
 
-/// Adds the name that an item of a file makes known in it, if it is a `use`.
-fn add_known_name<'a>(found: &mut FirstPlaces<'a>, item: &FileItem<'a>) -> Result<(), AllocError>
-    ensures { OnOk result (found.new ≡ found.old ++ spec.known_names (file_item_uses (view.file_item item.now))) }
-{
-    match item {
-        FileItem::Item(AstItem::Use(item)) => found.push(known_name(item).name),
-        _ => Ok(()),
-    }
-}
-
 /// The names that `use` statements at the top of a file make known in it.
-fn file_known_names<'a>(alloc: Global, file: &File<'a>) -> Result<FirstPlaces<'a>, AllocError>
-    ensures { IfOk result (λ n. n ≡ spec.file_known_names (view.file file.now)) }
+fn file_known_names<'a>(
+    alloc: Global,
+    uses: &[ToplevelUse<'a>],
+) -> Result<FirstPlaces<'a>, AllocError>
+    ensures { IfOk result (λ n. n ≡ spec.known_names (map view.toplevel_use uses.now)) }
 {
     let mut found = FirstPlaces::new(alloc);
-    for gated in &file.items {
-        add_known_name(&mut found, &gated.item)?;
+    for item in uses {
+        found.push(known_name(item).name)?;
     }
     Ok(found)
 }
@@ -181,13 +173,14 @@ fn file_known_names<'a>(alloc: Global, file: &File<'a>) -> Result<FirstPlaces<'a
 /// The names that `use` statements make known in each file.
 pub fn known_names<'a>(
     alloc: Global,
-    files: &[File<'a>],
+    files: &[Vec<ToplevelUse<'a>>],
 ) -> Result<Vec<FirstPlaces<'a>>, AllocError>
-    ensures { IfOk result (λ v. v.items ≡ map spec.file_known_names (map view.file files.now)) }
+    ensures { IfOk result (λ v. v.items ≡ map spec.known_names (scope_view.uses files.now)) }
 {
     let mut found = Vec::new(alloc);
-    for file in files {
-        found.push(file_known_names(alloc, file)?)?;
+    for uses in files {
+        let names = file_known_names(alloc, uses.as_slice())?;
+        found.push(names)?;
     }
     Ok(found)
 }

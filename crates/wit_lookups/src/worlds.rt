@@ -13,7 +13,8 @@ use crate::paths::{check_interface_path, check_world_path};
 use name_places::FirstPlaces;
 use std::alloc::Global;
 use wit_rules::PackageFault;
-use wit_scopes::{ExternKind, ItemScope, WorldMember, WorldScope, func_type_names};
+use wit_scopes::{ExternKind, ItemScope, WorldMember, WorldScope};
+use wit_type_names::func_type_names;
 
 /// Refuses what stands behind `import` or `export` where it names what isn't there.
 fn check_extern<'a>(

@@ -8,7 +8,7 @@ use Rattle.wit_scopes.specs.Paths.{TargetTree, own, foreign}
 use Rattle.wit_scopes.specs.Members.{MemberKind, MemberTree, used, defined, function, method, static, constructor}
 use Rattle.wit_scopes.specs.Scopes as scope
 use Rattle.wit_scopes.specs.Scopes.{WorldMemberTree, ItemScope}
-use Rattle.wit_scopes.specs.TypeNames.{names_in_member}
+use Rattle.wit_type_names.specs.TypeNames.{names_in_member}
 use Rattle.wit_rules.specs.declared.fault.PackageRule.{PackageRule}
 use Rattle.wit_rules.specs.declared.fault.PackageRule.TheVariants.{Cycle}
 use Rattle.wit_rules.specs.Labels.{scope_name}

@@ -10,14 +10,16 @@ ghost use Rattle.wit_orders.specs.View as seen;
 use crate::order::{Entry, order_of};
 use std::alloc::{AllocError, Global};
 use wit_rules::PackageFault;
-use wit_scopes::{Member, MemberKind, WorldMember, member_type_names};
+use wit_scopes::{Member, MemberKind, WorldMember};
+use wit_type_names::member_type_names;
 
 /// Adds a member where it is a type.
 fn add_type<'a>(found: &mut Vec<Member<'a>>, member: &Member<'a>) -> Result<(), AllocError>
     ensures { OnOk result (scope_view.members found.new.items ≡ scope_view.members found.old.items ++ spec.member_type (scope_view.member member.now)) }
 {
-    if let MemberKind::Used { .. } | MemberKind::Defined(_) = member.kind {
-        found.push(*member)?;
+    if let MemberKind::Used { .. } | MemberKind::Defined(_) = &member.kind {
+        let copy = member.clone()?;
+        found.push(copy)?;
     }
     Ok(())
 }
@@ -86,11 +88,11 @@ pub fn type_order<'a>(alloc: Global, types: &[Member<'a>]) -> Result<Vec<usize>,
 }
 
 /// The member at a place.
-fn member_at<'a>(members: &[Member<'a>], place: usize) -> Member<'a>
+fn member_at<'s, 'a>(members: &'s [Member<'a>], place: usize) -> &'s Member<'a>
     requires { place < length members.now }
-    ensures { slice_get (scope_view.members members.now) place ≡ Some (scope_view.member result) }
+    ensures { slice_get (scope_view.members members.entry.now) place ≡ Some (scope_view.member result.now) }
 {
-    members[place]
+    &members[place]
 }
 
 /// The members at these places.
@@ -104,7 +106,8 @@ fn members_at<'a>(
 {
     let mut found = Vec::new(alloc);
     for place in places {
-        found.push(member_at(members, *place))?;
+        let copy = member_at(members, *place).clone()?;
+        found.push(copy)?;
     }
     Ok(found)
 }

@@ -4,6 +4,7 @@ use Rattle.wit_words.specs.declared.source_map.Span.{Span}
 use Rattle.wit_types.specs.declared.interface.TypeDef.{TypeDef}
 use Rattle.wit_types.specs.declared.«package».AstItem.{AstItem}
 use Rattle.wit_syntax.specs.Ast.{PackageNameTree, FileTree}
+use Rattle.wit_scopes.specs.Paths.{file_uses}
 use Rattle.wit_scopes.specs.Scopes.{ItemScope}
 use Rattle.wit_rules.specs.Breaks.{IsKept}
 use Rattle.wit_rules.specs.Facts.{IsDeclared}
@@ -50,7 +51,7 @@ module _ (scopes : List ItemScope) (items : Items) (are : AreItemsOf (needs_in s
     types = λ n y has named. unknown.there n y has named;
   }
 
-  pub ready_together : (files : List FileTree) (me : PackageNameTree) (k : KnownTypes) → k.foreign ≡ types → (sorted : List ItemScope) → IsDeclared files me scopes → IsKept (LookupsBreak me files scopes) → AreItemsSorted scopes sorted
+  pub ready_together : (files : List FileTree) (me : PackageNameTree) (k : KnownTypes) → k.foreign ≡ types → (sorted : List ItemScope) → IsDeclared files me scopes → IsKept (LookupsBreak me (file_uses files) scopes) → AreItemsSorted scopes sorted
       → AreReadyTogether k items (interfaces_of sorted) (worlds_of sorted)
   ready_together files me k known sorted declared kept sorts =
       let r = packages_are_ready files me scopes sorted (others_of items types) declared kept sorts finds in

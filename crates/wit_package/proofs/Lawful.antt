@@ -37,6 +37,6 @@ break_alike c sorted are = record { by_items = items_break c.scopes sorted are c
 pub missing_come_first : (files : List FileTree) → MissingNamesComeFirst files
 missing_come_first files = record {
   by_files = files_first files;
-  by_lookups = λ me scopes. lookups_first files me scopes;
+  by_lookups = λ me uses scopes. lookups_first files me uses scopes;
   behind = λ me named kept. missing_first files me named kept;
 }

@@ -5,11 +5,11 @@ use Rattle.wit_words.specs.declared.source_map.Span.{Span}
 use Rattle.wit_words.specs.Slice.{Slice}
 use Rattle.wit_items.specs.ItemTree.{AttributeTree}
 use Rattle.wit_productions.specs.TypeTree.{TypeTree}
-use Rattle.wit_syntax.specs.Ast.{PackageNameTree, FileTree}
+use Rattle.wit_syntax.specs.Ast.{PackageNameTree, ToplevelUseTree, FileTree}
 use Rattle.wit_scopes.specs.declared.worlds.Side.{Side}
 use Rattle.wit_scopes.specs.declared.worlds.Side.TheVariants.{Import, Export}
-use Rattle.wit_scopes.specs.Paths.{TargetTree, own, foreign, by_itself}
-use Rattle.wit_scopes.specs.TypeNames.{names_in_func, names_in_member}
+use Rattle.wit_scopes.specs.Paths.{TargetTree, own, foreign, by_itself, file_uses}
+use Rattle.wit_type_names.specs.TypeNames.{names_in_func, names_in_member}
 use Rattle.wit_scopes.specs.Members.{MemberKind, MemberTree, used, defined, function, method, static, constructor}
 use Rattle.wit_scopes.specs.Scopes as scope
 use Rattle.wit_scopes.specs.Scopes.{ExternKind, ListedTree, WorldMemberTree, InterfaceScope, WorldScope, ItemScope, package_scopes}
@@ -169,10 +169,10 @@ module _ (r : PackageRule) (there : r ≡ NameNotFound → ⊥) (of_kind : r ≡
   looked_item ss known (scope.ItemScope.interface i) at b = own_members ss known i.members at b
   looked_item ss known (scope.world w) at b = looked_world_member ss known _ _ b.one at b.breaks
 
-  pub lookups_break : (me : PackageNameTree) (files : List FileTree) (ss : List ItemScope) (at : Span) → LookupsBreak me files ss r at → ⊥
-  lookups_break me files ss at (look.LookupsBreak.by_item b) = looked_item ss _ b.one at b.breaks
-  lookups_break me files ss at (look.LookupsBreak.by_file b) = path look.found_item ss (by_itself me b.breaks.one.item) at b.breaks.breaks
-  lookups_break me files ss at (look.LookupsBreak.by_asks b) = of_kind b.rule_is
+  pub lookups_break : (me : PackageNameTree) (uses : List (List ToplevelUseTree)) (ss : List ItemScope) (at : Span) → LookupsBreak me uses ss r at → ⊥
+  lookups_break me uses ss at (look.LookupsBreak.by_item b) = looked_item ss _ b.one at b.breaks
+  lookups_break me uses ss at (look.LookupsBreak.by_file b) = path look.found_item ss (by_itself me b.breaks.one.item) at b.breaks.breaks
+  lookups_break me uses ss at (look.LookupsBreak.by_asks b) = of_kind b.rule_is
 
 -- ---- scopes over the meaning of names
 
@@ -203,7 +203,7 @@ one_scope me ss o types ms at (scope_fault.ScopeBreaks.by_member b) = meaning_me
 
 -- ---- the package
 
-pub only_by_lookups : (files : List FileTree) (at : Span) → PackageBreaks files NameNotFound at → (me : PackageNameTree) × (package_name files ≡ Some me) × LookupsBreak me files (package_scopes me files) NameNotFound at
+pub only_by_lookups : (files : List FileTree) (at : Span) → PackageBreaks files NameNotFound at → (me : PackageNameTree) × (package_name files ≡ Some me) × LookupsBreak me (file_uses files) (package_scopes me files) NameNotFound at
 only_by_lookups files at (by_files b) = absurd (files_by_themselves NameNotFound missing_is_of_names files at b)
 only_by_lookups files at (by_lookups me named b) = (me, named, b)
 only_by_lookups files at (by_versions me named b) = absurd (version_where NameNotFound missing_is_of_names b.one.version at b.breaks)
@@ -211,13 +211,13 @@ only_by_lookups files at (by_circle me named b) = absurd (let e : NameNotFound �
 only_by_lookups files at (by_scope me named b) = absurd (one_scope _ _ b.place _ b.members at b.breaks)
 
 -- where all names are found, none is missing, whatever is answered
-pub missing_first : (files : List FileTree) (me : PackageNameTree) → package_name files ≡ Some me → IsKept (LookupsBreak me files (package_scopes me files)) → (fault : PackageFault) → MissingComesFirst files fault
+pub missing_first : (files : List FileTree) (me : PackageNameTree) → package_name files ≡ Some me → IsKept (LookupsBreak me (file_uses files) (package_scopes me files)) → (fault : PackageFault) → MissingComesFirst files fault
 missing_first files me named kept OutOfMemory = tt
 missing_first files me named kept (Syntax f) = tt
 missing_first files me named kept (Broken rule at) = λ e place b.
     let l = only_by_lookups files place b in
     let same : l.0 ≡ me = same_Some l.0 me (sym l.1 ∙ named) in
-    kept NameNotFound place (subst (λ (p : PackageNameTree). LookupsBreak p files (package_scopes p files) NameNotFound place) same l.2)
+    kept NameNotFound place (subst (λ (p : PackageNameTree). LookupsBreak p (file_uses files) (package_scopes p files) NameNotFound place) same l.2)
 
 -- no circle is found by the files themselves, nor where names are looked up
 pub files_first : (files : List FileTree) (fault : PackageFault) → IsFaultOf (FilesBreak files) fault → MissingComesFirst files fault
@@ -225,7 +225,7 @@ files_first files OutOfMemory b = tt
 files_first files (Syntax f) b = absurd b
 files_first files (Broken rule at) b = λ e place missing. files_by_themselves Cycle circle_is_of_names files at (subst (λ (r : PackageRule). FilesBreak files r at) e b)
 
-pub lookups_first : (files : List FileTree) (me : PackageNameTree) (ss : List ItemScope) (fault : PackageFault) → IsFaultOf (LookupsBreak me files ss) fault → MissingComesFirst files fault
-lookups_first files me ss OutOfMemory b = tt
-lookups_first files me ss (Syntax f) b = absurd b
-lookups_first files me ss (Broken rule at) b = λ e place missing. lookups_break Cycle (λ f. cc) (λ f. cc) me files ss at (subst (λ (r : PackageRule). LookupsBreak me files ss r at) e b)
+pub lookups_first : (files : List FileTree) (me : PackageNameTree) (uses : List (List ToplevelUseTree)) (ss : List ItemScope) (fault : PackageFault) → IsFaultOf (LookupsBreak me uses ss) fault → MissingComesFirst files fault
+lookups_first files me uses ss OutOfMemory b = tt
+lookups_first files me uses ss (Syntax f) b = absurd b
+lookups_first files me uses ss (Broken rule at) b = λ e place missing. lookups_break Cycle (λ f. cc) (λ f. cc) me uses ss at (subst (λ (r : PackageRule). LookupsBreak me uses ss r at) e b)

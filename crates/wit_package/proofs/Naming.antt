@@ -1,6 +1,6 @@
 -- The versions of packages that are named, one in front of the others.
 use Rattle.std.proofs.Common.{◌≡◌, ℕ, ◌+◌, ◌<◌, suc, zero, List, Some, ◌∷◌, length, get_or, refl, sym, subst}
-use Rattle.std.proofs.lemmas.Option.{same_Some, slice_get-get_or}
+use Rattle.std.proofs.lemmas.Option.{same_Some}
 use Rattle.std.specs.Prelude.{slice_get}
 use Rattle.wit_syntax.specs.Ast.{PackageNameTree}
 use Rattle.wit_rules.specs.declared.fault.PackageFault.{PackageFault}
@@ -9,6 +9,7 @@ use Rattle.wit_foreign.specs.Needs.{NeedTree}
 use Rattle.wit_foreign.specs.View as asked
 use Rattle.wit_rules.specs.Breaks.{Breaks, IsKept, IsFaultOf, VersionWhereBreaks}
 use Rattle.wit_rules.proofs.Breaking.{widened, AreKept, kept_more, all_kept, one_breaks, viewed_kept, viewed_breaks}
+use Rattle.wit_rules.proofs.Places.{read_at}
 use Rattle.wit_package.specs.Faults.{VersionsBreak, packages_in}
 
 module _ (p : PackageNameTree) (ps : List PackageNameTree) where
@@ -36,13 +37,13 @@ module _ (needs : List Need) where
   abbrev by_name : PackageNameTree → Breaks
   by_name p = VersionWhereBreaks p.version
 
-  pub next_kept : (k : ℕ) (n : Need) → k < length needs → AreKept need_breaks needs k → IsKept (need_breaks (get_or needs k n)) → AreKept need_breaks needs (k + 1)
-  next_kept k n within = kept_more need_breaks needs k (get_or needs k n) (slice_get-get_or needs k n within)
+  pub next_kept : (k : ℕ) (n : Need) → k < length needs → n ≡ get_or needs k n → AreKept need_breaks needs k → IsKept (need_breaks n) → AreKept need_breaks needs (k + 1)
+  next_kept k n within here = kept_more need_breaks needs k n (read_at needs k n within here)
 
   pub needs_kept : AreKept need_breaks needs (length needs) → IsKept (VersionsBreak (packages_in (asked.needs needs)))
   needs_kept kept = viewed_kept by_name (λ (n : NeedTree). n.«package») (asked.needs needs) (viewed_kept by_tree asked.need needs (all_kept need_breaks needs kept))
 
-  pub need_is_broken : (k : ℕ) (n : Need) → k < length needs → (fault : PackageFault) → IsFaultOf (need_breaks (get_or needs k n)) fault → IsFaultOf (VersionsBreak (packages_in (asked.needs needs))) fault
-  need_is_broken k n within fault is =
+  pub need_is_broken : (k : ℕ) (n : Need) → k < length needs → n ≡ get_or needs k n → (fault : PackageFault) → IsFaultOf (need_breaks n) fault → IsFaultOf (VersionsBreak (packages_in (asked.needs needs))) fault
+  need_is_broken k n within here fault is =
       viewed_breaks by_name (λ (n : NeedTree). n.«package») (asked.needs needs) fault
-      (viewed_breaks by_tree asked.need needs fault (one_breaks need_breaks needs k (get_or needs k n) (slice_get-get_or needs k n within) fault is))
+      (viewed_breaks by_tree asked.need needs fault (one_breaks need_breaks needs k n (read_at needs k n within here) fault is))

@@ -8,7 +8,7 @@ use Rattle.wit_types.specs.declared.interface.TypeDef.{TypeDef}
 use Rattle.wit_types.specs.declared.world.World.{World}
 use Rattle.wit_types.specs.declared.«package».UnresolvedPackage.{UnresolvedPackage}
 use Rattle.wit_syntax.specs.Ast.{PackageNameTree, FileTree}
-use Rattle.wit_scopes.specs.Scopes.{WorldScope, ItemScope, package_scopes}
+use Rattle.wit_scopes.specs.Scopes.{WorldScope, ItemScope, package_scopes, package_docs}
 use Rattle.wit_rules.specs.Facts.{IsDeclared}
 use Rattle.name_places.specs.FirstPlaces.{place_of}
 use Rattle.wit_arena.specs.Tree.{Name, in_world, Owner, Tree}
@@ -32,7 +32,7 @@ use Rattle.wit_worlds.specs.Worlds.{AreWorldsIn}
 use Rattle.wit_readiness.proofs.Parts.{declared_kept}
 use Rattle.wit_package.specs.Start.{IsStart}
 use Rattle.wit_package.specs.Built.{MayBuild, Builds}
-use Rattle.wit_package.specs.Resolved.{foreign_owners, owner_in, owners_of, context_of, package_docs, IsMade, IsResolved}
+use Rattle.wit_package.specs.Resolved.{foreign_owners, owner_in, owners_of, context_of, IsMade, IsResolved}
 use Rattle.wit_package.proofs.Owning.{interface_owners_length, world_owners_length, interface_owned, world_owned}
 use Rattle.wit_package.proofs.Scoping.{interface_there, world_there}
 

@@ -2,6 +2,7 @@
 use Rattle.std.specs.Prelude.{◌≡◌, List, ◌∷◌, map, Some}
 use Rattle.wit_words.specs.declared.source_map.Span.{Span}
 use Rattle.wit_syntax.specs.Ast.{PackageNameTree, FileTree}
+use Rattle.wit_scopes.specs.Paths.{file_uses}
 use Rattle.wit_scopes.specs.Members.{MemberTree}
 use Rattle.wit_scopes.specs.Scopes as scope
 use Rattle.wit_scopes.specs.Scopes.{ListedTree, InterfaceScope, WorldScope, ItemScope, package_scopes}
@@ -46,7 +47,7 @@ named_packages me scopes = me ∷ packages_in (needs_in scopes)
 -- the files of a package: they break a rule by themselves, or over their names, or lead back to themselves, or one of their scopes does
 pub data PackageBreaks (files : List FileTree) (rule : PackageRule) (at : Span) : Type 0 where
   by_files : FilesBreak files rule at → PackageBreaks files rule at
-  by_lookups : (me : PackageNameTree) → package_name files ≡ Some me → LookupsBreak me files (package_scopes me files) rule at → PackageBreaks files rule at
+  by_lookups : (me : PackageNameTree) → package_name files ≡ Some me → LookupsBreak me (file_uses files) (package_scopes me files) rule at → PackageBreaks files rule at
   by_versions : (me : PackageNameTree) → package_name files ≡ Some me → VersionsBreak (named_packages me (package_scopes me files)) rule at → PackageBreaks files rule at
   by_circle : (me : PackageNameTree) → package_name files ≡ Some me → CircleBreaks (map item_entry (package_scopes me files)) rule at → PackageBreaks files rule at
   by_scope : (me : PackageNameTree) → package_name files ≡ Some me → OneScopeBreaks (package_text me) (package_scopes me files) rule at → PackageBreaks files rule at

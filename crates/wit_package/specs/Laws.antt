@@ -1,12 +1,13 @@
 -- What is built of the files of a package is what they are resolved to (WIT, Packages).
 use Rattle.std.specs.Prelude.{◌≡◌, ◌+◌, ◌≤◌, List, Some, length}
 use Rattle.wit_words.specs.declared.source_map.Span.{Span}
-use Rattle.wit_syntax.specs.Ast.{PackageNameTree, FileTree}
+use Rattle.wit_syntax.specs.Ast.{PackageNameTree, ToplevelUseTree, FileTree}
 use Rattle.wit_types.specs.declared.interface.Interface.{Interface}
 use Rattle.wit_types.specs.declared.interface.TypeDef.{TypeDef}
 use Rattle.wit_types.specs.declared.world.World.{World}
 use Rattle.wit_types.specs.declared.«package».UnresolvedPackage.{UnresolvedPackage}
-use Rattle.wit_scopes.specs.Scopes.{ItemScope, InterfaceScope, WorldScope, package_scopes}
+use Rattle.wit_scopes.specs.Paths.{file_uses}
+use Rattle.wit_scopes.specs.Scopes.{ItemScope, InterfaceScope, WorldScope, package_scopes, package_docs}
 use Rattle.wit_rules.specs.declared.fault.PackageRule.{PackageRule}
 use Rattle.wit_rules.specs.declared.fault.PackageFault.{PackageFault}
 use Rattle.wit_rules.specs.Breaks.{IsKept, IsFaultOf}
@@ -25,12 +26,12 @@ use Rattle.wit_built_worlds.specs.Adding.{WorldsBreak, AreReadyBehind, MayAddWor
 use Rattle.wit_package.specs.Start.{IsStart}
 use Rattle.wit_package.specs.Built.{AreReadyTogether, MayBuild, Builds, ItemsBreak}
 use Rattle.wit_package.specs.Faults.{OneScopeBreaks, MissingComesFirst}
-use Rattle.wit_package.specs.Resolved.{package_docs, context_of, IsMade, IsResolved}
+use Rattle.wit_package.specs.Resolved.{context_of, IsMade, IsResolved}
 
 -- a package by its files, of which all names are found, its order and what it asks of others, before anything of its own is brought in
 pub record IsBegun (files : List FileTree) (me : PackageNameTree) (sorted : List ItemScope) (items : Items) (k : KnownTypes) (a : List TypeDef) (ns : List Nature) (interfaces : List Interface) (names : List Name) (worlds : List World) (spans : List Span) : Type 0 where
   pub declared : IsDeclared files me (package_scopes me files)
-  pub found : IsKept (LookupsBreak me files (package_scopes me files))
+  pub found : IsKept (LookupsBreak me (file_uses files) (package_scopes me files))
   pub are_sorted : AreItemsSorted (package_scopes me files) sorted
   pub items_are : AreItemsOf (needs_in (package_scopes me files)) items
   pub start : IsStart (needs_in (package_scopes me files)) items k a ns interfaces names worlds spans
@@ -78,5 +79,5 @@ ItemsBreakAsScopesDo = (c : Context) (sorted : List ItemScope) → AreItemsSorte
 -- a name that isn't there is told before a circle: what the files break by themselves and where names are looked up is no circle, and where names are found none is missing
 pub record MissingNamesComeFirst (files : List FileTree) : Type 0 where
   pub by_files : (fault : PackageFault) → IsFaultOf (FilesBreak files) fault → MissingComesFirst files fault
-  pub by_lookups : (me : PackageNameTree) (scopes : List ItemScope) (fault : PackageFault) → IsFaultOf (LookupsBreak me files scopes) fault → MissingComesFirst files fault
-  pub behind : (me : PackageNameTree) → package_name files ≡ Some me → IsKept (LookupsBreak me files (package_scopes me files)) → (fault : PackageFault) → MissingComesFirst files fault
+  pub by_lookups : (me : PackageNameTree) (uses : List (List ToplevelUseTree)) (scopes : List ItemScope) (fault : PackageFault) → IsFaultOf (LookupsBreak me uses scopes) fault → MissingComesFirst files fault
+  pub behind : (me : PackageNameTree) → package_name files ≡ Some me → IsKept (LookupsBreak me (file_uses files) (package_scopes me files)) → (fault : PackageFault) → MissingComesFirst files fault

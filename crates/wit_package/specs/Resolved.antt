@@ -1,15 +1,15 @@
 -- A package of which the names from other packages are not looked up yet (WIT, Packages).
-use Rattle.std.specs.Prelude.{◌≡◌, ℕ, List, [], ◌∷◌, ◌++◌, map, flat_map, Option, Some, None, length}
+use Rattle.std.specs.Prelude.{◌≡◌, ℕ, List, [], ◌∷◌, ◌++◌, map, flat_map, Some, length}
 use Rattle.wit_words.specs.declared.source_map.Span.{Span}
 use Rattle.wit_words.specs.Slice.{Slice}
-use Rattle.wit_syntax.specs.Ast.{PackageNameTree, HeaderTree, FileTree}
+use Rattle.wit_syntax.specs.Ast.{PackageNameTree, FileTree}
 use Rattle.wit_types.specs.declared.interface.Interface.{Interface}
 use Rattle.wit_types.specs.declared.interface.TypeDef.{TypeDef}
 use Rattle.wit_types.specs.declared.world.World.{World}
 use Rattle.wit_types.specs.declared.«package».AstItem.{AstItem}
 use Rattle.wit_types.specs.declared.«package».AstItem.TheVariants as ids
 use Rattle.wit_types.specs.declared.«package».UnresolvedPackage.{UnresolvedPackage}
-use Rattle.wit_scopes.specs.Scopes.{ItemScope, package_scopes}
+use Rattle.wit_scopes.specs.Scopes.{ItemScope, package_scopes, package_docs}
 use Rattle.wit_rules.specs.Facts.{package_name}
 use Rattle.wit_arena.specs.Tree.{Name, PackageText, Place, in_world, Owner, Tree}
 use Rattle.wit_arena.specs.Arena.{IsUnique}
@@ -53,21 +53,6 @@ owners_of me items sorted = record {
 
 abbrev pub context_of : PackageNameTree → List FileTree → Items → List ItemScope → Context
 context_of me files items sorted = record { me = package_text me; scopes = package_scopes me files; owners = owners_of (package_text me) items sorted }
-
--- ---- what is said of the package
-
-abbrev pub header_docs : Option HeaderTree → List Slice
-header_docs None = []
-header_docs (Some h) = h.docs
-
--- the docs of the first header that has some
-abbrev pub or_docs : List Slice → List Slice → List Slice
-or_docs [] others = others
-or_docs (d ∷ ds) others = d ∷ ds
-
-abbrev pub package_docs : List FileTree → List Slice
-package_docs [] = []
-package_docs (f ∷ fs) = or_docs (header_docs f.header) (package_docs fs)
 
 -- ---- the package
 

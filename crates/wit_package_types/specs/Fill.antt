@@ -9,7 +9,7 @@ use Rattle.wit_types.specs.declared.interface.TypeOwner.{TypeOwner}
 use Rattle.wit_items.specs.ItemTree.{TypeDefKindTree}
 use Rattle.wit_scopes.specs.Paths.{TargetTree}
 use Rattle.wit_scopes.specs.Members.{MemberKind, MemberTree, used, defined, function, method, static, constructor}
-use Rattle.wit_scopes.specs.TypeNames.{definition_parts, names_in_parts}
+use Rattle.wit_type_names.specs.TypeNames.{definition_parts, names_in_parts}
 use Rattle.wit_arena.specs.Tree.{Name}
 use Rattle.wit_arena.specs.Table.{Entries}
 use Rattle.wit_arena.specs.Meaning.{Has}

@@ -5,11 +5,10 @@ ghost use Rattle.wit_scopes.specs.View as scope_view;
 ghost use Rattle.wit_package_types.specs.Stability.{AreGates};
 ghost use Rattle.wit_package_types.specs.Fill as spec;
 
-use crate::docs::docs_behind;
 use crate::known::Known;
-use crate::stability::stability_of;
+use crate::stability::stability_in;
 use std::alloc::AllocError;
-use wit_arena::{Table, Types, lower_kind};
+use wit_arena::{Table, Types, docs_of, lower_kind};
 use wit_scopes::{Member, MemberKind};
 use wit_types::{Type, TypeDef, TypeDefKind, TypeId, TypeOwner};
 
@@ -47,8 +46,8 @@ fn define_type<'a>(
 {
     let kind = kind_in(types, known, table, &member.kind)?;
     let name = String::from_str(types.allocator(), member.name.name)?;
-    let docs = docs_behind(types.allocator(), &member.docs)?;
-    let stability = stability_of(types.allocator(), member.attributes)?;
+    let docs = docs_of(types.allocator(), &member.front.docs)?;
+    let stability = stability_in(types.allocator(), &member.front)?;
     types.define(TypeDef {
         name: Some(name),
         kind,

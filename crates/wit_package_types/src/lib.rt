@@ -1,14 +1,12 @@
 //! The types of a package in an arena: each definition and each name that is used, behind all that it is made of.
 #![tactic(auto)]
 
-mod docs;
 mod fill;
 mod foreign;
 mod known;
 mod law;
 mod stability;
 
-pub use docs::docs_behind;
 pub use fill::fill_types;
 pub use foreign::{ForeignTypes, TypePath};
 pub use known::Known;
@@ -16,4 +14,4 @@ pub use law::{
     law_distinct_names_are_of_one_type, law_filled_types_stand_for_their_meaning,
     law_kept_attributes_are_gates,
 };
-pub use stability::{optional_version, stability_of};
+pub use stability::{optional_version, stability_in};

@@ -8,6 +8,7 @@ ghost use Rattle.wit_package_types.specs.Stability as spec;
 use semver::Version;
 use std::alloc::{AllocError, Global};
 use wit_rules::{Gates, gates_of};
+use wit_scopes::Front;
 use wit_syntax::Attribute;
 use wit_types::Stability;
 
@@ -77,4 +78,12 @@ pub fn stability_of(alloc: Global, attributes: &[Attribute<'_>]) -> Result<Stabi
         Some(gates) => gated(alloc, &gates),
         None => unreachable!(),
     }
+}
+
+/// The same by what stands in front of it.
+pub fn stability_in(alloc: Global, front: &Front<'_>) -> Result<Stability, AllocError>
+    requires { spec.AreGates (map view.attribute front.now.attributes.items) }
+    ensures { IfOk result (spec.IsStabilityOf (map view.attribute front.now.attributes.items)) }
+{
+    stability_of(alloc, front.attributes.as_slice())
 }

@@ -9,7 +9,7 @@ use Rattle.wit_scopes.specs.Members.{MemberKind, used, defined, function, method
 use Rattle.wit_scopes.specs.Paths.{own}
 use Rattle.wit_scopes.specs.Scopes as scope
 use Rattle.wit_scopes.specs.Scopes.{InterfaceScope, WorldScope, ItemScope}
-use Rattle.wit_scopes.specs.TypeNames.{names_in_member}
+use Rattle.wit_type_names.specs.TypeNames.{names_in_member}
 use Rattle.wit_rules.specs.declared.fault.PackageRule.TheVariants.{NameNotFound, WrongKind}
 use Rattle.wit_rules.specs.Breaks.{IsKept}
 use Rattle.wit_lookups.specs.Lookups.{NameBreaks, found_interface, found_world, PathBreaks, TypeOfItemBreaks, TypesBreak, MemberKindBreaks}

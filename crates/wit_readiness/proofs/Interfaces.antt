@@ -3,6 +3,7 @@ use Rattle.std.proofs.Common.{◌≡◌, ℕ, List, [], inl, inr, Some, map, tak
 use Rattle.std.proofs.lemmas.Option.{slice_get-map}
 use Rattle.std.specs.Prelude.{slice_get, option_map}
 use Rattle.wit_syntax.specs.Ast.{PackageNameTree, FileTree}
+use Rattle.wit_scopes.specs.Paths.{file_uses}
 use Rattle.wit_scopes.specs.Scopes as scope
 use Rattle.wit_scopes.specs.Scopes.{InterfaceScope, ItemScope}
 use Rattle.wit_rules.specs.Labels.{scope_name}
@@ -12,7 +13,7 @@ use Rattle.wit_rules.specs.Facts.{ScopesBreak, IsDeclared}
 use Rattle.wit_rules.proofs.Apart.{apart}
 use Rattle.wit_lookups.specs.Lookups as look
 use Rattle.wit_lookups.specs.Lookups.{ItemBreaks, LookupsBreak}
-use Rattle.wit_lookups.specs.Names.{known_at, item_file, file_known_names, item_name}
+use Rattle.wit_lookups.specs.Names.{known_at, item_file, known_names, item_name}
 use Rattle.wit_arena.specs.Meaning.{Has}
 use Rattle.wit_arena.proofs.Lists.{has_none, has_here}
 use Rattle.wit_foreign.specs.Needs.{item_needs}
@@ -32,7 +33,7 @@ scopes_apart scopes kept i j s t at_i at_j same =
     apart (map scope_name scopes) (λ rule at b. kept rule at (fact.ScopesBreak.by_names b)) i j (scope_name s) (scope_name t) (slice_get-map scope_name scopes i ∙ ap (option_map scope_name) at_i)
     (slice_get-map scope_name scopes j ∙ ap (option_map scope_name) at_j) same
 
-pub item_keeps : (files : List FileTree) (me : PackageNameTree) (scopes : List ItemScope) → IsKept (LookupsBreak me files scopes) → (s : ItemScope) → Has scopes s → IsKept (ItemBreaks scopes (known_at (map file_known_names files) (item_file s)) s)
+pub item_keeps : (files : List FileTree) (me : PackageNameTree) (scopes : List ItemScope) → IsKept (LookupsBreak me (file_uses files) scopes) → (s : ItemScope) → Has scopes s → IsKept (ItemBreaks scopes (known_at (map known_names (file_uses files)) (item_file s)) s)
 item_keeps files me scopes kept s (k, at) rule place b = kept rule place (look.by_item (record { place = k; one = s; there = at; breaks = b }))
 
 pub scope_resources : (files : List FileTree) (me : PackageNameTree) (scopes : List ItemScope) → IsDeclared files me scopes → (s : ItemScope) → Has scopes s → ScopeHasResources s
@@ -46,7 +47,7 @@ pub interface_given : (s : ItemScope) (i : InterfaceScope) → Has (interface_of
 interface_given (scope.ItemScope.interface j) i h = ap (λ (z : InterfaceScope). scope.ItemScope.interface z) (sym (has_one j i h))
 interface_given (scope.world w) i h = absurd (has_none i h)
 
-module _ (files : List FileTree) (me : PackageNameTree) (scopes sorted : List ItemScope) (others : Foreign) (declared : IsDeclared files me scopes) (kept : IsKept (LookupsBreak me files scopes)) (are : AreItemsSorted scopes sorted) (finds : FindsForeign scopes others) where
+module _ (files : List FileTree) (me : PackageNameTree) (scopes sorted : List ItemScope) (others : Foreign) (declared : IsDeclared files me scopes) (kept : IsKept (LookupsBreak me (file_uses files) scopes)) (are : AreItemsSorted scopes sorted) (finds : FindsForeign scopes others) where
   interfaces_apart : AreApartBy (λ (i : InterfaceScope). i.name.text) (interfaces_of sorted)
   interfaces_apart =
       flat_apart interface_of interface_one (λ (i : InterfaceScope). i.name.text) sorted
@@ -60,7 +61,7 @@ module _ (files : List FileTree) (me : PackageNameTree) (scopes sorted : List It
       let has : Has scopes (scope.ItemScope.interface i) = item_among scopes sorted are (scope.ItemScope.interface i) (g.place, here) in
       let rules : IsKept (fact.MembersBreak i.members) = members_keep scopes (declared_kept files me scopes declared) i has in
       record {
-        members = members_fit scopes others finds (take n (interfaces_of sorted)) (known_at (map file_known_names files) i.file) i.members rules (scope_resources files me scopes declared (scope.ItemScope.interface i) has)
+        members = members_fit scopes others finds (take n (interfaces_of sorted)) (known_at (map known_names (file_uses files)) i.file) i.members rules (scope_resources files me scopes declared (scope.ItemScope.interface i) has)
             (item_keeps files me scopes kept (scope.ItemScope.interface i) has) (λ m needed. flat_has item_needs scopes (scope.ItemScope.interface i) m has needed)
             (λ x j named item.
             (let r = needed_in_front scopes sorted are g.place (scope.ItemScope.interface i) x item.place (scope.ItemScope.interface j) here named item.place_is item.there in

@@ -8,10 +8,10 @@ use Rattle.wit_syntax.specs.Ast.{PackageNameTree, ToplevelUseTree, ExternTree, W
 use Rattle.wit_scopes.specs.declared.worlds.Side.{Side}
 use Rattle.wit_scopes.specs.declared.worlds.Side.TheVariants.{Import, Export}
 use Rattle.wit_scopes.specs.Paths.{target, item_uses}
-use Rattle.wit_scopes.specs.Members.{MemberKind, MemberTree, used, defined, function, method, static, constructor, used_member, uses_members, resource_member_kind, resource_member, functions_of, member_of, type_members, interface_item_members, interface_members}
+use Rattle.wit_scopes.specs.Members.{MemberKind, MemberTree, used, defined, function, method, static, constructor, used_member, uses_members, resource_member_kind, resource_member, resource_funcs, without_functions, member_of, type_members, interface_item_members, interface_members}
 use Rattle.wit_scopes.specs.Scopes as scope
 use Rattle.wit_scopes.specs.Scopes.{ExternKind, ListedTree, WorldMemberTree, InterfaceScope, WorldScope, ItemScope, extern_kind, world_item_members, world_members, ast_item_scopes, file_item_scopes, items_scopes, scopes_from, package_scopes}
-use Rattle.wit_scopes.specs.TypeNames.{names_in_member}
+use Rattle.wit_type_names.specs.TypeNames.{names_in_member}
 use Rattle.wit_arena.specs.Meaning.{Has}
 use Rattle.wit_arena.specs.Standing.{IsOfType}
 use Rattle.wit_arena.proofs.Lists.{has_none, has_here, has_cases, has_map, map_has}
@@ -59,25 +59,20 @@ function_resource d (tree.constructor ps t) r h = has_one d r h
 function_resource d (tree.method f) r h = has_one d r h
 function_resource d (tree.static f) r h = has_one d r h
 
-functions_resource : (d : Slice) (k : TypeDefKindTree) (m : MemberTree) (r : Slice) → Has (functions_of d k) m → Has (resource_of m.kind) r → r ≡ d
-functions_resource d (tree.resource fs) m r h k =
+functions_resource : (d : Slice) (fs : List (GatedTree ResourceFuncTree)) (m : MemberTree) (r : Slice) → Has (map (resource_member d) fs) m → Has (resource_of m.kind) r → r ≡ d
+functions_resource d fs m r h k =
     let f = map_has (resource_member d) fs m h in
     function_resource d f.0.item r (subst (λ (n : MemberTree). Has (resource_of n.kind) r) f.2 k)
-functions_resource d (tree.alias t) m r h k = absurd (has_none m h)
-functions_resource d (tree.fields fs) m r h k = absurd (has_none m h)
-functions_resource d (tree.flags fs) m r h k = absurd (has_none m h)
-functions_resource d (tree.labels ls) m r h k = absurd (has_none m h)
-functions_resource d (tree.cases cs) m r h k = absurd (has_none m h)
 
 type_resources : {X : Type 0} (g : GatedTree X) (d : TypeDefTree) → HaveResources (type_members g d)
 type_resources g d m h r k =
-    elim (has_cases (member_of g d.name (defined d.kind)) (functions_of d.name d.kind) m h) as (λ _. HasType (type_members g d) r) [
+    elim (has_cases (member_of g d.name (defined (without_functions d.kind))) (map (resource_member d.name) (resource_funcs d.kind)) m h) as (λ _. HasType (type_members g d) r) [
       | inl e ↦ absurd (has_none r (subst (λ (n : MemberTree). Has (resource_of n.kind) r) e k))
       | inr later ↦ record {
-        type_is = member_of g d.name (defined d.kind);
-        among = has_here (member_of g d.name (defined d.kind)) (functions_of d.name d.kind);
+        type_is = member_of g d.name (defined (without_functions d.kind));
+        among = has_here (member_of g d.name (defined (without_functions d.kind))) (map (resource_member d.name) (resource_funcs d.kind));
         of_type = tt;
-        named = ap (λ (s : Slice). s.text) (sym (functions_resource d.name d.kind m r later k));
+        named = ap (λ (s : Slice). s.text) (sym (functions_resource d.name (resource_funcs d.kind) m r later k));
       }
     ]
 

@@ -5,11 +5,11 @@ use Rattle.wit_words.specs.Slice.{Slice}
 use Rattle.wit_items.specs.ItemTree.{FuncTree}
 use Rattle.wit_syntax.specs.Ast.{PackageNameTree, FileTree}
 use Rattle.wit_scopes.specs.declared.worlds.Side.TheVariants.{Import}
-use Rattle.wit_scopes.specs.Paths.{TargetTree, own, foreign}
+use Rattle.wit_scopes.specs.Paths.{TargetTree, own, foreign, file_uses}
 use Rattle.wit_scopes.specs.Members.{MemberKind, MemberTree, function}
 use Rattle.wit_scopes.specs.Scopes as scope
 use Rattle.wit_scopes.specs.Scopes.{ExternKind, ListedTree, IncludedTree, WorldMemberTree, InterfaceScope, WorldScope, ItemScope}
-use Rattle.wit_scopes.specs.TypeNames.{names_in_func, names_in_member}
+use Rattle.wit_type_names.specs.TypeNames.{names_in_func, names_in_member}
 use Rattle.wit_rules.specs.Labels.{member_label, side_labels}
 use Rattle.wit_rules.specs.Breaks.{IsKept}
 use Rattle.wit_rules.specs.Facts as fact
@@ -18,7 +18,7 @@ use Rattle.wit_rules.proofs.Apart.{givers_apart}
 use Rattle.wit_lookups.specs.declared.asks.Asked.TheVariants.{Interface, World}
 use Rattle.wit_lookups.specs.Lookups as look
 use Rattle.wit_lookups.specs.Lookups.{found_interface, found_world, PathBreaks, OwnMembersBreak, LookupsBreak, known_besides}
-use Rattle.wit_lookups.specs.Names.{Name, known_at, file_known_names, item_name, world_type_names, world_other_names}
+use Rattle.wit_lookups.specs.Names.{Name, known_at, known_names, item_name, world_type_names, world_other_names}
 use Rattle.wit_orders.specs.Needs as order
 use Rattle.wit_orders.specs.Needs.{member_type, types_of, world_member_type, world_types, included_item}
 use Rattle.wit_arena.specs.Meaning.{Has}
@@ -224,7 +224,7 @@ pub world_given : (s : ItemScope) (w : WorldScope) → Has (world_of s) w → s 
 world_given (scope.ItemScope.interface i) w h = absurd (has_none w h)
 world_given (scope.world v) w h = ap (λ (z : WorldScope). scope.world z) (sym (has_one v w h))
 
-module _ (files : List FileTree) (me : PackageNameTree) (scopes sorted : List ItemScope) (others : Foreign) (declared : IsDeclared files me scopes) (kept : IsKept (LookupsBreak me files scopes)) (are : AreItemsSorted scopes sorted) (finds : FindsForeign scopes others) where
+module _ (files : List FileTree) (me : PackageNameTree) (scopes sorted : List ItemScope) (others : Foreign) (declared : IsDeclared files me scopes) (kept : IsKept (LookupsBreak me (file_uses files) scopes)) (are : AreItemsSorted scopes sorted) (finds : FindsForeign scopes others) where
   worlds_apart : AreApartBy (λ (w : WorldScope). w.name.text) (worlds_of sorted)
   worlds_apart =
       flat_apart world_of world_one (λ (w : WorldScope). w.name.text) sorted
@@ -240,7 +240,7 @@ module _ (files : List FileTree) (me : PackageNameTree) (scopes sorted : List It
       let g = given_at world_of world_one sorted n w at in
       let here : slice_get sorted g.place ≡ Some (scope.world w) = g.there ∙ ap (λ (s : ItemScope). Some s) (world_given g.one_is w g.gives) in
       let has : Has scopes (scope.world w) = item_among scopes sorted are (scope.world w) (g.place, here) in
-      world_ready scopes others finds (interfaces_of sorted) interface_sorted (known_at (map file_known_names files) w.file) w has (world_keeps scopes (declared_kept files me scopes declared) w has)
+      world_ready scopes others finds (interfaces_of sorted) interface_sorted (known_at (map known_names (file_uses files)) w.file) w has (world_keeps scopes (declared_kept files me scopes declared) w has)
       (item_keeps files me scopes kept (scope.world w) has) (scope_resources files me scopes declared (scope.world w) has) (take n (worlds_of sorted))
       (λ x v named item.
       (let r = needed_in_front scopes sorted are g.place (scope.world w) x item.place (scope.world v) here named item.place_is item.there in

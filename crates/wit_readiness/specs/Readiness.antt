@@ -2,6 +2,7 @@
 use Rattle.std.specs.Prelude.{◌≡◌, ℕ, List, Some}
 use Rattle.wit_words.specs.Slice.{Slice}
 use Rattle.wit_syntax.specs.Ast.{PackageNameTree, FileTree}
+use Rattle.wit_scopes.specs.Paths.{file_uses}
 use Rattle.wit_scopes.specs.Scopes.{ItemScope}
 use Rattle.wit_rules.specs.Breaks.{IsKept}
 use Rattle.wit_rules.specs.Facts.{IsDeclared}
@@ -30,7 +31,7 @@ pub record AreReadyInOrder (scopes sorted : List ItemScope) (others : Foreign) :
 abbrev pub KeptPackagesAreReady : Type 0
 KeptPackagesAreReady =
     (files : List FileTree) (me : PackageNameTree) (scopes sorted : List ItemScope) (others : Foreign)
-    → IsDeclared files me scopes → IsKept (LookupsBreak me files scopes) → AreItemsSorted scopes sorted → FindsForeign scopes others → AreReadyInOrder scopes sorted others
+    → IsDeclared files me scopes → IsKept (LookupsBreak me (file_uses files) scopes) → AreItemsSorted scopes sorted → FindsForeign scopes others → AreReadyInOrder scopes sorted others
 
 -- what it asks of others has gates that may stand together
 abbrev pub KeptNeedsHaveGates : Type 0

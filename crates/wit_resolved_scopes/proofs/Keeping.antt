@@ -1,7 +1,7 @@
 -- What keeps the rules of its parts keeps its own.
 use Rattle.std.proofs.Common.{List}
 use Rattle.wit_scopes.specs.Members.{MemberKind, MemberTree}
-use Rattle.wit_scopes.specs.TypeNames.{handles_in_member}
+use Rattle.wit_type_names.specs.TypeNames.{handles_in_member}
 use Rattle.wit_rules.specs.Breaks.{IsKept, AnyBreaks}
 use Rattle.wit_arena.specs.Table.{Entries}
 use Rattle.wit_resources.specs.Failing.{HandleFails}

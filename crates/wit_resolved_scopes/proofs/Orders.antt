@@ -13,7 +13,7 @@ use Rattle.wit_order.specs.Order.{IsOrder, AreDependenciesFirst}
 use Rattle.wit_order.specs.Order as order_of
 use Rattle.wit_scopes.specs.Members.{MemberTree}
 use Rattle.wit_orders.specs.Needs.{Entry, labels, NeedsIn, type_entry, AreSorted}
-use Rattle.wit_scopes.specs.TypeNames.{names_in_member}
+use Rattle.wit_type_names.specs.TypeNames.{names_in_member}
 use Rattle.wit_arena.specs.Tree.{Name}
 use Rattle.wit_arena.specs.Meaning.{Has}
 use Rattle.wit_arena.proofs.Lists.{has_none, has_later, has_map}

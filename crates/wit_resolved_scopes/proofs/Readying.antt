@@ -9,7 +9,7 @@ use Rattle.wit_types.specs.declared.interface.TypeOwner.{TypeOwner}
 use Rattle.wit_productions.specs.TypeTree as written
 use Rattle.wit_productions.specs.TypeTree.{TypeTree, TypeShape, TypeOption, TypeRow, standing}
 use Rattle.wit_scopes.specs.Members.{MemberKind, MemberTree, used, defined, function, method, static, constructor}
-use Rattle.wit_scopes.specs.TypeNames.{names_in, names_in_shape, names_in_part, names_in_row, handles_in, handles_in_shape, handles_in_part, handles_in_row, member_parts, names_in_member, handles_in_member}
+use Rattle.wit_type_names.specs.TypeNames.{names_in, names_in_shape, names_in_part, names_in_row, handles_in, handles_in_shape, handles_in_part, handles_in_row, member_parts, names_in_member, handles_in_member}
 use Rattle.wit_orders.specs.Needs.{AreSorted}
 use Rattle.wit_arena.specs.Tree.{Name}
 use Rattle.wit_arena.specs.Table.{Entries}

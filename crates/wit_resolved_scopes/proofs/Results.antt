@@ -12,7 +12,7 @@ use Rattle.wit_types.specs.declared.interface.TypeDef.{TypeDef}
 use Rattle.wit_productions.specs.TypeTree.{TypeTree, TypeOption, opt, a_type}
 use Rattle.wit_scopes.specs.Members.{MemberKind, MemberTree, used, defined, function, method, static, constructor}
 use Rattle.wit_scopes.specs.Scopes.{ItemScope}
-use Rattle.wit_scopes.specs.TypeNames.{param_parts, signature_parts}
+use Rattle.wit_type_names.specs.TypeNames.{param_parts, signature_parts}
 use Rattle.wit_rules.specs.declared.fault.PackageRule.{PackageRule}
 use Rattle.wit_rules.specs.declared.fault.PackageFault.{PackageFault}
 use Rattle.wit_rules.specs.Breaks.{Breaks, IsKept, IsFaultOf}

@@ -14,7 +14,7 @@ use Rattle.wit_arena.specs.Unfold.{Owners, IsWhole}
 use Rattle.wit_arena.specs.Standing.{AreStanding, AreFunctional}
 use Rattle.wit_package_types.specs.Known.{KnownTypes}
 use Rattle.wit_package_types.specs.Standing.{AreKnownStanding, AreOfScope}
-use Rattle.wit_scopes.specs.TypeNames.{handles_in_member}
+use Rattle.wit_type_names.specs.TypeNames.{handles_in_member}
 use Rattle.wit_resources.specs.declared.natures.Nature.{Nature}
 use Rattle.wit_resources.specs.Failing.{HandleFails}
 use Rattle.wit_resources.specs.Rules.{declared_result, PartBreaks, ResultBreaks, DeclaresOther, MemberBreaks}

@@ -7,7 +7,7 @@ use Rattle.wit_types.specs.declared.interface.TypeOwner.{TypeOwner}
 use Rattle.wit_productions.specs.TypeTree.{TypeOption}
 use Rattle.wit_scopes.specs.Members.{MemberTree}
 use Rattle.wit_scopes.specs.Scopes.{ItemScope}
-use Rattle.wit_scopes.specs.TypeNames.{signature_parts}
+use Rattle.wit_type_names.specs.TypeNames.{signature_parts}
 use Rattle.wit_arena.specs.Tree.{Name, PackageText, Place, Owner, Tree, Trees}
 use Rattle.wit_arena.specs.Table.{Entries}
 use Rattle.wit_arena.specs.Meaning.{MeansParts}

@@ -2,7 +2,7 @@
 
 ghost use Rattle.std.specs.Prelude.{◌≡◌, map, OnOk, IfErr, IfOk};
 ghost use Rattle.wit_scopes.specs.Members.{MemberTree};
-ghost use Rattle.wit_scopes.specs.TypeNames.{handles_in_member};
+ghost use Rattle.wit_type_names.specs.TypeNames.{handles_in_member};
 ghost use Rattle.wit_scopes.specs.View as scope_view;
 ghost use Rattle.wit_rules.specs.Breaks.{IsKept, IsFaultOf};
 ghost use Rattle.wit_arena.specs.Lower.{AreThere};

@@ -43,11 +43,11 @@ fn type_place(ty: &Option<Type<'_>>) -> Option<Span>
 fn result_place(kind: &MemberKind<'_>) -> Option<Span>
     ensures { result ≡ option_map type_span (declared_result (scope_view.member_kind kind.now)) }
 {
-    match *kind {
+    match kind {
         MemberKind::Function(func) => type_place(&func.result),
         MemberKind::Method { func, .. } => type_place(&func.result),
         MemberKind::Static { func, .. } => type_place(&func.result),
-        MemberKind::Constructor { result, .. } => type_place(result),
+        MemberKind::Constructor { func, .. } => type_place(&func.result),
         _ => None,
     }
 }

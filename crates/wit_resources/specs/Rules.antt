@@ -6,7 +6,7 @@ use Rattle.wit_words.specs.Slice.{Slice}
 use Rattle.wit_productions.specs.TypeTree.{TypeTree, standing}
 use Rattle.wit_scopes.specs.Members.{MemberKind, MemberTree, used, defined, function, method, static, constructor}
 use Rattle.wit_scopes.specs.Scopes.{ItemScope}
-use Rattle.wit_scopes.specs.TypeNames.{handles_in_member}
+use Rattle.wit_type_names.specs.TypeNames.{handles_in_member}
 use Rattle.wit_rules.specs.declared.fault.PackageRule.{PackageRule}
 use Rattle.wit_rules.specs.declared.fault.PackageRule.TheVariants.{BorrowInResult, BadConstructor, BadHandle}
 use Rattle.wit_rules.specs.Breaks.{Breaks, AnyBreaks}

@@ -3,7 +3,7 @@
 ghost use Rattle.std.specs.Prelude.{◌≡◌, Some, map, option_map, OnOk, IfErr};
 ghost use Rattle.wit_syntax.specs.AstView as view;
 ghost use Rattle.wit_productions.specs.TypeView.{type_tree, type_shape};
-ghost use Rattle.wit_scopes.specs.TypeView.{part_tree};
+ghost use Rattle.wit_type_names.specs.TypeView.{part_tree};
 ghost use Rattle.wit_scopes.specs.View as scope_view;
 ghost use Rattle.wit_rules.specs.Breaks.{IsKept, IsFaultOf};
 ghost use Rattle.wit_resources.specs.Results as spec;
@@ -44,23 +44,37 @@ fn is_result_of(ty: &TypeKind<'_>, resource: &str) -> bool
     }
 }
 
+/// Whether a definition is directly a `result` of a resource.
+fn is_alias_of_result(kind: &TypeDefKind<'_>, resource: &str) -> bool
+    ensures { result ≡ spec.kind_defines resource.now (view.type_def_kind kind.now) }
+{
+    match kind {
+        TypeDefKind::Alias(ty) => is_result_of(&ty.kind, resource),
+        _ => false,
+    }
+}
+
 /// Whether a member directly defines a `result` of a resource.
 fn defines_result(member: &Member<'_>, resource: &str) -> bool
     ensures { result ≡ spec.member_defines resource.now (Some (scope_view.member member.now)) }
 {
-    match member.kind {
-        MemberKind::Defined(TypeDefKind::Alias(ty)) => is_result_of(&ty.kind, resource),
+    match &member.kind {
+        MemberKind::Defined(kind) => is_alias_of_result(kind, resource),
         _ => false,
     }
 }
 
 /// The type of a name.
-fn type_named<'a>(types: &[Member<'a>], names: &FirstPlaces<'_>, name: &str) -> Option<Member<'a>>
+fn type_named<'s, 'a>(
+    types: &'s [Member<'a>],
+    names: &FirstPlaces<'_>,
+    name: &str,
+) -> Option<&'s Member<'a>>
     requires { names.now ≡ map (λ m. m.name.text) (scope_view.members types.now) }
-    ensures { option_map scope_view.member result ≡ spec.type_named (scope_view.members types.now) name.now }
+    ensures { option_map (λ m. scope_view.member m.now) result ≡ spec.type_named (scope_view.members types.entry.now) name.now }
 {
     let place = names.first(name)?;
-    types.get(place).copied()
+    types.get(place)
 }
 
 /// Whether a type is the name of a type that directly defines a `result` of a resource.
@@ -77,7 +91,7 @@ fn names_result(
         return false;
     };
     match type_named(types, names, name.name) {
-        Some(member) => defines_result(&member, resource),
+        Some(member) => defines_result(member, resource),
         None => false,
     }
 }
@@ -117,11 +131,7 @@ pub fn check_constructor(
     ensures cause { IfErr result (IsFaultOf (DeclaresOther (scope_view.members types.now) (scope_view.member_kind kind.now))) }
 {
     match kind {
-        MemberKind::Constructor {
-            resource,
-            result,
-            ..
-        } => match result {
+        MemberKind::Constructor { resource, func } => match &func.result {
             Some(ty) => check_declared(types, names, resource, ty),
             None => Ok(()),
         },

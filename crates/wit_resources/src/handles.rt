@@ -3,7 +3,7 @@
 ghost use Rattle.std.specs.Prelude.{◌≡◌, ◌∷◌, [], map, Option, option_map, OnOk, IfErr, IfOk};
 ghost use Rattle.wit_syntax.specs.AstView as view;
 ghost use Rattle.wit_productions.specs.TypeView.{type_tree};
-ghost use Rattle.wit_scopes.specs.TypeNames.{handles_in_member};
+ghost use Rattle.wit_type_names.specs.TypeNames.{handles_in_member};
 ghost use Rattle.wit_scopes.specs.View as scope_view;
 ghost use Rattle.wit_rules.specs.Breaks.{IsKept, IsFaultOf, AnyBreaks};
 ghost use Rattle.wit_arena.specs.Lower.{AreThere};
@@ -13,8 +13,9 @@ use crate::natures::Natures;
 use std::alloc::Global;
 use wit_arena::Table;
 use wit_rules::{PackageFault, PackageRule};
-use wit_scopes::{MemberKind, member_handle_names};
+use wit_scopes::MemberKind;
 use wit_syntax::{Id, Span};
+use wit_type_names::member_handle_names;
 use wit_types::Type;
 
 /// Refuses a handle of what is no resource. Its name is in the table.

@@ -10,7 +10,7 @@ use Rattle.wit_scopes.specs.Scopes.{ListedTree, WorldMemberTree, InterfaceScope,
 use Rattle.wit_rules.specs.Labels.{member_label, names_within, side_labels, side_paths, scope_name}
 use Rattle.wit_rules.specs.Breaks.{IsKept, AnyBreaks, NamesBreak, PathsBreak, GatesBreak}
 use Rattle.wit_rules.specs.Facts as fact
-use Rattle.wit_rules.specs.Facts.{CasesBreak, MemberBreaks, MembersBreak, ExternBreaks, ListedBreaks, WorldMemberBreaks, SideBreaks, WorldBreaks, InterfaceBreaks, WorldItemBreaks, ScopeBreaks, ScopesBreak, FileBreaks, HeaderBreaks, PackageBreaks, FilesBreak, package_name}
+use Rattle.wit_rules.specs.Facts.{CasesBreak, MemberBreaks, MembersBreak, ExternBreaks, ListedBreaks, WorldMemberBreaks, SideBreaks, WorldBreaks, InterfaceBreaks, WorldItemBreaks, ScopeBreaks, ScopesBreak, FileBreaks, HeaderBreaks, PackageBreaks, FilesBreak, package_name, IsNamed, IsDeclared}
 
 pub member_kept : (m : MemberTree) → IsKept (GatesBreak m.attributes) → IsKept (CasesBreak m) → IsKept (NamesBreak (names_within m.kind m.name)) → IsKept (MemberBreaks m)
 member_kept m gates cases names rule at (fact.MemberBreaks.by_gates b) = gates rule at b
@@ -54,3 +54,7 @@ package_kept me files headers scopes each rule at (fact.by_file b) = each rule a
 pub files_kept : (me : PackageNameTree) (files : List FileTree) → package_name files ≡ Some me → IsKept (PackageBreaks me files) → IsKept (FilesBreak files)
 files_kept me files named kept rule at (fact.no_header is none place) = (let e : Some me ≡ None = sym named ∙ none in absurd cc)
 files_kept me files named kept rule at (fact.in_package other is b) = kept rule at (subst (λ (p : PackageNameTree). PackageBreaks p files rule at) (same_Some other me (sym is ∙ named)) b)
+
+-- files whose headers, names, interfaces and worlds break no rule
+pub declared_kept : (files : List FileTree) (me : PackageNameTree) (scopes : List ItemScope) → IsNamed files me → scopes ≡ package_scopes me files → IsKept (ScopesBreak (package_scopes me files)) → IsDeclared files me scopes
+declared_kept files me scopes by are kept = record { named = by.named; scopes_are = are; kept = files_kept me files by.named (package_kept me files by.kept.headers kept by.kept.names) }

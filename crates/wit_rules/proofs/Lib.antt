@@ -7,3 +7,4 @@ pub mod Named
 pub mod Refused
 pub mod Apart
 pub mod Gating
+pub mod Declaring

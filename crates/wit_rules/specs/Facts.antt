@@ -140,6 +140,16 @@ pub data FilesBreak (files : List FileTree) (rule : PackageRule) (at : Span) : T
   no_header : rule ≡ NoPackageName → package_name files ≡ None → at ≡ record { start = 0; end = 0 } → FilesBreak files rule at
   in_package : (me : PackageNameTree) → package_name files ≡ Some me → PackageBreaks me files rule at → FilesBreak files rule at
 
+-- no header of files names another package than this, and no file has two names of one key
+pub record AreFilesKept (me : PackageNameTree) (files : List FileTree) : Type 0 where
+  pub headers : IsKept (AnyBreaks (HeaderBreaks me) files)
+  pub names : IsKept (AnyBreaks FileBreaks files)
+
+-- besides, the first header names it
+pub record IsNamed (files : List FileTree) (me : PackageNameTree) : Type 0 where
+  pub named : package_name files ≡ Some me
+  pub kept : AreFilesKept me files
+
 -- what the files of a package declare that break no rule by themselves
 pub record IsDeclared (files : List FileTree) (me : PackageNameTree) (scopes : List ItemScope) : Type 0 where
   pub named : package_name files ≡ Some me

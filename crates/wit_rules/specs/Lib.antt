@@ -4,3 +4,4 @@ pub mod Breaks
 pub mod Labels
 pub mod Facts
 pub mod View
+pub mod DeclaredView

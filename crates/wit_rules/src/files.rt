@@ -5,24 +5,28 @@ ghost use Rattle.wit_scopes.specs.Scopes.{package_scopes};
 ghost use Rattle.wit_scopes.specs.View as scope_view;
 ghost use Rattle.wit_syntax.specs.AstView as view;
 ghost use Rattle.wit_rules.specs.Breaks.{IsKept, IsFaultOf, AnyBreaks, NamesBreak};
+ghost use Rattle.wit_rules.specs.declared.fault.PackageFault.TheVariants.{OutOfMemory};
 ghost use Rattle.wit_rules.specs.Facts as spec;
+ghost use Rattle.wit_rules.specs.DeclaredView as seen;
 
 use crate::checked::{Checked, check_all, check_names};
 use crate::fault::{PackageFault, PackageRule};
-use crate::gates::check_gates;
+use crate::gates::check_front;
 use crate::labels::{file_labels, scope_label};
 use crate::members::check_members;
 use crate::worlds::check_world;
 use std::alloc::Global;
-use wit_scopes::{InterfaceScope, ItemScope, WorldScope, is_same_package, package_scopes};
-use wit_syntax::{File, PackageName, Span};
+use wit_scopes::{
+    InterfaceScope, ItemScope, PackageScopes, WorldScope, is_same_package, package_scopes,
+};
+use wit_syntax::{Docs, File, PackageName, Span, ToplevelUse};
 
 /// Refuses an interface that breaks a rule.
 fn check_interface<'a>(alloc: Global, interface: &InterfaceScope<'a>) -> Result<(), PackageFault>
     ensures ok { OnOk result (IsKept (spec.InterfaceBreaks (scope_view.interface_scope interface.now))) }
     ensures cause { IfErr result (IsFaultOf (spec.InterfaceBreaks (scope_view.interface_scope interface.now))) }
 {
-    check_gates(interface.attributes)?;
+    check_front(&interface.front)?;
     check_members(alloc, interface.members.as_slice())
 }
 
@@ -31,7 +35,7 @@ fn check_world_item<'a>(alloc: Global, world: &WorldScope<'a>) -> Result<(), Pac
     ensures ok { OnOk result (IsKept (spec.WorldItemBreaks (scope_view.world_scope world.now))) }
     ensures cause { IfErr result (IsFaultOf (spec.WorldItemBreaks (scope_view.world_scope world.now))) }
 {
-    check_gates(world.attributes)?;
+    check_front(&world.front)?;
     let members = &world.members;
     check_world(alloc, members.as_slice())
 }
@@ -96,7 +100,7 @@ fn check_headers<'a>(me: &PackageName<'a>, files: &[File<'a>]) -> Result<(), Pac
 }
 
 /// The name that the first header gives.
-fn first_name<'a>(files: &'a [File<'a>]) -> Option<PackageName<'a>>
+fn first_name<'a>(files: &[File<'a>]) -> Option<PackageName<'a>>
     ensures { option_map view.package_name result ≡ spec.package_name (map view.file files.now) }
 {
     for file in files {
@@ -112,6 +116,10 @@ fn first_name<'a>(files: &'a [File<'a>]) -> Option<PackageName<'a>>
 pub struct Declared<'a> {
     /// The package's name, which the first header gives.
     pub name: PackageName<'a>,
+    /// The docs of the first header that has some.
+    pub docs: Docs<'a>,
+    /// The `use` statements at the top of each of its files.
+    pub uses: Vec<Vec<ToplevelUse<'a>>>,
     /// Its interfaces and worlds, in the order of its files and of their texts.
     pub scopes: Vec<ItemScope<'a>>,
 }
@@ -129,34 +137,84 @@ fn check_scopes<'a>(alloc: Global, declared: &Declared<'a>) -> Result<(), Packag
     check_names(alloc, names.as_slice())
 }
 
-/// Refuses files of a package that break a rule, of which this is what they declare.
+/// Refuses files of a package of that name of which a header names another, or of which one has two names of one key.
 fn check_files<'a>(
     alloc: Global,
-    files: &'a [File<'a>],
-    declared: &Declared<'a>,
+    me: &PackageName<'a>,
+    files: &[File<'a>],
 ) -> Result<(), PackageFault>
-    requires { map scope_view.item_scope declared.now.scopes.items ≡ package_scopes (view.package_name declared.now.name) (map view.file files.now) }
-    ensures ok { OnOk result (IsKept (spec.PackageBreaks (view.package_name declared.now.name) (map view.file files.now))) }
-    ensures cause { IfErr result (IsFaultOf (spec.PackageBreaks (view.package_name declared.now.name) (map view.file files.now))) }
+    ensures ok { OnOk result (spec.AreFilesKept (view.package_name me.now) (map view.file files.now)) }
+    ensures cause { IfErr result (IsFaultOf (spec.PackageBreaks (view.package_name me.now) (map view.file files.now))) }
 {
-    check_headers(&declared.name, files)?;
-    check_all(alloc, files)?;
-    check_scopes(alloc, declared)
+    check_headers(me, files)?;
+    check_all(alloc, files)
+}
+
+/// The files of a package, which are lent together.
+#[derive(Drop)]
+struct PackageFiles<'a> {
+    files: Vec<File<'a>>,
+}
+
+/// The name of a package, where its files have a header, none names another package, and none has two names of one key.
+fn checked_name<'a>(
+    alloc: Global,
+    texts: &PackageFiles<'a>,
+) -> Result<PackageName<'a>, PackageFault>
+    ensures ok { IfOk result (λ n. spec.IsNamed (map view.file texts.now.files.items) (view.package_name n)) }
+    ensures cause { IfErr result (IsFaultOf (spec.FilesBreak (map view.file texts.now.files.items))) }
+{
+    match first_name(texts.files.as_slice()) {
+        None => Err(PackageFault::Broken {
+            rule: PackageRule::NoPackageName,
+            span: Span { start: 0, end: 0 },
+        }),
+        Some(name) => check_files(alloc, &name, texts.files.as_slice()).and(Ok(name)),
+    }
+}
+
+/// What the files of a package of that name declare.
+fn scopes_of<'a>(
+    alloc: Global,
+    name: PackageName<'a>,
+    files: Vec<File<'a>>,
+) -> Result<Declared<'a>, PackageFault>
+    ensures ok { IfOk result (seen.AreScopes (view.package_name name.entry) (map view.file files.entry.items)) }
+    ensures memory { IfErr result (λ fault. fault ≡ OutOfMemory) }
+{
+    let PackageScopes { docs, uses, items } = package_scopes(alloc, name, files)?;
+    Ok(Declared {
+        name,
+        docs,
+        uses,
+        scopes: items,
+    })
+}
+
+/// What the files of a package of that name declare, where its interfaces and worlds break no rule.
+fn checked_scopes<'a>(
+    alloc: Global,
+    name: PackageName<'a>,
+    files: Vec<File<'a>>,
+) -> Result<Declared<'a>, PackageFault>
+    ensures ok { IfOk result (seen.AreScopesKept (view.package_name name.entry) (map view.file files.entry.items)) }
+    ensures cause { IfErr result (IsFaultOf (spec.ScopesBreak (package_scopes (view.package_name name.entry) (map view.file files.entry.items)))) }
+{
+    match scopes_of(alloc, name, files) {
+        Ok(declared) => check_scopes(alloc, &declared).and(Ok(declared)),
+        Err(fault) => Err(fault),
+    }
 }
 
 /// What the files of a package declare, where they break no rule by themselves: P1 to P3, P10 and P11, at the place of the
-/// name or gate that breaks it.
-pub fn declared_in<'a>(alloc: Global, files: &'a [File<'a>]) -> Result<Declared<'a>, PackageFault>
-    ensures ok { IfOk result (λ d. spec.IsDeclared (map view.file files.entry.now) (view.package_name d.name) (map scope_view.item_scope d.scopes.items)) }
-    ensures cause { IfErr result (IsFaultOf (spec.FilesBreak (map view.file files.entry.now))) }
+/// name or gate that breaks it. The parts of the trees go into what they declare.
+pub fn declared_in<'a>(alloc: Global, files: Vec<File<'a>>) -> Result<Declared<'a>, PackageFault>
+    ensures ok { IfOk result (seen.IsDeclaredOf (map view.file files.entry.items)) }
+    ensures cause { IfErr result (IsFaultOf (spec.FilesBreak (map view.file files.entry.items))) }
 {
-    let Some(name) = first_name(files) else {
-        return Err(PackageFault::Broken {
-            rule: PackageRule::NoPackageName,
-            span: Span { start: 0, end: 0 },
-        });
-    };
-    let scopes = package_scopes(alloc, name, files)?;
-    let declared = Declared { name, scopes };
-    check_files(alloc, files, &declared).and(Ok(declared))
+    let texts = PackageFiles { files };
+    match checked_name(alloc, &texts) {
+        Ok(name) => checked_scopes(alloc, name, texts.files),
+        Err(fault) => Err(fault),
+    }
 }

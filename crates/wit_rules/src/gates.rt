@@ -7,6 +7,7 @@ ghost use Rattle.wit_rules.specs.Breaks.{IsKept, IsFaultOf, GateFormBreaks, Vers
 ghost use Rattle.wit_rules.specs.View as seen;
 
 use crate::fault::{PackageFault, PackageRule};
+use wit_scopes::Front;
 use wit_syntax::{Attribute, Gate, Id, Version};
 use wit_words::is_read_by_semver;
 
@@ -125,4 +126,12 @@ pub fn check_gates(attributes: &[Attribute<'_>]) -> Result<(), PackageFault>
         Some(gates) => check_gate_versions(&gates),
         None => Err(bad_gates(attributes)),
     }
+}
+
+/// The same of the attributes in front of an item.
+pub fn check_front(front: &Front<'_>) -> Result<(), PackageFault>
+    ensures ok { OnOk result (IsKept (GatesBreak (map view.attribute front.now.attributes.items))) }
+    ensures cause { IfErr result (IsFaultOf (GatesBreak (map view.attribute front.now.attributes.items))) }
+{
+    check_gates(front.attributes.as_slice())
 }

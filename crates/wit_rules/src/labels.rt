@@ -38,7 +38,7 @@ pub fn member_label<'a>(alloc: Global, member: &Member<'a>) -> Result<Label<'a>,
     ensures { IfOk result (λ l. seen.label l ≡ spec.member_label (scope_view.member member.now)) }
 {
     let name = member.name.name;
-    match member.kind {
+    match &member.kind {
         MemberKind::Method { resource, .. } => {
             let resource = resource.name;
             Ok(Label {
@@ -174,12 +174,12 @@ pub fn param_labels<'a>(alloc: Global, params: &[Param<'a>]) -> Result<Vec<Label
 fn add_within<'a>(found: &mut Vec<Label<'a>>, member: &Member<'a>) -> Result<(), AllocError>
     ensures { OnOk result (map seen.label found.new.items ≡ map seen.label found.old.items ++ spec.names_within (scope_view.member_kind member.now.kind) (view.id member.now.name)) }
 {
-    match member.kind {
+    match &member.kind {
         MemberKind::Used { .. } => Ok(()),
         MemberKind::Defined(kind) => add_kind(found, kind),
-        MemberKind::Function(func) | MemberKind::Static { func, .. } => {
-            add_params(found, func.params.as_slice())
-        }
+        MemberKind::Function(func)
+        | MemberKind::Static { func, .. }
+        | MemberKind::Constructor { func, .. } => add_params(found, func.params.as_slice()),
         MemberKind::Method { func, .. } => {
             found.push(Label {
                 text: CowStr::Borrowed("self"),
@@ -187,7 +187,6 @@ fn add_within<'a>(found: &mut Vec<Label<'a>>, member: &Member<'a>) -> Result<(),
             })?;
             add_params(found, func.params.as_slice())
         }
-        MemberKind::Constructor { params, .. } => add_params(found, params),
     }
 }
 

@@ -14,7 +14,7 @@ mod worlds;
 pub use checked::{Checked, check_all};
 pub use fault::{PackageFault, PackageRule};
 pub use files::{Declared, declared_in, name_span};
-pub use gates::{Gates, check_gates, check_version, gates_of};
+pub use gates::{Gates, check_front, check_version, gates_of};
 pub use labels::Label;
 pub use repeats::first_repeat;
 pub use worlds::target_text;

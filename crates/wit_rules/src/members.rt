@@ -1,25 +1,36 @@
 //! What the members of a scope break.
 
 ghost use Rattle.std.specs.Prelude.{◌≡◌, map, OnOk, IfErr};
+ghost use Rattle.wit_syntax.specs.AstView as view;
 ghost use Rattle.wit_scopes.specs.View as scope_view;
 ghost use Rattle.wit_rules.specs.Breaks.{IsKept, IsFaultOf};
 ghost use Rattle.wit_rules.specs.Facts as spec;
 
 use crate::checked::{Checked, check_all, check_names};
 use crate::fault::{PackageFault, PackageRule};
-use crate::gates::check_gates;
+use crate::gates::check_front;
 use crate::labels::{member_labels, names_within};
 use std::alloc::Global;
 use wit_scopes::{Member, MemberKind};
 use wit_syntax::TypeDefKind;
+
+/// Whether it is an enum or a variant without a case.
+fn kind_has_no_case(kind: &TypeDefKind<'_>) -> bool
+    ensures { result ≡ spec.kind_has_no_case (view.type_def_kind kind.now) }
+{
+    match kind {
+        TypeDefKind::Enum(cases) => cases.is_empty(),
+        TypeDefKind::Variant(cases) => cases.is_empty(),
+        _ => false,
+    }
+}
 
 /// Whether it defines an enum or a variant without a case.
 fn has_no_case(kind: &MemberKind<'_>) -> bool
     ensures { result ≡ spec.has_no_case (scope_view.member_kind kind.now) }
 {
     match kind {
-        MemberKind::Defined(TypeDefKind::Enum(cases)) => cases.is_empty(),
-        MemberKind::Defined(TypeDefKind::Variant(cases)) => cases.is_empty(),
+        MemberKind::Defined(kind) => kind_has_no_case(kind),
         _ => false,
     }
 }
@@ -42,7 +53,7 @@ impl<'a> Checked for Member<'a> {
     ghost breaks = { λ m. spec.MemberBreaks (scope_view.member m) };
 
     fn check(&self, alloc: Global) -> Result<(), PackageFault> {
-        check_gates(self.attributes)?;
+        check_front(&self.front)?;
         check_cases(self)?;
         let names = names_within(alloc, self)?;
         check_names(alloc, names.as_slice())

@@ -10,7 +10,7 @@ ghost use Rattle.wit_rules.specs.View as seen;
 
 use crate::checked::{Checked, check_all, check_names, check_paths};
 use crate::fault::PackageFault;
-use crate::gates::check_gates;
+use crate::gates::check_front;
 use crate::labels::{Label, member_label, param_labels, written};
 use crate::members::check_members;
 use std::alloc::{AllocError, Global};
@@ -133,7 +133,7 @@ fn check_listed<'a>(alloc: Global, listed: &Listed<'a>) -> Result<(), PackageFau
     ensures ok { OnOk result (IsKept (spec.ListedBreaks (scope_view.listed listed.now))) }
     ensures cause { IfErr result (IsFaultOf (spec.ListedBreaks (scope_view.listed listed.now))) }
 {
-    check_gates(listed.attributes)?;
+    check_front(&listed.front)?;
     check_extern(alloc, &listed.kind)
 }
 
@@ -144,7 +144,7 @@ impl<'a> Checked for WorldMember<'a> {
         match self {
             WorldMember::Member(member) => member.check(alloc),
             WorldMember::Listed(listed) => check_listed(alloc, listed),
-            WorldMember::Included(included) => check_gates(included.attributes),
+            WorldMember::Included(included) => check_front(&included.front),
         }
     }
 }

@@ -1,5 +1,4 @@
 pub mod Lists
 pub mod Outcomes
 pub mod Uses
-pub mod TypeViews
 pub mod Files

@@ -3,9 +3,6 @@ use Rattle.std.proofs.Common.{◌≡◌, ℕ, ◌+◌, ◌<◌, List, [], ◌∷
 use Rattle.std.proofs.Math.Seq.{take-suc}
 use Rattle.std.proofs.lemmas.List.{map_push}
 use Rattle.std.specs.Prelude.{flat_map}
-use Rattle.wit_words.specs.Slice.{Slice}
-use Rattle.wit_productions.specs.TypeTree.{TypeTree, row}
-use Rattle.wit_scopes.specs.TypeNames.{names_in, names_in_row, handles_in, handles_in_row}
 
 pub flat_map-push : {Y Z : Type 0} (f : Y → List Z) (ys : List Y) (y : Y) → flat_map f (ys ++ y ∷ []) ≡ flat_map f ys ++ f y
 flat_map-push f [] y = append-nil (f y)
@@ -15,21 +12,3 @@ flat_map-push f (x ∷ ys) y = rw (flat_map-push f ys y) (sym (append_assoc (f x
 pub flat_map-more : {X Y Z : Type 0} (f : Y → List Z) (view : X → Y) (xs : List X) (i : ℕ) (x : X) → i < length xs → x ≡ get_or xs i x
     → flat_map f (map view (take (i + 1) xs)) ≡ flat_map f (map view (take i xs)) ++ f (view x)
 flat_map-more f view xs i x within is = rw (add-one, take-suc xs i x within, ← is, map_push view (take i xs) x) (flat_map-push f (map view (take i xs)) (view x))
-
--- the names in the first types of a row, and in one more
-row_push : (ts : List TypeTree) (t : TypeTree) → names_in_row (row (ts ++ t ∷ [])) ≡ names_in_row (row ts) ++ names_in t
-row_push [] t = append-nil (names_in t)
-row_push (s ∷ ts) t = ap (λ (ns : List Slice). names_in s ++ ns) (row_push ts t) ∙ sym (append_assoc (names_in s) (names_in_row (row ts)) (names_in t))
-
-pub row_more : {X : Type 0} (view : X → TypeTree) (xs : List X) (i : ℕ) (x : X) → i < length xs → x ≡ get_or xs i x
-    → names_in_row (row (map view (take (i + 1) xs))) ≡ names_in_row (row (map view (take i xs))) ++ names_in (view x)
-row_more view xs i x within is = rw (add-one, take-suc xs i x within, ← is, map_push view (take i xs) x) (row_push (map view (take i xs)) (view x))
-
--- those of them that handles name
-handles_push : (ts : List TypeTree) (t : TypeTree) → handles_in_row (row (ts ++ t ∷ [])) ≡ handles_in_row (row ts) ++ handles_in t
-handles_push [] t = append-nil (handles_in t)
-handles_push (s ∷ ts) t = ap (λ (ns : List Slice). handles_in s ++ ns) (handles_push ts t) ∙ sym (append_assoc (handles_in s) (handles_in_row (row ts)) (handles_in t))
-
-pub row_handles_more : {X : Type 0} (view : X → TypeTree) (xs : List X) (i : ℕ) (x : X) → i < length xs → x ≡ get_or xs i x
-    → handles_in_row (row (map view (take (i + 1) xs))) ≡ handles_in_row (row (map view (take i xs))) ++ handles_in (view x)
-row_handles_more view xs i x within is = rw (add-one, take-suc xs i x within, ← is, map_push view (take i xs) x) (handles_push (map view (take i xs)) (view x))

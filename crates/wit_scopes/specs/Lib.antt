@@ -2,5 +2,3 @@ pub mod Paths
 pub mod Members
 pub mod Scopes
 pub mod View
-pub mod TypeNames
-pub mod TypeView

@@ -46,21 +46,30 @@ abbrev pub resource_member : Slice → GatedTree ResourceFuncTree → MemberTree
 resource_member r g = record { name = resource_member_name r g.item; kind = resource_member_kind r g.item; docs = g.docs; attributes = g.attributes; span = g.span }
 
 -- the functions of a definition, which a resource alone has
-abbrev pub functions_of : Slice → TypeDefKindTree → List MemberTree
-functions_of r (tree.resource fs) = map (resource_member r) fs
-functions_of r (tree.alias t) = []
-functions_of r (tree.fields fs) = []
-functions_of r (tree.flags fs) = []
-functions_of r (tree.labels ls) = []
-functions_of r (tree.cases cs) = []
+abbrev pub resource_funcs : TypeDefKindTree → List (GatedTree ResourceFuncTree)
+resource_funcs (tree.resource fs) = fs
+resource_funcs (tree.alias t) = []
+resource_funcs (tree.fields fs) = []
+resource_funcs (tree.flags fs) = []
+resource_funcs (tree.labels ls) = []
+resource_funcs (tree.cases cs) = []
+
+-- a definition without them
+abbrev pub without_functions : TypeDefKindTree → TypeDefKindTree
+without_functions (tree.resource fs) = tree.resource []
+without_functions (tree.alias t) = tree.alias t
+without_functions (tree.fields fs) = tree.fields fs
+without_functions (tree.flags fs) = tree.flags fs
+without_functions (tree.labels ls) = tree.labels ls
+without_functions (tree.cases cs) = tree.cases cs
 
 -- with what stands in front of an item and where it stands
 abbrev pub member_of : {X : Type 0} → GatedTree X → Slice → MemberKind → MemberTree
 member_of g name kind = record { name = name; kind = kind; docs = g.docs; attributes = g.attributes; span = g.span }
 
--- a definition, and behind it its functions
+-- a definition, and behind it the functions of a resource, which are members of their own
 abbrev pub type_members : {X : Type 0} → GatedTree X → TypeDefTree → List MemberTree
-type_members g d = member_of g d.name (defined d.kind) ∷ functions_of d.name d.kind
+type_members g d = member_of g d.name (defined (without_functions d.kind)) ∷ map (resource_member d.name) (resource_funcs d.kind)
 
 abbrev pub interface_item_members : PackageNameTree → List ToplevelUseTree → GatedTree InterfaceItemTree → InterfaceItemTree → List MemberTree
 interface_item_members me us g (tree.InterfaceItemTree.uses u) = uses_members me us g.attributes u

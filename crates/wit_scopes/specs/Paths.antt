@@ -1,8 +1,8 @@
 -- What paths name: something of the own package, or of another (WIT, Use, Top-Level Use).
-use Rattle.std.specs.Prelude.{ℕ, Bool, true, false, ◌&&◌, List, [], ◌∷◌, Option, Some, None, flat_map, bytes_eq, unwrap_or, if◌then◌else◌}
+use Rattle.std.specs.Prelude.{ℕ, Bool, true, false, ◌&&◌, List, [], ◌∷◌, Option, Some, None, map, flat_map, bytes_eq, unwrap_or, if◌then◌else◌}
 use Rattle.wit_words.specs.Slice.{Slice}
 use Rattle.wit_syntax.specs.Ast as ast
-use Rattle.wit_syntax.specs.Ast.{PackageNameTree, UsePathTree, id, in_package, ToplevelUseTree, GatedTree, AstItemTree, FileItemTree}
+use Rattle.wit_syntax.specs.Ast.{PackageNameTree, UsePathTree, id, in_package, ToplevelUseTree, GatedTree, AstItemTree, FileItemTree, FileTree}
 
 pub data TargetTree : Type 0 where
   own : Slice → TargetTree
@@ -57,6 +57,10 @@ file_item_uses (ast.nested p) = []
 
 abbrev pub item_uses : List (GatedTree FileItemTree) → List ToplevelUseTree
 item_uses items = flat_map (λ g. file_item_uses g.item) items
+
+-- those of each of these files
+abbrev pub file_uses : List FileTree → List (List ToplevelUseTree)
+file_uses files = map (λ f. item_uses f.items) files
 
 -- ---- step by step
 

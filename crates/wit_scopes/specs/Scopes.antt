@@ -1,10 +1,10 @@
 -- The scopes of a package: its interfaces and worlds with all that they declare (WIT, Packages, Item: `world`).
-use Rattle.std.specs.Prelude.{ℕ, suc, List, [], ◌∷◌, ◌++◌, map, flat_map}
+use Rattle.std.specs.Prelude.{ℕ, suc, List, [], ◌∷◌, ◌++◌, map, flat_map, Option, Some, None}
 use Rattle.wit_words.specs.declared.source_map.Span.{Span}
 use Rattle.wit_words.specs.Slice.{Slice}
 use Rattle.wit_items.specs.ItemTree.{AttributeTree, GatedTree, FuncTree, InterfaceTree}
 use Rattle.wit_syntax.specs.Ast as ast
-use Rattle.wit_syntax.specs.Ast.{PackageNameTree, ToplevelUseTree, ExternTree, IncludeNameTree, IncludeTree, WorldItemTree, WorldTree, AstItemTree, FileItemTree, FileTree}
+use Rattle.wit_syntax.specs.Ast.{PackageNameTree, ToplevelUseTree, ExternTree, IncludeNameTree, IncludeTree, WorldItemTree, WorldTree, AstItemTree, FileItemTree, HeaderTree, FileTree}
 use Rattle.wit_scopes.specs.declared.worlds.Side.{Side}
 use Rattle.wit_scopes.specs.declared.worlds.Side.TheVariants.{Import, Export}
 use Rattle.wit_scopes.specs.Paths.{TargetTree, target, last_name, item_uses}
@@ -70,10 +70,10 @@ extern_kind me us (ast.ExternTree.func f) = function f.func
 extern_kind me us (ast.ExternTree.interface i) = ExternKind.interface (interface_members me us i.items)
 extern_kind me us (ast.ExternTree.path p) = item (target me us p)
 
-abbrev pub listed_of : PackageNameTree → List ToplevelUseTree → GatedTree WorldItemTree → Side → ExternTree → ListedTree
+abbrev pub listed_of : {X : Type 0} → PackageNameTree → List ToplevelUseTree → GatedTree X → Side → ExternTree → ListedTree
 listed_of me us g side e = record { side = side; name = extern_name e; kind = extern_kind me us e; docs = g.docs; attributes = g.attributes; span = g.span }
 
-abbrev pub included_of : PackageNameTree → List ToplevelUseTree → GatedTree WorldItemTree → IncludeTree → IncludedTree
+abbrev pub included_of : {X : Type 0} → PackageNameTree → List ToplevelUseTree → GatedTree X → IncludeTree → IncludedTree
 included_of me us g i = record { world = target me us i.from; names = i.names; attributes = g.attributes; span = g.span }
 
 abbrev pub world_item_members : PackageNameTree → List ToplevelUseTree → GatedTree WorldItemTree → WorldItemTree → List WorldMemberTree
@@ -115,3 +115,19 @@ scopes_from me k (f ∷ fs) = items_scopes me k f.items ++ scopes_from me (suc k
 -- the interfaces and worlds of a package of that name, in the order of its files
 abbrev pub package_scopes : PackageNameTree → List FileTree → List ItemScope
 package_scopes me files = scopes_from me 0 files
+
+-- ---- what is said of a package
+
+abbrev pub header_docs : Option HeaderTree → List Slice
+header_docs None = []
+header_docs (Some h) = h.docs
+
+-- the first, where it says something
+abbrev pub or_docs : List Slice → List Slice → List Slice
+or_docs [] others = others
+or_docs (d ∷ ds) others = d ∷ ds
+
+-- the docs of the first header that has some
+abbrev pub package_docs : List FileTree → List Slice
+package_docs [] = []
+package_docs (f ∷ fs) = or_docs (header_docs f.header) (package_docs fs)

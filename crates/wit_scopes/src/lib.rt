@@ -5,11 +5,10 @@ mod growing;
 mod members;
 mod paths;
 mod scopes;
-mod type_names;
 mod worlds;
 
-pub use members::{Member, MemberKind};
+pub use growing::push_to;
+pub use members::{Front, Member, MemberKind};
 pub use paths::{Target, is_same_package, known_name, path_by_itself};
-pub use scopes::{InterfaceScope, ItemScope, WorldScope, package_scopes};
-pub use type_names::{func_type_names, member_handle_names, member_type_names};
+pub use scopes::{InterfaceScope, ItemScope, PackageScopes, WorldScope, package_scopes};
 pub use worlds::{ExternKind, Included, Listed, Side, WorldMember};

@@ -1,20 +1,32 @@
 //! What interfaces declare.
 
-ghost use Rattle.std.specs.Prelude.{◌≡◌, List, ◌++◌, ◌∷◌, [], map, OnOk};
+ghost use Rattle.std.specs.Prelude.{◌≡◌, List, ◌++◌, ◌∷◌, [], map, option_map, IfOk, OnOk};
+ghost use Rattle.wit_productions.specs.TypeView.{type_tree};
 ghost use Rattle.wit_syntax.specs.Ast.{ToplevelUseTree};
 ghost use Rattle.wit_syntax.specs.AstView as view;
 ghost use Rattle.wit_scopes.specs.Members as spec;
 ghost use Rattle.wit_scopes.specs.View as seen;
 
+use crate::growing::push_to;
 use crate::paths::{FileUses, Target};
-use std::alloc::AllocError;
+use std::alloc::{AllocError, Global};
+use std::rc::Rc;
 use wit_syntax::{
-    Attribute, Docs, Func, Gated, Id, InterfaceItem, Param, ResourceFunc, Span, Type, TypeDef,
+    Attribute, Docs, Func, Gated, Id, InterfaceItem, NamedFunc, ResourceFunc, Span, TypeDef,
     TypeDefKind, Use, UseName,
 };
 
+/// What stands in front of an item.
+#[derive(Drop)]
+pub struct Front<'a> {
+    /// The docs.
+    pub docs: Docs<'a>,
+    /// The attributes.
+    pub attributes: Vec<Attribute<'a>>,
+}
+
 /// What a name of a scope is (WIT, Item: `interface`, Use, Item: `resource`).
-#[derive(Clone, Copy)]
+#[derive(Drop)]
 pub enum MemberKind<'a> {
     /// A type that is taken from an interface, where it has that name.
     Used {
@@ -23,186 +35,356 @@ pub enum MemberKind<'a> {
         /// The name there.
         name: Id<'a>,
     },
-    /// A definition of a type.
-    Defined(&'a TypeDefKind<'a>),
+    /// A definition of a type; the functions of a resource are members of their own, and don't stand in it.
+    Defined(Rc<TypeDefKind<'a>>),
     /// A function.
-    Function(&'a Func<'a>),
+    Function(Rc<Func<'a>>),
     /// A method of a resource.
     Method {
         /// The resource.
         resource: Id<'a>,
         /// The function.
-        func: &'a Func<'a>,
+        func: Rc<Func<'a>>,
     },
     /// A static function of a resource.
     Static {
         /// The resource.
         resource: Id<'a>,
         /// The function.
-        func: &'a Func<'a>,
+        func: Rc<Func<'a>>,
     },
     /// A constructor of a resource.
     Constructor {
         /// The resource.
         resource: Id<'a>,
-        /// The parameters in their order.
-        params: &'a [Param<'a>],
-        /// The type behind the arrow, if there is one.
-        result: &'a Option<Type<'a>>,
+        /// Its parameters, and the type behind the arrow, if there is one.
+        func: Rc<Func<'a>>,
     },
 }
 
-/// A name of a scope and what it is.
-#[derive(Clone, Copy)]
+impl<'a> Clone for MemberKind<'a> {
+    ghost use Rattle.wit_scopes.specs.View.{member_kind};
+
+    ghost is_clone = { λ kind copy. member_kind copy ≡ member_kind kind };
+
+    fn clone(&self) -> Result<MemberKind<'a>, AllocError> {
+        match self {
+            MemberKind::Used { from, name } => Ok(MemberKind::Used {
+                from: *from,
+                name: *name,
+            }),
+            MemberKind::Defined(kind) => Ok(MemberKind::Defined(kind.clone()?)),
+            MemberKind::Function(func) => Ok(MemberKind::Function(func.clone()?)),
+            MemberKind::Method { resource, func } => Ok(MemberKind::Method {
+                resource: *resource,
+                func: func.clone()?,
+            }),
+            MemberKind::Static { resource, func } => Ok(MemberKind::Static {
+                resource: *resource,
+                func: func.clone()?,
+            }),
+            MemberKind::Constructor { resource, func } => Ok(MemberKind::Constructor {
+                resource: *resource,
+                func: func.clone()?,
+            }),
+        }
+    }
+}
+
+/// A name of a scope and what it is. A clone shares what is written of it.
 pub struct Member<'a> {
     /// The name; a constructor's is that of its resource.
     pub name: Id<'a>,
     /// What it is.
     pub kind: MemberKind<'a>,
-    /// The docs in front of it.
-    pub docs: Option<&'a Docs<'a>>,
-    /// The attributes in front of it, or of the `use` that names it.
-    pub attributes: &'a [Attribute<'a>],
+    /// What stands in front of it; of a name that is used, the attributes of its `use`.
+    pub front: Rc<Front<'a>>,
     /// Where it stands.
     pub span: Span,
 }
 
-/// Adds the names that a `use` takes.
-pub fn add_uses<'a>(
+// By hand, so that what lets syntax trees go is proved here alone.
+impl Drop for Member<'_> {
+    fn drop(self) {
+        let Member {
+            name: _,
+            kind: _,
+            front: _,
+            span: _,
+        } = self;
+    }
+}
+
+impl<'a> Clone for Member<'a> {
+    ghost use Rattle.wit_scopes.specs.View.{member};
+
+    ghost is_clone = { λ of copy. member copy ≡ member of };
+
+    fn clone(&self) -> Result<Member<'a>, AllocError> {
+        let kind = self.kind.clone()?;
+        let front = self.front.clone()?;
+        Ok(Member {
+            name: self.name,
+            kind,
+            front,
+            span: self.span,
+        })
+    }
+}
+
+/// Adds a name that a `use` takes.
+fn add_name<'a>(
     found: &mut Vec<Member<'a>>,
     from: Target<'a>,
-    attributes: &'a [Attribute<'a>],
-    names: &[UseName<'a>],
+    front: &Rc<Front<'a>>,
+    taken: &UseName<'a>,
 ) -> Result<(), AllocError>
-    ensures { OnOk result (seen.members found.new.items ≡ seen.members found.old.items ++ map (spec.used_member (seen.target from.entry) (map view.attribute attributes.entry.now)) (map view.use_name names.now)) }
+    requires { view.docs front.now.value.docs ≡ [] }
+    ensures { OnOk result (seen.members found.new.items ≡ seen.members found.old.items ++ spec.used_member (seen.target from.entry) (map view.attribute front.now.value.attributes.items) (view.use_name taken.now) ∷ []) }
 {
-    for taken in names {
-        let name = taken.as_.unwrap_or(taken.name);
-        found.push(Member {
+    let name = taken.as_.unwrap_or(taken.name);
+    let front = front.clone()?;
+    push_to(
+        found,
+        Member {
             name,
             kind: MemberKind::Used {
                 from,
                 name: taken.name,
             },
-            docs: None,
-            attributes,
+            front,
             span: name.span,
-        })?;
+        },
+    )
+}
+
+/// Adds the names that a `use` takes.
+fn add_names<'a>(
+    found: &mut Vec<Member<'a>>,
+    from: Target<'a>,
+    front: &Rc<Front<'a>>,
+    names: &[UseName<'a>],
+) -> Result<(), AllocError>
+    requires { view.docs front.now.value.docs ≡ [] }
+    ensures { OnOk result (seen.members found.new.items ≡ seen.members found.old.items ++ map (spec.used_member (seen.target from.entry) (map view.attribute front.now.value.attributes.items)) (map view.use_name names.now)) }
+{
+    for taken in names {
+        add_name(found, from, front, taken)?;
     }
     Ok(())
 }
 
-/// The name of a function of a resource: a constructor's is that of its resource.
-fn resource_func_name<'a>(resource: Id<'a>, func: &ResourceFunc<'a>) -> Id<'a>
-    ensures { view.id result ≡ spec.resource_member_name (view.id resource.entry) (view.resource_func func.now) }
+/// Adds the names that a `use` takes, with the attributes in front of it.
+pub fn add_uses<'a>(
+    alloc: Global,
+    found: &mut Vec<Member<'a>>,
+    uses: &FileUses<'a>,
+    attributes: Vec<Attribute<'a>>,
+    item: &Use<'a>,
+) -> Result<(), AllocError>
+    ensures { (us : List ToplevelUseTree) → seen.AreUses (view.package_name uses.now.me) us uses.now → OnOk result (seen.members found.new.items ≡ seen.members found.old.items ++ spec.uses_members (view.package_name uses.now.me) us (map view.attribute attributes.entry.items) (view.uses item.now)) }
+{
+    let docs = Docs {
+        comments: Vec::new(alloc),
+    };
+    let front = Rc::new(alloc, Front { docs, attributes })?;
+    add_names(
+        found,
+        uses.target(&item.from),
+        &front,
+        item.names.as_slice(),
+    )
+}
+
+/// What a function of a resource is, by the name that it has: a constructor's is that of its resource.
+fn resource_kind<'a>(
+    alloc: Global,
+    resource: Id<'a>,
+    func: ResourceFunc<'a>,
+) -> Result<(Id<'a>, MemberKind<'a>), AllocError>
+    ensures name { IfOk result (λ r. view.id r.0 ≡ spec.resource_member_name (view.id resource.entry) (view.resource_func func.entry)) }
+    ensures kind { IfOk result (λ r. seen.member_kind r.1 ≡ spec.resource_member_kind (view.id resource.entry) (view.resource_func func.entry)) }
 {
     match func {
-        ResourceFunc::Constructor { .. } => resource,
-        ResourceFunc::Method(named) | ResourceFunc::Static(named) => named.name,
+        ResourceFunc::Constructor { params, result } => {
+            let func = Func {
+                async_: false,
+                params,
+                result,
+            };
+            let func = Rc::new(alloc, func)?;
+            Ok((resource, MemberKind::Constructor { resource, func }))
+        }
+        ResourceFunc::Method(NamedFunc { name, func }) => {
+            let func = Rc::new(alloc, func)?;
+            Ok((name, MemberKind::Method { resource, func }))
+        }
+        ResourceFunc::Static(NamedFunc { name, func }) => {
+            let func = Rc::new(alloc, func)?;
+            Ok((name, MemberKind::Static { resource, func }))
+        }
     }
 }
 
-/// What a function of a resource is.
-fn resource_func_kind<'a>(resource: Id<'a>, func: &'a ResourceFunc<'a>) -> MemberKind<'a>
-    ensures { seen.member_kind result ≡ spec.resource_member_kind (view.id resource.entry) (view.resource_func func.entry.now) }
+/// A function of a resource, as a member of its scope.
+fn resource_member<'a>(
+    alloc: Global,
+    resource: Id<'a>,
+    gated: Gated<'a, ResourceFunc<'a>>,
+) -> Result<Member<'a>, AllocError>
+    ensures { IfOk result (λ m. seen.member m ≡ spec.resource_member (view.id resource.entry) (view.gated view.resource_func gated.entry)) }
 {
-    match func {
-        ResourceFunc::Constructor { params, result } => MemberKind::Constructor {
-            resource,
-            params: params.as_slice(),
-            result,
-        },
-        ResourceFunc::Method(named) => MemberKind::Method {
-            resource,
-            func: &named.func,
-        },
-        ResourceFunc::Static(named) => MemberKind::Static {
-            resource,
-            func: &named.func,
-        },
-    }
+    let Gated {
+        docs,
+        attributes,
+        item,
+        span,
+    } = gated;
+    let front = Rc::new(alloc, Front { docs, attributes })?;
+    let (name, kind) = resource_kind(alloc, resource, item)?;
+    Ok(Member {
+        name,
+        kind,
+        front,
+        span,
+    })
 }
 
 /// Adds the functions of a resource.
 fn add_functions<'a>(
+    alloc: Global,
     found: &mut Vec<Member<'a>>,
     resource: Id<'a>,
-    funcs: &'a [Gated<'a, ResourceFunc<'a>>],
+    funcs: Vec<Gated<'a, ResourceFunc<'a>>>,
 ) -> Result<(), AllocError>
-    ensures { OnOk result (seen.members found.new.items ≡ seen.members found.old.items ++ map (spec.resource_member (view.id resource.entry)) (map (view.gated view.resource_func) funcs.entry.now)) }
+    ensures { OnOk result (seen.members found.new.items ≡ seen.members found.old.items ++ map (spec.resource_member (view.id resource.entry)) (map (view.gated view.resource_func) funcs.entry.items)) }
 {
     for gated in funcs {
-        found.push(Member {
-            name: resource_func_name(resource, &gated.item),
-            kind: resource_func_kind(resource, &gated.item),
-            docs: Some(&gated.docs),
-            attributes: gated.attributes.as_slice(),
-            span: gated.span,
-        })?;
+        let member = resource_member(alloc, resource, gated)?;
+        push_to(found, member)?;
     }
     Ok(())
 }
 
-/// Adds a definition of a type and, of a resource, its functions.
-pub fn add_type<'a, T>(
-    found: &mut Vec<Member<'a>>,
-    gated: &'a Gated<'a, T>,
-    def: &'a TypeDef<'a>,
-) -> Result<(), AllocError>
-    ensures { OnOk result (seen.members found.new.items ≡ seen.members found.old.items ++ spec.type_members (view.gated (λ x. x) gated.entry.now) (view.type_def def.entry.now)) }
+/// A definition without the functions of a resource, and these.
+fn parted<'a>(
+    alloc: Global,
+    kind: TypeDefKind<'a>,
+) -> (TypeDefKind<'a>, Vec<Gated<'a, ResourceFunc<'a>>>)
+    ensures kind { view.type_def_kind result.0 ≡ spec.without_functions (view.type_def_kind kind.entry) }
+    ensures functions { map (view.gated view.resource_func) result.1.items ≡ spec.resource_funcs (view.type_def_kind kind.entry) }
 {
-    found.push(Member {
-        name: def.name,
-        kind: MemberKind::Defined(&def.kind),
-        docs: Some(&gated.docs),
-        attributes: gated.attributes.as_slice(),
-        span: gated.span,
-    })?;
-    match &def.kind {
-        TypeDefKind::Resource(funcs) => add_functions(found, def.name, funcs.as_slice()),
-        _ => Ok(()),
+    match kind {
+        TypeDefKind::Resource(funcs) => (TypeDefKind::Resource(Vec::new(alloc)), funcs),
+        TypeDefKind::Alias(ty) => (TypeDefKind::Alias(ty), Vec::new(alloc)),
+        TypeDefKind::Record(fields) => (TypeDefKind::Record(fields), Vec::new(alloc)),
+        TypeDefKind::Flags(flags) => (TypeDefKind::Flags(flags), Vec::new(alloc)),
+        TypeDefKind::Enum(cases) => (TypeDefKind::Enum(cases), Vec::new(alloc)),
+        TypeDefKind::Variant(cases) => (TypeDefKind::Variant(cases), Vec::new(alloc)),
     }
+}
+
+/// Adds a definition of a type by itself.
+fn add_definition<'a>(
+    alloc: Global,
+    found: &mut Vec<Member<'a>>,
+    front: Front<'a>,
+    span: Span,
+    name: Id<'a>,
+    kind: TypeDefKind<'a>,
+) -> Result<(), AllocError>
+    ensures { OnOk result (seen.members found.new.items ≡ seen.members found.old.items ++ spec.member_of (seen.front front.entry span) (view.id name.entry) (spec.defined (view.type_def_kind kind.entry)) ∷ []) }
+{
+    let kind = MemberKind::Defined(Rc::new(alloc, kind)?);
+    let front = Rc::new(alloc, front)?;
+    push_to(
+        found,
+        Member {
+            name,
+            kind,
+            front,
+            span,
+        },
+    )
+}
+
+/// Adds a definition of a type and, of a resource, its functions.
+pub fn add_type<'a>(
+    alloc: Global,
+    found: &mut Vec<Member<'a>>,
+    front: Front<'a>,
+    span: Span,
+    def: TypeDef<'a>,
+) -> Result<(), AllocError>
+    ensures { OnOk result (seen.members found.new.items ≡ seen.members found.old.items ++ spec.type_members (seen.front front.entry span) (view.type_def def.entry)) }
+{
+    let TypeDef { name, kind } = def;
+    let (kind, funcs) = parted(alloc, kind);
+    add_definition(alloc, found, front, span, name, kind)?;
+    add_functions(alloc, found, name, funcs)
+}
+
+/// Adds a function.
+fn add_function<'a>(
+    alloc: Global,
+    found: &mut Vec<Member<'a>>,
+    front: Front<'a>,
+    span: Span,
+    named: NamedFunc<'a>,
+) -> Result<(), AllocError>
+    ensures { OnOk result (seen.members found.new.items ≡ seen.members found.old.items ++ spec.member_of (seen.front front.entry span) (view.named_func named.entry).name (spec.function (view.named_func named.entry).func) ∷ []) }
+{
+    let NamedFunc { name, func } = named;
+    let kind = MemberKind::Function(Rc::new(alloc, func)?);
+    let front = Rc::new(alloc, front)?;
+    push_to(
+        found,
+        Member {
+            name,
+            kind,
+            front,
+            span,
+        },
+    )
 }
 
 /// Adds what an item of an interface declares.
 fn add_item<'a>(
+    alloc: Global,
     found: &mut Vec<Member<'a>>,
     uses: &FileUses<'a>,
-    gated: &'a Gated<'a, InterfaceItem<'a>>,
+    gated: Gated<'a, InterfaceItem<'a>>,
 ) -> Result<(), AllocError>
-    ensures { (us : List ToplevelUseTree) → seen.AreUses (view.package_name uses.now.me) us uses.now → OnOk result (seen.members found.new.items ≡ seen.members found.old.items ++ spec.interface_item_members (view.package_name uses.now.me) us (view.gated view.interface_item gated.entry.now) (view.interface_item gated.entry.now.item)) }
+    ensures { (us : List ToplevelUseTree) → seen.AreUses (view.package_name uses.now.me) us uses.now → OnOk result (seen.members found.new.items ≡ seen.members found.old.items ++ spec.interface_item_members (view.package_name uses.now.me) us (view.gated view.interface_item gated.entry) (view.interface_item gated.entry.item)) }
 {
-    match &gated.item {
-        InterfaceItem::Use(item) => add_uses(
-            found,
-            uses.target(&item.from),
-            gated.attributes.as_slice(),
-            item.names.as_slice(),
-        ),
-        InterfaceItem::TypeDef(def) => add_type(found, gated, def),
+    let Gated {
+        docs,
+        attributes,
+        item,
+        span,
+    } = gated;
+    match item {
+        InterfaceItem::Use(item) => add_uses(alloc, found, uses, attributes, &item),
+        InterfaceItem::TypeDef(def) => {
+            add_type(alloc, found, Front { docs, attributes }, span, def)
+        }
         InterfaceItem::Func(named) => {
-            found.push(Member {
-                name: named.name,
-                kind: MemberKind::Function(&named.func),
-                docs: Some(&gated.docs),
-                attributes: gated.attributes.as_slice(),
-                span: gated.span,
-            })?;
-            Ok(())
+            add_function(alloc, found, Front { docs, attributes }, span, named)
         }
     }
 }
 
 /// Adds all that the items of an interface declare, in their order.
 pub fn add_members<'a>(
+    alloc: Global,
     found: &mut Vec<Member<'a>>,
     uses: &FileUses<'a>,
-    items: &'a [Gated<'a, InterfaceItem<'a>>],
+    items: Vec<Gated<'a, InterfaceItem<'a>>>,
 ) -> Result<(), AllocError>
-    ensures { (us : List ToplevelUseTree) → seen.AreUses (view.package_name uses.now.me) us uses.now → OnOk result (seen.members found.new.items ≡ seen.members found.old.items ++ spec.interface_members (view.package_name uses.now.me) us (map (view.gated view.interface_item) items.entry.now)) }
+    ensures { (us : List ToplevelUseTree) → seen.AreUses (view.package_name uses.now.me) us uses.now → OnOk result (seen.members found.new.items ≡ seen.members found.old.items ++ spec.interface_members (view.package_name uses.now.me) us (map (view.gated view.interface_item) items.entry.items)) }
 {
     for gated in items {
-        add_item(found, uses, gated)?;
+        add_item(alloc, found, uses, gated)?;
     }
     Ok(())
 }

@@ -1,52 +1,75 @@
 //! The interfaces and worlds of a package.
 
-ghost use Rattle.std.specs.Prelude.{◌≡◌, List, ◌++◌, ◌∷◌, [], map, IfOk, OnOk};
+ghost use Rattle.std.specs.Prelude.{◌≡◌, List, ◌++◌, ◌∷◌, [], map, option_map, IfOk, OnOk};
+ghost use Rattle.wit_words.specs.Token.{comment};
 ghost use Rattle.wit_syntax.specs.Ast.{ToplevelUseTree};
+ghost use Rattle.wit_scopes.specs.Paths.{file_item_uses, item_uses};
 ghost use Rattle.wit_syntax.specs.AstView as view;
 ghost use Rattle.wit_scopes.specs.Scopes as spec;
 ghost use Rattle.wit_scopes.specs.View as seen;
 
 use crate::growing::push_to;
-use crate::members::{Member, add_members};
+use crate::members::{Front, Member, add_members};
 use crate::paths::FileUses;
 use crate::worlds::{WorldMember, world_members};
 use std::alloc::{AllocError, Global};
 use wit_syntax::{
-    AstItem, Attribute, Docs, File, FileItem, Gated, Id, Interface, PackageName, Span, World,
+    AstItem, Comment, Docs, File, FileItem, Gated, Id, Interface, PackageHeader, PackageName, Span,
+    ToplevelUse, World,
 };
 
 /// An interface of a package, with all that it declares (WIT, Item: `interface`).
-#[derive(Drop)]
 pub struct InterfaceScope<'a> {
     /// Its name.
     pub name: Id<'a>,
     /// What it declares, in the order of the text.
     pub members: Vec<Member<'a>>,
-    /// The docs in front of it.
-    pub docs: &'a Docs<'a>,
-    /// The attributes in front of it.
-    pub attributes: &'a [Attribute<'a>],
+    /// What stands in front of it.
+    pub front: Front<'a>,
     /// Where it stands.
     pub span: Span,
     /// The number of the file that it stands in.
     pub file: usize,
 }
 
+// By hand, so that what lets syntax trees go is proved here alone.
+impl Drop for InterfaceScope<'_> {
+    fn drop(self) {
+        let InterfaceScope {
+            name: _,
+            members: _,
+            front: _,
+            span: _,
+            file: _,
+        } = self;
+    }
+}
+
 /// A world of a package, with all that it declares (WIT, Item: `world`).
-#[derive(Drop)]
 pub struct WorldScope<'a> {
     /// Its name.
     pub name: Id<'a>,
     /// What it declares, in the order of the text.
     pub members: Vec<WorldMember<'a>>,
-    /// The docs in front of it.
-    pub docs: &'a Docs<'a>,
-    /// The attributes in front of it.
-    pub attributes: &'a [Attribute<'a>],
+    /// What stands in front of it.
+    pub front: Front<'a>,
     /// Where it stands.
     pub span: Span,
     /// The number of the file that it stands in.
     pub file: usize,
+}
+
+// By hand, so that what lets syntax trees go is proved here alone.
+impl Drop for WorldScope<'_> {
+    fn drop(self) {
+        let WorldScope {
+            name: _,
+            members: _,
+            front: _,
+            span: _,
+            file: _,
+        } = self;
+    }
 }
 
 /// An interface or a world of a package.
@@ -59,76 +82,48 @@ pub enum ItemScope<'a> {
 }
 
 /// An interface with all that it declares.
-fn interface_scope<'a, T>(
+fn interface_scope<'a>(
     alloc: Global,
     uses: &FileUses<'a>,
     file: usize,
-    gated: &'a Gated<'a, T>,
-    interface: &'a Interface<'a>,
-) -> Result<ItemScope<'a>, AllocError>
-    ensures { (us : List ToplevelUseTree) → seen.AreUses (view.package_name uses.now.me) us uses.now → IfOk result (λ s. seen.item_scope s ≡ spec.ItemScope.interface (spec.interface_scope (view.package_name uses.now.me) us file (view.gated (λ x. x) gated.entry.now) (view.interface interface.entry.now))) }
+    front: Front<'a>,
+    at: Span,
+    interface: Interface<'a>,
+) -> Result<InterfaceScope<'a>, AllocError>
+    ensures { (us : List ToplevelUseTree) → seen.AreUses (view.package_name uses.now.me) us uses.now → IfOk result (λ s. seen.interface_scope s ≡ spec.interface_scope (view.package_name uses.now.me) us file (seen.front front.entry at) (view.interface interface.entry)) }
 {
+    let Interface { name, items } = interface;
     let mut members = Vec::new(alloc);
-    add_members(&mut members, uses, interface.items.as_slice())?;
-    Ok(ItemScope::Interface(InterfaceScope {
-        name: interface.name,
+    add_members(alloc, &mut members, uses, items)?;
+    Ok(InterfaceScope {
+        name,
         members,
-        docs: &gated.docs,
-        attributes: gated.attributes.as_slice(),
-        span: gated.span,
+        front,
+        span: at,
         file,
-    }))
+    })
 }
 
 /// A world with all that it declares.
-fn world_scope<'a, T>(
+fn world_scope<'a>(
     alloc: Global,
     uses: &FileUses<'a>,
     file: usize,
-    gated: &'a Gated<'a, T>,
-    world: &'a World<'a>,
-) -> Result<ItemScope<'a>, AllocError>
-    ensures { (us : List ToplevelUseTree) → seen.AreUses (view.package_name uses.now.me) us uses.now → IfOk result (λ s. seen.item_scope s ≡ spec.world (spec.world_scope (view.package_name uses.now.me) us file (view.gated (λ x. x) gated.entry.now) (view.world world.entry.now))) }
+    front: Front<'a>,
+    at: Span,
+    world: World<'a>,
+) -> Result<WorldScope<'a>, AllocError>
+    ensures { (us : List ToplevelUseTree) → seen.AreUses (view.package_name uses.now.me) us uses.now → IfOk result (λ s. seen.world_scope s ≡ spec.world_scope (view.package_name uses.now.me) us file (seen.front front.entry at) (view.world world.entry)) }
 {
-    let members = world_members(alloc, uses, world.items.as_slice())?;
-    Ok(ItemScope::World(WorldScope {
-        name: world.name,
+    let World { name, items } = world;
+    let members = world_members(alloc, uses, items)?;
+    Ok(WorldScope {
+        name,
         members,
-        docs: &gated.docs,
-        attributes: gated.attributes.as_slice(),
-        span: gated.span,
+        front,
+        span: at,
         file,
-    }))
-}
-
-/// Adds an interface with all that it declares.
-fn add_interface<'a>(
-    alloc: Global,
-    found: &mut Vec<ItemScope<'a>>,
-    uses: &FileUses<'a>,
-    file: usize,
-    gated: &'a Gated<'a, FileItem<'a>>,
-    interface: &'a Interface<'a>,
-) -> Result<(), AllocError>
-    ensures { (us : List ToplevelUseTree) → seen.AreUses (view.package_name uses.now.me) us uses.now → OnOk result (map seen.item_scope found.new.items ≡ map seen.item_scope found.old.items ++ spec.ItemScope.interface (spec.interface_scope (view.package_name uses.now.me) us file (view.gated view.file_item gated.entry.now) (view.interface interface.entry.now)) ∷ []) }
-{
-    let scope = interface_scope(alloc, uses, file, gated, interface)?;
-    push_to(found, scope)
-}
-
-/// Adds a world with all that it declares.
-fn add_world<'a>(
-    alloc: Global,
-    found: &mut Vec<ItemScope<'a>>,
-    uses: &FileUses<'a>,
-    file: usize,
-    gated: &'a Gated<'a, FileItem<'a>>,
-    world: &'a World<'a>,
-) -> Result<(), AllocError>
-    ensures { (us : List ToplevelUseTree) → seen.AreUses (view.package_name uses.now.me) us uses.now → OnOk result (map seen.item_scope found.new.items ≡ map seen.item_scope found.old.items ++ spec.world (spec.world_scope (view.package_name uses.now.me) us file (view.gated view.file_item gated.entry.now) (view.world world.entry.now)) ∷ []) }
-{
-    let scope = world_scope(alloc, uses, file, gated, world)?;
-    push_to(found, scope)
+    })
 }
 
 /// Adds the interface or world that an item of a file is.
@@ -137,61 +132,166 @@ fn add_item<'a>(
     found: &mut Vec<ItemScope<'a>>,
     uses: &FileUses<'a>,
     file: usize,
-    gated: &'a Gated<'a, FileItem<'a>>,
+    gated: Gated<'a, FileItem<'a>>,
 ) -> Result<(), AllocError>
-    ensures { (us : List ToplevelUseTree) → seen.AreUses (view.package_name uses.now.me) us uses.now → OnOk result (map seen.item_scope found.new.items ≡ map seen.item_scope found.old.items ++ spec.file_item_scopes (view.package_name uses.now.me) us file (view.gated view.file_item gated.entry.now) (view.file_item gated.entry.now.item)) }
+    ensures { (us : List ToplevelUseTree) → seen.AreUses (view.package_name uses.now.me) us uses.now → OnOk result (map seen.item_scope found.new.items ≡ map seen.item_scope found.old.items ++ spec.file_item_scopes (view.package_name uses.now.me) us file (view.gated view.file_item gated.entry) (view.file_item gated.entry.item)) }
 {
-    match &gated.item {
+    let Gated {
+        docs,
+        attributes,
+        item,
+        span,
+    } = gated;
+    let front = Front { docs, attributes };
+    match item {
         FileItem::Item(AstItem::Interface(interface)) => {
-            add_interface(alloc, found, uses, file, gated, interface)
+            let scope = interface_scope(alloc, uses, file, front, span, interface)?;
+            push_to(found, ItemScope::Interface(scope))
         }
-        FileItem::Item(AstItem::World(world)) => add_world(alloc, found, uses, file, gated, world),
+        FileItem::Item(AstItem::World(world)) => {
+            let scope = world_scope(alloc, uses, file, front, span, world)?;
+            push_to(found, ItemScope::World(scope))
+        }
         FileItem::Item(AstItem::Use(_)) | FileItem::Package(_) => Ok(()),
     }
 }
 
 /// Adds the interfaces and worlds of a file.
+fn add_items<'a>(
+    alloc: Global,
+    found: &mut Vec<ItemScope<'a>>,
+    me: PackageName<'a>,
+    number: usize,
+    items: Vec<Gated<'a, FileItem<'a>>>,
+) -> Result<(), AllocError>
+    ensures { OnOk result (map seen.item_scope found.new.items ≡ map seen.item_scope found.old.items ++ spec.items_scopes (view.package_name me.entry) number (map (view.gated view.file_item) items.entry.items)) }
+{
+    // A local: what a parameter holds is proved less cheaply to be lent and then let go.
+    let items = items;
+    let uses = FileUses::new(alloc, me, items.as_slice())?;
+    for gated in items {
+        add_item(alloc, found, &uses, number, gated)?;
+    }
+    Ok(())
+}
+
+/// Adds an item of a file that is a `use`.
+fn add_use<'a>(found: &mut Vec<ToplevelUse<'a>>, item: &FileItem<'a>) -> Result<(), AllocError>
+    ensures { OnOk result (map view.toplevel_use found.new.items ≡ map view.toplevel_use found.old.items ++ file_item_uses (view.file_item item.now)) }
+{
+    if let FileItem::Item(AstItem::Use(item)) = item {
+        found.push(*item)?;
+    }
+    Ok(())
+}
+
+/// The `use` statements at the top of a file.
+fn top_uses<'a>(
+    alloc: Global,
+    items: &[Gated<'a, FileItem<'a>>],
+) -> Result<Vec<ToplevelUse<'a>>, AllocError>
+    ensures { IfOk result (λ v. map view.toplevel_use v.items ≡ item_uses (map (view.gated view.file_item) items.now)) }
+{
+    let mut found = Vec::new(alloc);
+    for gated in items {
+        add_use(&mut found, &gated.item)?;
+    }
+    Ok(found)
+}
+
+/// What the files of a package declare.
+#[derive(Drop)]
+pub struct PackageScopes<'a> {
+    /// The docs of the first header that has some.
+    pub docs: Docs<'a>,
+    /// The `use` statements at the top of each file.
+    pub uses: Vec<Vec<ToplevelUse<'a>>>,
+    /// The interfaces and worlds, in the order of the files and of their texts.
+    pub items: Vec<ItemScope<'a>>,
+}
+
+/// Takes the docs of a header, where nothing is said yet.
+fn add_docs<'a>(
+    found: &mut Vec<Comment<'a>>,
+    header: &Option<PackageHeader<'a>>,
+) -> Result<(), AllocError>
+    ensures { OnOk result (map comment found.new.items ≡ spec.or_docs (map comment found.old.items) (spec.header_docs (option_map view.header header.now))) }
+{
+    match header {
+        Some(header) if found.is_empty() => {
+            found.extend_from_slice(header.docs.comments.as_slice())
+        }
+        _ => Ok(()),
+    }
+}
+
+/// Adds what stands at the head of a file: docs of its package, and `use` statements.
+fn add_head<'a>(
+    alloc: Global,
+    found: &mut PackageScopes<'a>,
+    file: &File<'a>,
+) -> Result<(), AllocError>
+    ensures docs { OnOk result (view.docs found.new.docs ≡ spec.or_docs (view.docs found.old.docs) (spec.header_docs (view.file file.now).header)) }
+    ensures uses { OnOk result (seen.uses found.new.uses.items ≡ seen.uses found.old.uses.items ++ item_uses (view.file file.now).items ∷ []) }
+    ensures items { found.new.items ≡ found.old.items }
+{
+    add_docs(&mut found.docs.comments, &file.package)?;
+    let statements = top_uses(alloc, file.items.as_slice())?;
+    found.uses.push(statements)?;
+    Ok(())
+}
+
+/// Adds what a file declares.
 fn add_file<'a>(
     alloc: Global,
-    found: &mut Vec<ItemScope<'a>>,
+    found: &mut PackageScopes<'a>,
     me: PackageName<'a>,
-    file: usize,
-    items: &'a [Gated<'a, FileItem<'a>>],
+    number: usize,
+    file: File<'a>,
 ) -> Result<(), AllocError>
-    ensures { OnOk result (map seen.item_scope found.new.items ≡ map seen.item_scope found.old.items ++ spec.items_scopes (view.package_name me.entry) file (map (view.gated view.file_item) items.entry.now)) }
+    ensures docs { OnOk result (view.docs found.new.docs ≡ spec.or_docs (view.docs found.old.docs) (spec.header_docs (view.file file.entry).header)) }
+    ensures uses { OnOk result (seen.uses found.new.uses.items ≡ seen.uses found.old.uses.items ++ item_uses (view.file file.entry).items ∷ []) }
+    ensures items { OnOk result (map seen.item_scope found.new.items.items ≡ map seen.item_scope found.old.items.items ++ spec.items_scopes (view.package_name me.entry) number (view.file file.entry).items) }
 {
-    let uses = FileUses::new(alloc, me, items)?;
-    for gated in items {
-        add_item(alloc, found, &uses, file, gated)?;
-    }
-    Ok(())
+    add_head(alloc, found, &file)?;
+    add_items(alloc, &mut found.items, me, number, file.items)
 }
 
-/// Adds the interfaces and worlds of files.
+/// Adds what files declare.
 fn add_files<'a>(
     alloc: Global,
-    found: &mut Vec<ItemScope<'a>>,
+    found: &mut PackageScopes<'a>,
     me: PackageName<'a>,
-    files: &'a [File<'a>],
+    files: Vec<File<'a>>,
 ) -> Result<(), AllocError>
-    ensures { OnOk result (map seen.item_scope found.new.items ≡ map seen.item_scope found.old.items ++ spec.package_scopes (view.package_name me.entry) (map view.file files.entry.now)) }
+    requires { seen.IsEmpty found.old }
+    ensures { OnOk result (seen.ArePackageScopes (view.package_name me.entry) (map view.file files.entry.items) found.new) }
 {
-    for (number, file) in files.iter().enumerate() {
-        add_file(alloc, found, me, number, file.items.as_slice())?;
+    let mut number = 0;
+    for file in files {
+        add_file(alloc, found, me, number, file)?;
+        number += 1;
     }
     Ok(())
 }
 
-/// The interfaces and worlds of a package of that name, in the order of its files and of their texts: each with all that
-/// it declares, one name at a time, and with what the paths in it name. A package that is nested in a file is none of the
-/// file's own.
+/// What the files of a package of that name declare: what is said of it, what is used at the top of each file, and its
+/// interfaces and worlds in the order of its files and of their texts, each with all that it declares, one name at a time, and
+/// with what the paths in it name. A package that is nested in a file is none of the file's own.
 pub fn package_scopes<'a>(
     alloc: Global,
     me: PackageName<'a>,
-    files: &'a [File<'a>],
-) -> Result<Vec<ItemScope<'a>>, AllocError>
-    ensures { IfOk result (λ v. map seen.item_scope v.items ≡ spec.package_scopes (view.package_name me.entry) (map view.file files.entry.now)) }
+    files: Vec<File<'a>>,
+) -> Result<PackageScopes<'a>, AllocError>
+    ensures { IfOk result (seen.ArePackageScopes (view.package_name me.entry) (map view.file files.entry.items)) }
 {
-    let mut found = Vec::new(alloc);
+    let docs = Docs {
+        comments: Vec::new(alloc),
+    };
+    let mut found = PackageScopes {
+        docs,
+        uses: Vec::new(alloc),
+        items: Vec::new(alloc),
+    };
     add_files(alloc, &mut found, me, files).and(Ok(found))
 }

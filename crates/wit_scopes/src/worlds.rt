@@ -8,12 +8,13 @@ ghost use Rattle.wit_scopes.specs.Scopes as spec;
 ghost use Rattle.wit_scopes.specs.View as seen;
 
 use crate::growing::push_to;
-use crate::members::{Member, add_members, add_type, add_uses};
+use crate::members::{Front, Member, add_members, add_type, add_uses};
 use crate::paths::{FileUses, Target, last_name};
 use std::alloc::{AllocError, Global};
+use std::rc::Rc;
 use wit_syntax::{
-    Attribute, Docs, ExternKind as ExternSyntax, Func, Gated, Id, Include, IncludeName, Span,
-    TypeDef, Use, WorldItem,
+    Attribute, ExternKind as ExternSyntax, Func, Gated, Id, Include, IncludeName, Interface,
+    NamedFunc, Span, TypeDef, Use, WorldItem,
 };
 
 /// Whether a world asks for something or offers it (WIT, Item: `world`).
@@ -29,7 +30,7 @@ pub enum Side {
 #[derive(Drop)]
 pub enum ExternKind<'a> {
     /// A function.
-    Function(&'a Func<'a>),
+    Function(Rc<Func<'a>>),
     /// An interface that stands in the world, with all that it declares.
     Interface(Vec<Member<'a>>),
     /// An interface of a package.
@@ -37,7 +38,6 @@ pub enum ExternKind<'a> {
 }
 
 /// An import or export of a world.
-#[derive(Drop)]
 pub struct Listed<'a> {
     /// Which of the two it is.
     pub side: Side,
@@ -45,23 +45,34 @@ pub struct Listed<'a> {
     pub name: Id<'a>,
     /// What it is.
     pub kind: ExternKind<'a>,
-    /// The docs in front of it.
-    pub docs: &'a Docs<'a>,
-    /// The attributes in front of it.
-    pub attributes: &'a [Attribute<'a>],
+    /// What stands in front of it.
+    pub front: Rc<Front<'a>>,
     /// Where it stands.
     pub span: Span,
 }
 
+// By hand, so that what lets syntax trees go is proved here alone.
+impl Drop for Listed<'_> {
+    fn drop(self) {
+        let Listed {
+            side: _,
+            name: _,
+            kind: _,
+            front: _,
+            span: _,
+        } = self;
+    }
+}
+
 /// A world that another includes.
-#[derive(Clone, Copy)]
+#[derive(Drop)]
 pub struct Included<'a> {
     /// The world.
     pub world: Target<'a>,
     /// The names that change.
-    pub names: &'a [IncludeName<'a>],
-    /// The attributes in front of it.
-    pub attributes: &'a [Attribute<'a>],
+    pub names: Vec<IncludeName<'a>>,
+    /// What stands in front of it.
+    pub front: Rc<Front<'a>>,
     /// Where it stands.
     pub span: Span,
 }
@@ -77,79 +88,41 @@ pub enum WorldMember<'a> {
     Included(Included<'a>),
 }
 
-/// The label of an import or export, or the last name of its path.
-fn extern_name<'a>(item: &ExternSyntax<'a>) -> Id<'a>
-    ensures { view.id result ≡ spec.extern_name (view.extern_kind item.now) }
-{
-    match item {
-        ExternSyntax::Func(named) => named.name,
-        ExternSyntax::Interface(interface) => interface.name,
-        ExternSyntax::Path(path) => last_name(path),
-    }
-}
-
-/// What stands behind `import` or `export`.
-fn extern_kind<'a>(
+/// What stands behind `import` or `export`, by its label or the last name of its path.
+fn extern_of<'a>(
     alloc: Global,
     uses: &FileUses<'a>,
-    item: &'a ExternSyntax<'a>,
-) -> Result<ExternKind<'a>, AllocError>
-    ensures { (us : List ToplevelUseTree) → seen.AreUses (view.package_name uses.now.me) us uses.now → IfOk result (λ k. seen.extern_kind k ≡ spec.extern_kind (view.package_name uses.now.me) us (view.extern_kind item.entry.now)) }
+    item: ExternSyntax<'a>,
+) -> Result<(Id<'a>, ExternKind<'a>), AllocError>
+    ensures name { IfOk result (λ r. view.id r.0 ≡ spec.extern_name (view.extern_kind item.entry)) }
+    ensures kind { (us : List ToplevelUseTree) → seen.AreUses (view.package_name uses.now.me) us uses.now → IfOk result (λ r. seen.extern_kind r.1 ≡ spec.extern_kind (view.package_name uses.now.me) us (view.extern_kind item.entry)) }
 {
     match item {
-        ExternSyntax::Func(named) => Ok(ExternKind::Function(&named.func)),
-        ExternSyntax::Interface(interface) => {
-            let mut members = Vec::new(alloc);
-            add_members(&mut members, uses, interface.items.as_slice())?;
-            Ok(ExternKind::Interface(members))
+        ExternSyntax::Func(NamedFunc { name, func }) => {
+            let func = Rc::new(alloc, func)?;
+            Ok((name, ExternKind::Function(func)))
         }
-        ExternSyntax::Path(path) => Ok(ExternKind::Item(uses.target(path))),
+        ExternSyntax::Interface(Interface { name, items }) => {
+            let mut members = Vec::new(alloc);
+            add_members(alloc, &mut members, uses, items)?;
+            Ok((name, ExternKind::Interface(members)))
+        }
+        ExternSyntax::Path(path) => {
+            let name = last_name(&path);
+            Ok((name, ExternKind::Item(uses.target(&path))))
+        }
     }
-}
-
-/// An import or export.
-fn listed_item<'a>(
-    alloc: Global,
-    uses: &FileUses<'a>,
-    gated: &'a Gated<'a, WorldItem<'a>>,
-    side: Side,
-    item: &'a ExternSyntax<'a>,
-) -> Result<WorldMember<'a>, AllocError>
-    ensures { (us : List ToplevelUseTree) → seen.AreUses (view.package_name uses.now.me) us uses.now → IfOk result (λ m. seen.world_member m ≡ spec.listed (spec.listed_of (view.package_name uses.now.me) us (view.gated view.world_item gated.entry.now) side (view.extern_kind item.entry.now))) }
-{
-    let kind = extern_kind(alloc, uses, item)?;
-    Ok(WorldMember::Listed(Listed {
-        side,
-        name: extern_name(item),
-        kind,
-        docs: &gated.docs,
-        attributes: gated.attributes.as_slice(),
-        span: gated.span,
-    }))
-}
-
-/// A world that is included.
-fn included_world<'a>(
-    uses: &FileUses<'a>,
-    gated: &'a Gated<'a, WorldItem<'a>>,
-    include: &'a Include<'a>,
-) -> WorldMember<'a>
-    ensures { (us : List ToplevelUseTree) → seen.AreUses (view.package_name uses.now.me) us uses.now → seen.world_member result ≡ spec.included (spec.included_of (view.package_name uses.now.me) us (view.gated view.world_item gated.entry.now) (view.include include.entry.now)) }
-{
-    WorldMember::Included(Included {
-        world: uses.target(&include.from),
-        names: include.names.as_slice(),
-        attributes: gated.attributes.as_slice(),
-        span: gated.span,
-    })
 }
 
 /// Adds members of a scope to those of a world.
-fn add_plain<'a>(found: &mut Vec<WorldMember<'a>>, members: &[Member<'a>]) -> Result<(), AllocError>
-    ensures { OnOk result (map seen.world_member found.new.items ≡ map seen.world_member found.old.items ++ map spec.member (seen.members members.now)) }
+fn add_plain<'a>(
+    found: &mut Vec<WorldMember<'a>>,
+    members: Vec<Member<'a>>,
+) -> Result<(), AllocError>
+    ensures { OnOk result (map seen.world_member found.new.items ≡ map seen.world_member found.old.items ++ map spec.member (seen.members members.entry.items)) }
 {
     for member in members {
-        push_to(found, WorldMember::Member(*member))?;
+        push_to(found, WorldMember::Member(member))?;
     }
     Ok(())
 }
@@ -159,14 +132,25 @@ fn add_listed<'a>(
     alloc: Global,
     found: &mut Vec<WorldMember<'a>>,
     uses: &FileUses<'a>,
-    gated: &'a Gated<'a, WorldItem<'a>>,
-    side: Side,
-    item: &'a ExternSyntax<'a>,
+    front: Front<'a>,
+    at: (Side, Span),
+    item: ExternSyntax<'a>,
 ) -> Result<(), AllocError>
-    ensures { (us : List ToplevelUseTree) → seen.AreUses (view.package_name uses.now.me) us uses.now → OnOk result (map seen.world_member found.new.items ≡ map seen.world_member found.old.items ++ spec.listed (spec.listed_of (view.package_name uses.now.me) us (view.gated view.world_item gated.entry.now) side (view.extern_kind item.entry.now)) ∷ []) }
+    ensures { (us : List ToplevelUseTree) → seen.AreUses (view.package_name uses.now.me) us uses.now → OnOk result (map seen.world_member found.new.items ≡ map seen.world_member found.old.items ++ spec.listed (spec.listed_of (view.package_name uses.now.me) us (seen.front front.entry at.1) at.0 (view.extern_kind item.entry)) ∷ []) }
 {
-    let member = listed_item(alloc, uses, gated, side, item)?;
-    push_to(found, member)
+    let (side, span) = at;
+    let (name, kind) = extern_of(alloc, uses, item)?;
+    let front = Rc::new(alloc, front)?;
+    push_to(
+        found,
+        WorldMember::Listed(Listed {
+            side,
+            name,
+            kind,
+            front,
+            span,
+        }),
+    )
 }
 
 /// Adds the names that a `use` takes.
@@ -174,46 +158,53 @@ fn add_used<'a>(
     alloc: Global,
     found: &mut Vec<WorldMember<'a>>,
     uses: &FileUses<'a>,
-    gated: &'a Gated<'a, WorldItem<'a>>,
-    item: &'a Use<'a>,
+    attributes: Vec<Attribute<'a>>,
+    item: &Use<'a>,
 ) -> Result<(), AllocError>
-    ensures { (us : List ToplevelUseTree) → seen.AreUses (view.package_name uses.now.me) us uses.now → OnOk result (map seen.world_member found.new.items ≡ map seen.world_member found.old.items ++ map spec.member (uses_members (view.package_name uses.now.me) us (map view.attribute gated.entry.now.attributes.items) (view.uses item.entry.now))) }
+    ensures { (us : List ToplevelUseTree) → seen.AreUses (view.package_name uses.now.me) us uses.now → OnOk result (map seen.world_member found.new.items ≡ map seen.world_member found.old.items ++ map spec.member (uses_members (view.package_name uses.now.me) us (map view.attribute attributes.entry.items) (view.uses item.now))) }
 {
     let mut members = Vec::new(alloc);
-    let from = uses.target(&item.from);
-    add_uses(
-        &mut members,
-        from,
-        gated.attributes.as_slice(),
-        item.names.as_slice(),
-    )?;
-    add_plain(found, members.as_slice())
+    add_uses(alloc, &mut members, uses, attributes, item)?;
+    add_plain(found, members)
 }
 
 /// Adds a definition of a type and, of a resource, its functions.
 fn add_defined<'a>(
     alloc: Global,
     found: &mut Vec<WorldMember<'a>>,
-    gated: &'a Gated<'a, WorldItem<'a>>,
-    def: &'a TypeDef<'a>,
+    front: Front<'a>,
+    span: Span,
+    def: TypeDef<'a>,
 ) -> Result<(), AllocError>
-    ensures { OnOk result (map seen.world_member found.new.items ≡ map seen.world_member found.old.items ++ map spec.member (type_members (view.gated view.world_item gated.entry.now) (view.type_def def.entry.now))) }
+    ensures { OnOk result (map seen.world_member found.new.items ≡ map seen.world_member found.old.items ++ map spec.member (type_members (seen.front front.entry span) (view.type_def def.entry))) }
 {
     let mut members = Vec::new(alloc);
-    add_type(&mut members, gated, def)?;
-    add_plain(found, members.as_slice())
+    add_type(alloc, &mut members, front, span, def)?;
+    add_plain(found, members)
 }
 
 /// Adds a world that is included.
 fn add_included<'a>(
+    alloc: Global,
     found: &mut Vec<WorldMember<'a>>,
     uses: &FileUses<'a>,
-    gated: &'a Gated<'a, WorldItem<'a>>,
-    include: &'a Include<'a>,
+    front: Front<'a>,
+    span: Span,
+    include: Include<'a>,
 ) -> Result<(), AllocError>
-    ensures { (us : List ToplevelUseTree) → seen.AreUses (view.package_name uses.now.me) us uses.now → OnOk result (map seen.world_member found.new.items ≡ map seen.world_member found.old.items ++ spec.included (spec.included_of (view.package_name uses.now.me) us (view.gated view.world_item gated.entry.now) (view.include include.entry.now)) ∷ []) }
+    ensures { (us : List ToplevelUseTree) → seen.AreUses (view.package_name uses.now.me) us uses.now → OnOk result (map seen.world_member found.new.items ≡ map seen.world_member found.old.items ++ spec.included (spec.included_of (view.package_name uses.now.me) us (seen.front front.entry span) (view.include include.entry)) ∷ []) }
 {
-    push_to(found, included_world(uses, gated, include))
+    let Include { from, names } = include;
+    let front = Rc::new(alloc, front)?;
+    push_to(
+        found,
+        WorldMember::Included(Included {
+            world: uses.target(&from),
+            names,
+            front,
+            span,
+        }),
+    )
 }
 
 /// Adds what an item of a world declares.
@@ -221,16 +212,27 @@ fn add_item<'a>(
     alloc: Global,
     found: &mut Vec<WorldMember<'a>>,
     uses: &FileUses<'a>,
-    gated: &'a Gated<'a, WorldItem<'a>>,
+    gated: Gated<'a, WorldItem<'a>>,
 ) -> Result<(), AllocError>
-    ensures { (us : List ToplevelUseTree) → seen.AreUses (view.package_name uses.now.me) us uses.now → OnOk result (map seen.world_member found.new.items ≡ map seen.world_member found.old.items ++ spec.world_item_members (view.package_name uses.now.me) us (view.gated view.world_item gated.entry.now) (view.world_item gated.entry.now.item)) }
+    ensures { (us : List ToplevelUseTree) → seen.AreUses (view.package_name uses.now.me) us uses.now → OnOk result (map seen.world_member found.new.items ≡ map seen.world_member found.old.items ++ spec.world_item_members (view.package_name uses.now.me) us (view.gated view.world_item gated.entry) (view.world_item gated.entry.item)) }
 {
-    match &gated.item {
-        WorldItem::Import(item) => add_listed(alloc, found, uses, gated, Side::Import, item),
-        WorldItem::Export(item) => add_listed(alloc, found, uses, gated, Side::Export, item),
-        WorldItem::Include(include) => add_included(found, uses, gated, include),
-        WorldItem::Use(item) => add_used(alloc, found, uses, gated, item),
-        WorldItem::TypeDef(def) => add_defined(alloc, found, gated, def),
+    let Gated {
+        docs,
+        attributes,
+        item,
+        span,
+    } = gated;
+    let front = Front { docs, attributes };
+    match item {
+        WorldItem::Import(item) => {
+            add_listed(alloc, found, uses, front, (Side::Import, span), item)
+        }
+        WorldItem::Export(item) => {
+            add_listed(alloc, found, uses, front, (Side::Export, span), item)
+        }
+        WorldItem::Include(include) => { add_included(alloc, found, uses, front, span, include) }
+        WorldItem::Use(item) => add_used(alloc, found, uses, front.attributes, &item),
+        WorldItem::TypeDef(def) => add_defined(alloc, found, front, span, def),
     }
 }
 
@@ -238,9 +240,9 @@ fn add_item<'a>(
 pub fn world_members<'a>(
     alloc: Global,
     uses: &FileUses<'a>,
-    items: &'a [Gated<'a, WorldItem<'a>>],
+    items: Vec<Gated<'a, WorldItem<'a>>>,
 ) -> Result<Vec<WorldMember<'a>>, AllocError>
-    ensures { (us : List ToplevelUseTree) → seen.AreUses (view.package_name uses.now.me) us uses.now → IfOk result (λ v. map seen.world_member v.items ≡ spec.world_members (view.package_name uses.now.me) us (map (view.gated view.world_item) items.entry.now)) }
+    ensures { (us : List ToplevelUseTree) → seen.AreUses (view.package_name uses.now.me) us uses.now → IfOk result (λ v. map seen.world_member v.items ≡ spec.world_members (view.package_name uses.now.me) us (map (view.gated view.world_item) items.entry.items)) }
 {
     let mut found = Vec::new(alloc);
     for gated in items {

@@ -22,7 +22,7 @@ ghost use Rattle.wit_worlds.specs.PathView as seen;
 use crate::paths::Paths;
 use std::alloc::{AllocError, Global};
 use std::collections::VecDeque;
-use wit_package_types::stability_of;
+use wit_package_types::stability_in;
 use wit_scopes::{ExternKind, Included, Listed, MemberKind, Side, WorldMember};
 use wit_syntax::IncludeName as WrittenName;
 use wit_types::{Function, IncludeName, InterfaceId, WorldInclude, WorldItem, WorldKey};
@@ -73,10 +73,10 @@ fn interface_entry(
     id: InterfaceId,
     listed: &Listed<'_>,
 ) -> Result<(WorldKey, WorldItem), AllocError>
-    requires { AreGates (map view.attribute listed.now.attributes.now) }
+    requires { AreGates (map view.attribute listed.now.front.value.attributes.items) }
     ensures { IfOk result (spec.MakesInterfaceEntry (scope_view.listed listed.now) (known key) id) }
 {
-    let stability = stability_of(alloc, listed.attributes)?;
+    let stability = stability_in(alloc, &listed.front)?;
     let item = WorldItem::Interface {
         id,
         stability,
@@ -91,7 +91,7 @@ fn labelled_entry(
     id: InterfaceId,
     listed: &Listed<'_>,
 ) -> Result<(WorldKey, WorldItem), AllocError>
-    requires { AreGates (map view.attribute listed.now.attributes.now) }
+    requires { AreGates (map view.attribute listed.now.front.value.attributes.items) }
     ensures { IfOk result (spec.MakesInterfaceEntry (scope_view.listed listed.now) (spelled listed.now.name.name.now) id) }
 {
     let name = String::from_str(alloc, listed.name.name)?;
@@ -120,12 +120,12 @@ fn include_of(
     requires there { path_spec.IsWorldThere (seen.paths paths.now) (scope_view.target included.now.world) }
     requires sorts { path_spec.AreSorts (seen.paths paths.now).items }
     requires room { (seen.paths paths.now).first_world + length (seen.paths paths.now).worlds < 2 ^ 64 }
-    requires gates { AreGates (map view.attribute included.now.attributes.now) }
+    requires gates { AreGates (map view.attribute included.now.front.value.attributes.items) }
     ensures { IfOk result (spec.MakesInclude (seen.paths paths.now) (scope_view.included included.now)) }
 {
     let id = paths.world(&included.world);
-    let stability = stability_of(alloc, included.attributes)?;
-    let names = include_names(alloc, included.names)?;
+    let stability = stability_in(alloc, &included.front)?;
+    let names = include_names(alloc, included.names.as_slice())?;
     Ok(WorldInclude {
         stability,
         id,

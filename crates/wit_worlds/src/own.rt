@@ -12,11 +12,12 @@ fn add_listed<'a>(found: &mut Vec<Member<'a>>, listed: &Listed<'a>) -> Result<()
     ensures { OnOk result (scope_view.members found.new.items ≡ scope_view.members found.old.items ++ spec.listed_member (scope_view.listed listed.now) (scope_view.extern_kind listed.now.kind)) }
 {
     if let ExternKind::Function(func) = &listed.kind {
+        let kind = MemberKind::Function(func.clone()?);
+        let front = listed.front.clone()?;
         found.push(Member {
             name: listed.name,
-            kind: MemberKind::Function(func),
-            docs: Some(listed.docs),
-            attributes: listed.attributes,
+            kind,
+            front,
             span: listed.span,
         })?;
     }
@@ -29,7 +30,8 @@ fn add_own<'a>(found: &mut Vec<Member<'a>>, member: &WorldMember<'a>) -> Result<
 {
     match member {
         WorldMember::Member(member) => {
-            found.push(*member)?;
+            let copy = member.clone()?;
+            found.push(copy)?;
             Ok(())
         }
         WorldMember::Listed(listed) => add_listed(found, listed),

@@ -19,7 +19,7 @@ use indexmap::IndexMap;
 use std::alloc::{AllocError, Global};
 use wit_arena::{Table, Types, docs_of};
 use wit_interfaces::keyed;
-use wit_package_types::stability_of;
+use wit_package_types::stability_in;
 use wit_scopes::{WorldMember, WorldScope};
 use wit_types::{World, WorldInclude, WorldItem, WorldKey};
 
@@ -50,12 +50,12 @@ fn world_with(
     exports: IndexMap<WorldKey, WorldItem>,
     includes: Vec<WorldInclude>,
 ) -> Result<World, AllocError>
-    requires { AreGates (map view.attribute world.now.attributes.now) }
+    requires { AreGates (map view.attribute world.now.front.attributes.items) }
     ensures { IfOk result (spec.IsWorldOf (scope_view.world_scope world.now) imports.entries exports.entries includes.items) }
 {
     let name = String::from_str(alloc, world.name.name)?;
-    let docs = docs_of(alloc, world.docs)?;
-    let stability = stability_of(alloc, world.attributes)?;
+    let docs = docs_of(alloc, &world.front.docs)?;
+    let stability = stability_in(alloc, &world.front)?;
     Ok(World {
         name,
         imports,
@@ -70,7 +70,7 @@ fn world_with(
 
 /// A world with what is listed, of which no two imports and no two exports have one key.
 fn world_from(alloc: Global, world: &WorldScope<'_>, lists: Lists) -> Result<World, AllocError>
-    requires gates { AreGates (map view.attribute world.now.attributes.now) }
+    requires gates { AreGates (map view.attribute world.now.front.attributes.items) }
     requires imports { (i j : ℕ) (e f : Entry) → slice_get lists.imports.items i ≡ Some e → slice_get lists.imports.items j ≡ Some f → key_eq e.0 f.0 ≡ true → i ≡ j }
     requires exports { (i j : ℕ) (e f : Entry) → slice_get lists.exports.items i ≡ Some e → slice_get lists.exports.items j ≡ Some f → key_eq e.0 f.0 ≡ true → i ≡ j }
     ensures { IfOk result (spec.IsWorldOf (scope_view.world_scope world.now) lists.imports.items lists.exports.items lists.includes.items) }
@@ -85,25 +85,19 @@ fn world_from(alloc: Global, world: &WorldScope<'_>, lists: Lists) -> Result<Wor
     world_with(alloc, world, imports, exports, includes)
 }
 
-/// What a world declares, in the order of the text.
-fn members_of<'w, 'a>(world: &'w WorldScope<'a>) -> &'w [WorldMember<'a>]
-    ensures { result.now ≡ world.entry.now.members.items }
-{
-    world.members.as_slice()
-}
-
 /// What is listed in a world.
 fn lists_in(
     alloc: Global,
+    world: &WorldScope<'_>,
     paths: &Paths<'_>,
     left: Left,
     imports: Vec<(WorldKey, WorldItem)>,
-    world: &WorldScope<'_>,
 ) -> Result<Lists, AllocError>
     requires { spec.MayList (seen.paths paths.now) (scope_view.world_scope world.now) left.functions.items left.labelled.items }
     ensures { (w : Name) → IfOk result (λ lists. (others : List Entry) × (lists.imports.items ≡ imports.items ++ others) × AreListsMade (seen.paths paths.now) w (scope_view.world_scope world.now).members left.functions.items left.labelled.items others lists.exports.items lists.includes.items) }
 {
-    lists_of(alloc, paths, left, imports, members_of(world))
+    let members = &world.members;
+    lists_of(alloc, paths, left, imports, members.as_slice())
 }
 
 /// A world of its types, of its functions and of the interfaces that stand in it: its types come first among its imports, and
@@ -120,6 +114,6 @@ pub fn world_of(
     ensures { IfOk result (spec.MakesWorld (seen.paths paths.now) (scope_view.world_scope world.now) types.now table.now left.functions.items left.labelled.items) }
 {
     let imports = type_entries(alloc, types, table)?;
-    let lists = lists_in(alloc, paths, left, imports, world)?;
+    let lists = lists_in(alloc, world, paths, left, imports)?;
     world_from(alloc, world, lists)
 }

@@ -4,7 +4,7 @@ use Rattle.wit_types.specs.declared.kind.Record.{Record}
 use Rattle.wit_productions.specs.TypeTree.{TypeOption, a_type}
 use Rattle.wit_items.specs.ItemTree.{FieldTree}
 use Rattle.wit_syntax.specs.AstView as view
-use Rattle.wit_scopes.specs.TypeNames.{names_in_parts}
+use Rattle.wit_type_names.specs.TypeNames.{names_in_parts}
 use Rattle.wit_arena.specs.Lower.{AreThere, LowersParts}
 use Rattle.wit_arena.specs.LowerKind.{written_field, lowers_record}
 use Rattle.wit_arena.proofs.definitions.lower_record.Goals as goal

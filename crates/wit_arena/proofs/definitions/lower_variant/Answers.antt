@@ -4,7 +4,7 @@ use Rattle.wit_types.specs.declared.kind.Variant.{Variant}
 use Rattle.wit_productions.specs.TypeTree.{TypeOption, opt}
 use Rattle.wit_items.specs.ItemTree.{CaseTree}
 use Rattle.wit_syntax.specs.AstView as view
-use Rattle.wit_scopes.specs.TypeNames.{names_in_parts}
+use Rattle.wit_type_names.specs.TypeNames.{names_in_parts}
 use Rattle.wit_arena.specs.Lower.{AreThere, LowersParts}
 use Rattle.wit_arena.specs.LowerKind.{written_case, lowers_variant}
 use Rattle.wit_arena.proofs.definitions.lower_variant.Goals as goal

@@ -11,13 +11,13 @@ use Rattle.wit_productions.specs.TypeTree.{TypeTree, TypeShape, TypeRow, TypeOpt
 use Rattle.wit_productions.specs.TypeView.{type_tree, type_shape}
 use Rattle.wit_productions.specs.NameView.{id}
 use Rattle.wit_productions.proofs.TypeViews.{list_of, fixed_length_list_of, option_of, future_of, stream_of}
-use Rattle.wit_scopes.specs.TypeNames.{names_in_part, names_in_shape}
+use Rattle.wit_type_names.specs.TypeNames.{names_in_part, names_in_shape}
 use Rattle.wit_arena.specs.Shape as shape
 use Rattle.wit_arena.specs.Shape.{ShapeTree, shape_of}
 use Rattle.wit_arena.specs.Lower.{AreThere, IsResult, err_part, Lowers, LowersShape, LowersPart, LowersParts, lowers_primitive, lowers_name, lowers_composed, lowers_list, lowers_fixed_length_list, lowers_option, lowers_tuple, lowers_result, lowers_own, lowers_borrow, lowers_future, lowers_stream, lowers_nothing, lowers_a_type}
-use Rattle.wit_scopes.specs.TypeView.{part_tree, type_part}
+use Rattle.wit_type_names.specs.TypeView.{part_tree, type_part}
 use Rattle.wit_arena.proofs.Lists.{has_right}
-use Rattle.wit_scopes.proofs.TypeViews.{name_of, own_of, borrow_of, tuple_of, result_of, tree_of}
+use Rattle.wit_type_names.proofs.TypeViews.{name_of, own_of, borrow_of, tuple_of, result_of, tree_of}
 use Rattle.wit_arena.proofs.Rows.{row_parts, row_names, there_at, goes_on, ends, GoesOn}
 use Rattle.wit_arena.proofs.lowering.+lower.Goals as goal
 

@@ -1,5 +1,5 @@
 use Rattle.std.proofs.Common.{map, Some}
-use Rattle.wit_scopes.specs.TypeView.{type_part}
+use Rattle.wit_type_names.specs.TypeView.{type_part}
 use Rattle.wit_arena.proofs.Rows.{GoesOn}
 use Rattle.wit_arena.proofs.lowering.+lower.Given as goal
 

@@ -11,10 +11,10 @@ use Rattle.wit_foreign.proofs.Depending.{next_read, earlier_entry, row_at}
 use Rattle.wit_foreign.proofs.deps.items_in.Goals as goal
 
 pub add_item-requires-clause-new : goal.add_item-requires-clause-new
-add_item-requires-clause-new c = λ e has same. (let h = earlier_entry (IsItemDep c.args.items.now) c.args.firsts.now c.loop-place.place _ c.loop-place-test.true (rows c.args.rows.now) (c.loop-place.deps.entries) c.loop-place.invariant item_key c.requires.apart (length-map c.args.rows.now row ∙ c.requires.rows) e has in let is = h.2 in h.3 (sym is.name ∙ same))
+add_item-requires-clause-new c = λ e has same. (let h = earlier_entry (IsItemDep c.args.items.now) c.args.firsts.now c.loop-place.place c.index-firsts-place.result c.loop-place-test.true c.index-firsts-place.is (rows c.args.rows.now) (c.loop-place.deps.entries) c.loop-place.invariant item_key c.requires.apart (length-map c.args.rows.now row ∙ c.requires.rows) e has in let is = h.2 in h.3 (sym is.name ∙ same))
 
 pub add_item-requires-clause-there : goal.add_item-requires-clause-there
-add_item-requires-clause-there c = c.requires.there _ (c.loop-place.place, next_at c.args.firsts.now c.loop-place.place _ c.loop-place-test.true)
+add_item-requires-clause-there c = c.requires.there _ (c.loop-place.place, next_at c.args.firsts.now c.loop-place.place c.index-firsts-place.result c.loop-place-test.true c.index-firsts-place.is)
 
 pub add_item-requires-clause-gates : goal.add_item-requires-clause-gates
 add_item-requires-clause-gates c = λ n has.
@@ -24,5 +24,5 @@ pub loop-place-preserved : goal.loop-place-preserved
 loop-place-preserved c =
     let added = c.in_ok-add_item.ensures in
     subst (λ (es : List ItemEntry). AreEntries (IsItemDep c.args.items.now) (seen.needs (take (c.loop-place.place + 1) c.args.firsts.now)) (rows c.args.rows.now) es) (sym added.2)
-    (next_read (IsItemDep c.args.items.now) c.args.firsts.now c.loop-place.place _ c.loop-place-test.true (rows c.args.rows.now) (c.loop-place.deps.entries) c.loop-place.invariant c.index-rows-place.result c.as_slice.result.now added.0 c.as_slice.ensures.value (row_at c.args.rows.now c.loop-place.place c.index-rows-place.result (let l = c.loop-place-test.true in let e = c.requires.rows in omega (arith, l, e)) c.index-rows-place.is)
+    (next_read (IsItemDep c.args.items.now) c.args.firsts.now c.loop-place.place c.index-firsts-place.result c.loop-place-test.true c.index-firsts-place.is (rows c.args.rows.now) (c.loop-place.deps.entries) c.loop-place.invariant c.index-rows-place.result c.as_slice.result.now added.0 c.as_slice.ensures.value (row_at c.args.rows.now c.loop-place.place c.index-rows-place.result (let l = c.loop-place-test.true in let e = c.requires.rows in omega (arith, l, e)) c.index-rows-place.is)
     added.1)

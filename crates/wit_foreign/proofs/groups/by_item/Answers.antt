@@ -2,9 +2,10 @@ use Rattle.std.proofs.Common.{◌∙◌, [], List, map, ap, sym, subst}
 use Rattle.std.specs.Prelude.{Vec}
 use Rattle.std.specs.declared.alloc.Global.{Global}
 use Rattle.wit_foreign.specs.declared.needs.Need.{Need}
+use Rattle.wit_foreign.specs.Needs.{NeedTree}
 use Rattle.wit_foreign.specs.View as seen
 use Rattle.wit_foreign.specs.GroupView.{rows}
-use Rattle.wit_foreign.specs.Groups.{AreGroups, no_groups, item_key}
+use Rattle.wit_foreign.specs.Groups.{AreGroups, AddsNeed, no_groups, item_key}
 use Rattle.wit_foreign.proofs.Grouping.{rows_of, next_group}
 use Rattle.wit_foreign.proofs.groups.by_item.Goals as goal
 
@@ -20,7 +21,7 @@ add_by_item-requires-clause-rows c = rows_of item_key _ c.loop-need.firsts.items
 
 pub loop-need-preserved : goal.loop-need-preserved
 loop-need-preserved c = (
-  next_group item_key c.args.needs.now c.loop-need.need-index _ c.loop-need-test.true (seen.needs c.loop-need.firsts.items) (rows c.loop-need.rows.items) (seen.needs c.add_by_item.new.firsts.items) (rows c.add_by_item.new.rows.items) c.loop-need.invariant.0
-      c.in_ok-add_by_item.ensures.groups,
+  next_group item_key c.args.needs.now c.loop-need.need-index c.need-item.result c.loop-need-test.true c.need-item.is (seen.needs c.loop-need.firsts.items) (rows c.loop-need.rows.items) (seen.needs c.add_by_item.new.firsts.items) (rows c.add_by_item.new.rows.items) c.loop-need.invariant.0
+      (subst (λ (m : NeedTree). AddsNeed item_key m (seen.needs c.loop-need.firsts.items) (rows c.loop-need.rows.items) (seen.needs c.add_by_item.new.firsts.items) (rows c.add_by_item.new.rows.items)) c.in_ok-copy.ensures.cases c.in_ok-add_by_item.ensures.groups),
   c.in_ok-add_by_item.ensures.names,
 )

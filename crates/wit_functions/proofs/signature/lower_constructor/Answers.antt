@@ -6,7 +6,7 @@ use Rattle.wit_productions.specs.TypeTree.{TypeTree, standing}
 use Rattle.wit_productions.specs.TypeView.{type_tree}
 use Rattle.wit_productions.specs.declared.types.«Type».{«Type» as Written}
 use Rattle.wit_syntax.specs.AstView as view
-use Rattle.wit_scopes.specs.TypeNames.{names_in_parts, signature_parts}
+use Rattle.wit_type_names.specs.TypeNames.{names_in_parts, signature_parts}
 use Rattle.wit_arena.specs.Lower.{lowers_a_type}
 use Rattle.wit_functions.specs.Signature.{or_resource, LowersSignature}
 use Rattle.wit_functions.proofs.Parts.{there_behind, params_there, signature_is}

@@ -5,7 +5,7 @@ use Rattle.wit_productions.specs.TypeView.{type_tree}
 use Rattle.wit_items.specs.declared.items.Param.{Param as Written}
 use Rattle.wit_items.specs.ItemTree.{ParamTree}
 use Rattle.wit_syntax.specs.AstView as view
-use Rattle.wit_scopes.specs.TypeNames.{names_in_parts, param_parts, signature_parts}
+use Rattle.wit_type_names.specs.TypeNames.{names_in_parts, param_parts, signature_parts}
 use Rattle.wit_arena.specs.Lower.{AreThere}
 use Rattle.wit_arena.specs.LowerParams.{LowersParams}
 use Rattle.wit_functions.proofs.Parts.{there_first, there_behind, params_there, result_there, method_is}

@@ -5,5 +5,5 @@ use Rattle.wit_lookups.specs.Lookups.{FileBreaks}
 use Rattle.wit_lookups.proofs.Loops.{AreKeptTo}
 use Rattle.wit_lookups.proofs.files.check_files.Given as goal
 
-abbrev pub invariant-loop-file : goal.invariant-loop-file
-invariant-loop-file l = AreKeptTo (FileBreaks (view.package_name l.me) (map scope_view.item_scope l.scopes)) view.file l.files l.file-index
+abbrev pub invariant-loop-uses : goal.invariant-loop-uses
+invariant-loop-uses l = AreKeptTo (FileBreaks (view.package_name l.me) (map scope_view.item_scope l.scopes)) (λ us. map view.toplevel_use us.items) l.files l.uses-index

@@ -2,7 +2,7 @@ use Rattle.std.proofs.Common.{◌≡◌, ◌++◌, List, map, ap, subst, ◌∙�
 use Rattle.std.specs.Prelude.{IfErr}
 use Rattle.wit_words.specs.Slice.{Slice}
 use Rattle.wit_syntax.specs.AstView as view
-use Rattle.wit_scopes.specs.TypeNames.{names_in_member}
+use Rattle.wit_type_names.specs.TypeNames.{names_in_member}
 use Rattle.wit_scopes.specs.View.{item_scope, member_kind}
 use Rattle.wit_scopes.proofs.Outcomes.{on_ok, if_err}
 use Rattle.wit_rules.specs.Breaks.{IsKept, IsFaultOf}

@@ -1,29 +1,25 @@
-use Rattle.std.proofs.Common.{◌≡◌, Some, map, sym, ap, ◌∙◌}
-use Rattle.std.specs.Prelude.{option_map}
+use Rattle.std.proofs.Common.{List, map, sym, subst}
+use Rattle.wit_syntax.specs.Ast.{FileTree}
 use Rattle.wit_syntax.specs.AstView as view
-use Rattle.wit_scopes.specs.View as scope_view
-use Rattle.wit_rules.specs.declared.files.Declared.{Declared}
+use Rattle.wit_scopes.specs.Scopes.{package_scopes}
 use Rattle.wit_rules.specs.Breaks.{IsFaultOf}
-use Rattle.wit_rules.specs.Facts.{IsDeclared, PackageBreaks, FilesBreak, in_package, package_name}
+use Rattle.wit_rules.specs.Facts.{IsNamed, ScopesBreak, FilesBreak, in_package, by_scopes}
+use Rattle.wit_rules.specs.DeclaredView.{AreScopesKept, IsDeclaredOf}
 use Rattle.wit_rules.proofs.Breaking.{widened}
-use Rattle.wit_scopes.proofs.Outcomes.{and_ok, and_err, if_err}
-use Rattle.wit_rules.proofs.Kept.{files_kept}
+use Rattle.wit_rules.proofs.Declaring.{declared_of}
+use Rattle.wit_scopes.proofs.Outcomes.{if_ok, if_err}
 use Rattle.wit_rules.proofs.files.declared_in.Goals as goal
 
-pub returns-clause-ok : goal.returns-clause-ok
-returns-clause-ok c =
-    let files = map view.file c.args.files.now in
-    let me = view.package_name c.in-Some.name in
-    let named : package_name files ≡ Some me = sym c.first_name.ensures ∙ ap (option_map view.package_name) c.in-Some.is in
-    let declared : Declared = record { name = c.in-Some.name; scopes = c.in_ok-scopes.scopes } in
-    rw c.and.ensures
-    (and_ok c.check_files.result declared (λ d. IsDeclared files (view.package_name d.name) (map scope_view.item_scope d.scopes.items)) (λ kept. record { named = named; scopes_are = c.in_ok-scopes.ensures; kept = files_kept me files named kept }) c.check_files.ensures.ok)
+pub returns-in-Ok-clause-ok : goal.returns-in-Ok-clause-ok
+returns-in-Ok-clause-ok c =
+    let files : List FileTree = map view.file c.args.files.items in
+    let me = view.package_name c.in-Ok.name in
+    let named : IsNamed files me = c.in-Ok.ensures.ok in
+    if_ok c.checked_scopes.result (AreScopesKept me files) (IsDeclaredOf files) (λ d h. declared_of files me d named h) c.checked_scopes.ensures.ok
 
-pub returns-clause-cause : goal.returns-clause-cause
-returns-clause-cause c =
-    let files = map view.file c.args.files.now in
-    let me = view.package_name c.in-Some.name in
-    let named : package_name files ≡ Some me = sym c.first_name.ensures ∙ ap (option_map view.package_name) c.in-Some.is in
-    let declared : Declared = record { name = c.in-Some.name; scopes = c.in_ok-scopes.scopes } in
-    rw c.and.ensures
-    (and_err c.check_files.result declared (IsFaultOf (FilesBreak files)) (if_err c.check_files.result (IsFaultOf (PackageBreaks me files)) (IsFaultOf (FilesBreak files)) (widened (PackageBreaks me files) (FilesBreak files) (λ rule at b. in_package me named b)) c.check_files.ensures.cause))
+pub returns-in-Ok-clause-cause : goal.returns-in-Ok-clause-cause
+returns-in-Ok-clause-cause c =
+    let files : List FileTree = map view.file c.args.files.items in
+    let me = view.package_name c.in-Ok.name in
+    let named : IsNamed files me = c.in-Ok.ensures.ok in
+    if_err c.checked_scopes.result (IsFaultOf (ScopesBreak (package_scopes me files))) (IsFaultOf (FilesBreak files)) (widened (ScopesBreak (package_scopes me files)) (FilesBreak files) (λ rule at b. in_package me named.named (by_scopes b))) c.checked_scopes.ensures.cause

@@ -19,7 +19,7 @@ returns-in-Function c =
     if_to c.function_entry.result (MakesFunctionEntry c.take_first.result) (λ e. MakesListed ps l (scope_view.extern_kind c.args.listed.now.kind) c.args.left.now.functions.items ids e rest ids)
     (λ e made.
     subst (λ (k : Kind). MakesListed ps l (scope_view.extern_kind k) c.args.left.now.functions.items ids e rest ids) (sym c.in-Function.is)
-    (subst (λ (fs : List Function). MakesListed ps l (scope.ExternKind.function (view.func c.in-Function.field-0.now)) fs ids e rest ids) (sym c.take_first.ensures) (makes_function (view.func c.in-Function.field-0.now) c.take_first.result rest ids e made)))
+    (subst (λ (fs : List Function). MakesListed ps l (scope.ExternKind.function (view.func c.in-Function.field-0.value)) fs ids e rest ids) (sym c.take_first.ensures) (makes_function (view.func c.in-Function.field-0.value) c.take_first.result rest ids e made)))
     c.function_entry.ensures
 
 pub returns-in-Interface : goal.returns-in-Interface

@@ -1,0 +1,6 @@
+//! The names that stand in the types of what a scope declares.
+#![tactic(auto)]
+
+mod type_names;
+
+pub use type_names::{func_type_names, member_handle_names, member_type_names};
