@@ -6,3 +6,6 @@ pub mod Whole
 pub mod Missing
 pub mod Naming
 pub mod Lawful
+pub mod Sorting
+pub mod Reading
+pub mod Stepping

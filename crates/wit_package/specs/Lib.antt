@@ -3,3 +3,7 @@ pub mod Resolved
 pub mod Start
 pub mod Built
 pub mod Laws
+pub mod Steps
+pub mod Group
+pub mod GroupView
+pub mod Places

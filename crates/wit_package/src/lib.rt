@@ -1,14 +1,30 @@
-//! What a package of WIT is resolved to, what it breaks, and what it asks of others before anything of its own is brought in (WIT,
-//! Packages).
+//! Packages of WIT (WIT, Packages): what their files or their texts are resolved to, or the rule that they break. The types that a
+//! package is made of stand in `wit_types`, and what is read of texts in `wit_syntax`; those that users name are offered here too.
 #![tactic(auto)]
 
 mod asked;
+mod build;
+mod group;
 mod law;
+mod made;
+mod places;
+mod resolve;
+mod resolver;
 mod versions;
 
-pub use asked::{Start, start_of};
+pub use group::UnresolvedPackageGroup;
 pub use law::{
     law_built_packages_are_resolved, law_items_break_as_scopes_do, law_kept_packages_may_be_built,
     law_missing_names_come_first, law_packages_are_built_in_two_steps,
 };
-pub use versions::check_versions;
+pub use resolve::resolved_files;
+pub use resolver::Resolver;
+pub use wit_rules::{PackageFault, PackageRule};
+pub use wit_syntax::{File, SourceMap, Span, SyntaxFault, parse_file};
+pub use wit_types::{
+    AbiVariant, Arena, AstItem, Case, Docs, Enum, EnumCase, Field, Flag, Flags, FlagsRepr,
+    ForeignItems, Function, FunctionKind, Handle, Id, IncludeName, Int, Interface, InterfaceId,
+    Mangling, Package, PackageId, PackageName, Param, Record, Result_, Stability, Tuple, Type,
+    TypeDef, TypeDefKind, TypeId, TypeOwner, UnresolvedPackage, Variant, World, WorldId,
+    WorldInclude, WorldItem, WorldKey, toposort,
+};

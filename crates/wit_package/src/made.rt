@@ -1,0 +1,47 @@
+//! A package made of what is brought together.
+
+ghost use Rattle.std.specs.Prelude.{◌≡◌, IfOk};
+ghost use Rattle.wit_syntax.specs.AstView as view;
+ghost use Rattle.wit_package_types.specs.Stability.{IsReadWhere};
+ghost use Rattle.wit_foreign.specs.Deps.{HaveItems, HaveGates, HaveVersions};
+ghost use Rattle.wit_foreign.specs.View as asked;
+ghost use Rattle.wit_package.specs.Resolved as spec;
+
+use std::alloc::{AllocError, Global};
+use wit_arena::docs_of;
+use wit_foreign::{ForeignItems, Need, foreign_deps, package_name};
+use wit_interfaces::Building;
+use wit_syntax::{Docs, PackageName, Span};
+use wit_types::{Arena, UnresolvedPackage, World};
+
+/// The package of that name, with these docs, that is made of what was brought together, and of what it asks of others.
+pub fn package_of<'a>(
+    alloc: Global,
+    me: &PackageName<'_>,
+    docs: &Docs<'_>,
+    items: &ForeignItems<'a>,
+    needs: &[Need<'a>],
+    building: Building<'a>,
+    worlds: Arena<World>,
+    spans: Vec<Span>,
+) -> Result<UnresolvedPackage, AllocError>
+    requires version { IsReadWhere (view.package_name me.now).version }
+    requires there { HaveItems items.now (asked.needs needs.now) }
+    requires gates { HaveGates (asked.needs needs.now) }
+    requires versions { HaveVersions (asked.needs needs.now) }
+    ensures { IfOk result (spec.IsMade (view.package_name me.now) (view.docs docs.now) items.now (asked.needs needs.now) building.entry.types building.entry.interfaces worlds spans.items) }
+{
+    let name = package_name(alloc, me)?;
+    let docs = docs_of(alloc, docs)?;
+    let deps = foreign_deps(alloc, items, needs)?;
+    Ok(UnresolvedPackage {
+        name,
+        docs,
+        worlds,
+        interfaces: building.interfaces,
+        types: building.types.into_arena(),
+        foreign_deps: deps.deps,
+        foreign_dep_spans: deps.spans,
+        unknown_type_spans: spans,
+    })
+}
