@@ -6,8 +6,6 @@ use Rattle.std.proofs.lemmas.Option.{slice_get_within, slice_get-map, slice_get-
 use Rattle.std.specs.Borrow.{Bor}
 use Rattle.std.specs.Prelude.{slice_get, option_map}
 use Rattle.wit_words.specs.Sources.{SourceText, total}
-use Rattle.wit_words.specs.declared.source_map.SourceFault.{SourceFault}
-use Rattle.wit_words.specs.declared.fault.SyntaxFault.{SyntaxFault}
 use Rattle.wit_productions.specs.Broken.{IsSyntaxFault}
 use Rattle.wit_syntax.specs.Ast.{FileTree}
 use Rattle.wit_syntax.specs.FileGrammar.{file}
@@ -16,10 +14,9 @@ use Rattle.wit_types.specs.declared.«package».UnresolvedPackage.{UnresolvedPac
 use Rattle.wit_rules.specs.declared.fault.PackageFault.{PackageFault}
 use Rattle.wit_rules.specs.declared.fault.PackageFault.TheVariants.{OutOfMemory, Syntax, Broken}
 use Rattle.wit_rules.proofs.Places.{taken}
-use Rattle.wit_arena.specs.Meaning.{Has}
 use Rattle.wit_arena.proofs.Lists.{get_more, has_none}
-use Rattle.wit_package.specs.Steps.{Resolves, Refuses}
-use Rattle.wit_package.specs.Group.{AreRead, OneTextBreaks, AreResolved, IsTextFault, IsReadFault, IsBeginning}
+use Rattle.wit_package.specs.Steps.{Resolves}
+use Rattle.wit_package.specs.Group.{AreRead, AreResolved, IsTextFault, IsReadFault, IsBeginning}
 use Rattle.wit_package.specs.GroupView as seen
 
 -- what holds of both at each place holds so with one more

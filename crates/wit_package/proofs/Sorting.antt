@@ -1,9 +1,9 @@
 -- What stands at the places of an order, one place more.
-use Rattle.std.proofs.Common.{◌≡◌, ℕ, ◌+◌, ◌<◌, List, ◌∷◌, ◌++◌, [], length, get_or, take, append-nil, Option, Some, None, map, refl, sym, subst, ap, ◌∙◌, arith}
+use Rattle.std.proofs.Common.{◌≡◌, ℕ, ◌+◌, ◌<◌, List, ◌∷◌, ◌++◌, [], length, get_or, take, append-nil, Option, Some, None, map, refl, sym, subst, ap, ◌∙◌}
 use Rattle.std.proofs.Math.Seq.{take-length}
 use Rattle.std.proofs.lemmas.List.{length-map, map_push}
 use Rattle.std.proofs.lemmas.Option.{same_Some, slice_get-map, slice_get_within, slice_get-get_or}
-use Rattle.std.specs.Prelude.{slice_get, option_map, flat_map}
+use Rattle.std.specs.Prelude.{slice_get, option_map}
 use Rattle.wit_scopes.proofs.Lists.{flat_map-push}
 use Rattle.wit_scopes.specs.Scopes as scope
 use Rattle.wit_scopes.specs.Scopes.{InterfaceScope, WorldScope, ItemScope}
@@ -11,7 +11,7 @@ use Rattle.wit_rules.proofs.Places.{taken}
 use Rattle.wit_resolved_scopes.specs.Texts.{interface_of, world_of, interfaces_of, worlds_of}
 use Rattle.wit_interfaces.specs.Places.{interface_where, interfaces_at, AreInterfacePlaces}
 use Rattle.wit_built_worlds.specs.Places.{world_where, worlds_at, AreWorldPlaces}
-use Rattle.wit_package.specs.Places.{AreAt, interface_place, world_place, ArePlacesOf}
+use Rattle.wit_package.specs.Places.{interface_place, world_place, ArePlacesOf}
 
 module _ {X : Type 0} (xs sorted : List X) (order : List ℕ) (are : map (slice_get xs) order ≡ map (λ (x : X). Some x) sorted) where
   -- what stands at one of the places

@@ -1,5 +1,5 @@
 -- From what is checked of files to what they are resolved to (WIT, Packages).
-use Rattle.std.proofs.Common.{◌≡◌, ℕ, ◌<◌, ◌≤◌, List, [], ◌∷◌, ◌⊎◌, inl, inr, length, Option, Some, None, map, refl, sym, subst, ap, ◌∙◌, arith}
+use Rattle.std.proofs.Common.{◌≡◌, ℕ, ◌<◌, ◌≤◌, List, [], ◌∷◌, inl, inr, length, Option, Some, map, refl, sym, subst, ap, ◌∙◌, arith}
 use Rattle.std.proofs.lemmas.List.{length-map}
 use Rattle.std.proofs.lemmas.Option.{slice_get_cases, same_Some}
 use Rattle.std.specs.Prelude.{slice_get, Result, Ok, Err, IfOk, IfErr}
@@ -17,9 +17,8 @@ use Rattle.wit_scopes.specs.declared.scopes.ItemScope.{ItemScope as Scope}
 use Rattle.wit_scopes.specs.View as scope_view
 use Rattle.wit_scopes.specs.Scopes.{InterfaceScope, WorldScope, ItemScope, package_scopes, package_docs}
 use Rattle.wit_rules.specs.declared.files.Declared.{Declared}
-use Rattle.wit_rules.specs.declared.fault.PackageRule.{PackageRule}
 use Rattle.wit_rules.specs.declared.fault.PackageFault.{PackageFault}
-use Rattle.wit_rules.specs.declared.fault.PackageFault.TheVariants.{OutOfMemory, Syntax, Broken}
+use Rattle.wit_rules.specs.declared.fault.PackageFault.TheVariants.{OutOfMemory}
 use Rattle.wit_rules.specs.Breaks.{IsKept, IsFaultOf}
 use Rattle.wit_rules.specs.Facts.{IsDeclared, FilesBreak, package_name}
 use Rattle.wit_rules.specs.DeclaredView.{IsDeclaredOf}
@@ -43,7 +42,7 @@ use Rattle.wit_package.specs.Faults as fault
 use Rattle.wit_package.specs.Faults.{VersionsBreak, packages_in, named_packages, OneScopeBreaks, PackageBreaks, MissingComesFirst}
 use Rattle.wit_package.specs.Laws.{IsBegun}
 use Rattle.wit_package.specs.Places.{AreAt, ArePlacesOf}
-use Rattle.wit_package.specs.Resolved.{context_of, IsMade, IsResolved}
+use Rattle.wit_package.specs.Resolved.{context_of, IsMade}
 use Rattle.wit_package.specs.Start.{IsStart}
 use Rattle.wit_package.specs.Steps.{IsDeclaredIf, AreChecked, AreSet, IsResolvedIn, Resolves, Refuses}
 use Rattle.wit_package.proofs.Finding.{own_version, versions_read}

@@ -1,10 +1,9 @@
-use Rattle.std.proofs.Common.{◌≡◌, ◌+◌, ◌≤◌, length, map, ap, ◌∙◌, arith}
+use Rattle.std.proofs.Common.{◌≡◌, length, map, ap, ◌∙◌, arith}
 use Rattle.std.proofs.lemmas.List.{length-map}
 use Rattle.wit_scopes.proofs.Outcomes.{if_err, on_ok}
 use Rattle.wit_scopes.specs.Scopes.{InterfaceScope}
 use Rattle.wit_scopes.specs.View as scope_view
 use Rattle.wit_rules.specs.Breaks.{IsFaultOf}
-use Rattle.wit_foreign.specs.Items.{interfaces_in}
 use Rattle.wit_interfaces.specs.Places.{interfaces_at}
 use Rattle.wit_interfaces.proofs.Viewing.{so_many_interfaces}
 use Rattle.wit_built_worlds.specs.Adding.{WorldsBreak}

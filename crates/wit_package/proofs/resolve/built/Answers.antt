@@ -1,5 +1,4 @@
 use Rattle.std.proofs.Common.{List, ℕ, map, sym, subst}
-use Rattle.wit_syntax.specs.AstView as view
 use Rattle.wit_scopes.specs.Scopes.{ItemScope}
 use Rattle.wit_scopes.specs.declared.scopes.ItemScope.{ItemScope as Scope}
 use Rattle.wit_scopes.specs.View as scope_view
