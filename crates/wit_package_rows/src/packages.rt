@@ -1,0 +1,120 @@
+//! Packages.
+
+use crate::names;
+use crate::page::Page;
+use crate::scopes::interfaces;
+use crate::stability::{docs, gates};
+use crate::types::unnamed_types;
+use crate::view::View;
+use crate::worlds::worlds;
+use wit_package::UnresolvedPackageGroup;
+use wit_syntax::{SourceMap, Span};
+use wit_types::{AstItem, ForeignItems, Id, PackageName, Stability, TypeOwner, UnresolvedPackage};
+
+/// The gates of what asks for something, one behind the other.
+fn asked_under(page: &mut Page, of: &[Stability]) {
+    for (index, stability) in of.iter().enumerate() {
+        page.words(if index == 0 { "" } else { "," });
+        match stability {
+            Stability::Unknown => page.words(" always"),
+            _ => gates(page, stability),
+        }
+    }
+}
+
+/// What is asked of another package.
+fn asked(page: &mut Page, view: &View<'_>, of: &ForeignItems) {
+    for (name, (item, stabilities)) in of.iter() {
+        page.begin(match item {
+            AstItem::Interface(_) => "interface ",
+            AstItem::World(_) => "world ",
+        });
+        match item {
+            AstItem::Interface(id) => names::interface(page, view, *id),
+            AstItem::World(id) => names::world(page, view, *id),
+        }
+        page.words(" under ");
+        page.words(name);
+        page.words(":");
+        asked_under(page, stabilities.as_slice());
+        page.end();
+    }
+}
+
+/// What is asked of other packages, each with the first place of that.
+fn others(page: &mut Page, view: &View<'_>) {
+    let spans = view.package.foreign_dep_spans.as_slice();
+    for ((name, items), span) in view.package.foreign_deps.iter().zip(spans.iter()) {
+        page.begin("asks ");
+        page.shown(name);
+        names::at(page, view, *span);
+        page.end();
+        page.go_in();
+        asked(page, view, items);
+        page.go_out();
+    }
+}
+
+/// The types of other packages, each with its first place.
+fn unknown(page: &mut Page, view: &View<'_>) {
+    let spans = view.package.unknown_type_spans.as_slice();
+    for (index, span) in spans.iter().enumerate() {
+        page.begin("unknown ");
+        names::named_type(page, view, Id::from_index(index));
+        names::at(page, view, *span);
+        page.end();
+    }
+}
+
+/// How many things there are of each sort.
+fn counts(page: &mut Page, of: &UnresolvedPackage) {
+    page.begin("interfaces: ");
+    page.shown(&of.interfaces.len());
+    page.words(", worlds: ");
+    page.shown(&of.worlds.len());
+    page.words(", types: ");
+    page.shown(&of.types.len());
+    page.words(", other packages: ");
+    page.shown(&of.foreign_deps.len());
+    page.end();
+}
+
+/// A package.
+fn package<'p>(page: &mut Page, of: &'p UnresolvedPackage, map: &'p SourceMap, places: bool) {
+    let view = &View {
+        package: of,
+        map,
+        scope: TypeOwner::None,
+        places,
+    };
+    docs(page, &of.docs);
+    page.begin("package ");
+    page.shown(&of.name);
+    page.end();
+    page.go_in();
+    others(page, view);
+    unknown(page, view);
+    interfaces(page, view);
+    worlds(page, view);
+    unnamed_types(page, view);
+    counts(page, of);
+    page.go_out();
+}
+
+/// The packages of some files.
+pub fn group(page: &mut Page, of: &UnresolvedPackageGroup, places: bool) {
+    package(page, &of.main, &of.source_map, places);
+    for one in &of.nested {
+        package(page, one, &of.source_map, places);
+    }
+}
+
+/// How many things there are of each sort in the packages of some files, and how many packages are nested in them.
+pub fn group_counts(page: &mut Page, of: &UnresolvedPackageGroup) {
+    counts(page, &of.main);
+    if !of.nested.is_empty() {
+        page.begin("nested packages: ");
+        page.shown(&of.nested.len());
+        page.end();
+    }
+}
