@@ -1,0 +1,100 @@
+"""Makes packages, and a table of what was measured on them: package.py make FOLDER [COUNTS..], package.py table."""
+
+import os
+import sys
+
+COUNTS = [1000, 2000, 4000, 8000, 16000]
+HEADER = "package sample:bench@1.0.0;\n"
+
+
+def chain(count):
+    """Interfaces, each of which uses a type of the one before it."""
+    yield "interface i0 {\n    type t = u32;\n}\n"
+    for number in range(1, count):
+        yield f"interface i{number} {{\n    use i{number - 1}.{{t}};\n}}\n"
+
+
+def types(count):
+    """Records in one interface, each of which has a field of the one before it."""
+    yield "interface i {\n    record t0 {\n        first: u32,\n    }\n"
+    for number in range(1, count):
+        yield f"    record t{number} {{\n        before: list<t{number - 1}>,\n    }}\n"
+    yield "}\n"
+
+
+def cases(count):
+    """Cases of one enum."""
+    yield "interface i {\n    enum e {\n"
+    for number in range(count):
+        yield f"        case-{number},\n"
+    yield "    }\n}\n"
+
+
+def uses(count):
+    """Functions in one interface that use one type."""
+    yield "interface i {\n    record t {\n        x: u32,\n    }\n"
+    for number in range(count):
+        yield f"    call-{number}: func(x: list<t>) -> option<t>;\n"
+    yield "}\n"
+
+
+def interfaces(count):
+    """Interfaces that use one type of another."""
+    yield "interface i {\n    type t = u32;\n}\n"
+    for number in range(count):
+        yield f"interface j{number} {{\n    use i.{{t}};\n}}\n"
+
+
+def worlds(count):
+    """Imports and exports of one world."""
+    yield "world w {\n"
+    for number in range(count):
+        yield f"    import call-{number}: func();\n    export run-{number}: func();\n"
+    yield "}\n"
+
+
+def foreign(count):
+    """Types that are used from one interface of another package."""
+    yield "interface i {\n    use sample:other/j@1.0.0.{"
+    for number in range(count):
+        yield f"t{number}, "
+    yield "};\n}\n"
+
+
+PATTERNS = [chain, types, cases, uses, interfaces, worlds, foreign]
+
+
+def make(folder, *counts):
+    for place, pattern in enumerate(PATTERNS):
+        for count in [int(it) for it in counts] or COUNTS:
+            path = os.path.join(folder, f"{place}_{pattern.__name__}_{count:06}.wit")
+            with open(path, "w", encoding="utf-8") as file:
+                file.write(HEADER + "".join(pattern(count)))
+
+
+def table():
+    """The program's lines as a table: how long a text is read, how long it is resolved, and how that grows."""
+    print("| package | bytes | read, s | resolved, s | resolved / read | MB/s, both | times the one before |")
+    print("| --- | --- | --- | --- | --- | --- | --- |")
+    before = (None, None)
+    for line in sys.stdin:
+        path, size, *took = line.split()
+        name = os.path.basename(path).removesuffix(".wit").split("_", 1)[1].replace("_", " ")
+        pattern = name.split()[0]
+        if took == ["refused"]:
+            print(f"| {name} | {int(size):,} | refused | | | | |")
+            continue
+        reading, resolving = [int(it) / 1e9 for it in took]
+        both = reading + resolving
+        ratio = f"{resolving / before[1]:.2f}" if before[0] == pattern else ""
+        print(
+            f"| {name} | {int(size):,} | {reading:.4f} | {resolving:.4f} | {resolving / reading:.1f}"
+            f" | {int(size) / both / 1e6:.1f} | {ratio} |"
+        )
+        before = (pattern, resolving)
+
+
+if sys.argv[1] == "make":
+    make(*sys.argv[2:])
+else:
+    table()

@@ -1,0 +1,32 @@
+#!/bin/sh
+# bench/package.sh [COUNTS..]
+#
+# Times what a package is resolved to, `wit_package::resolved_files`, beside the reading of its text, on packages that
+# bench/package.py makes: so many interfaces in a chain, types in one interface, cases of one enum, uses of one type and
+# more, 1,000 to 16,000 where no counts are given. Prints a table of seconds and MB/s, with the ratio of each row to the one
+# before it. The program, bench/package/main.rt.txt, is no crate of this repository: it is built in a folder of its own, with
+# copies of wit_package and the crates below it and of what their checks have kept in out/ (several GB; without them they are
+# proved from nothing first). It needs python3 and the kit's command `rt`.
+set -eu
+
+top=$(CDPATH='' cd -- "$(dirname -- "$0")/.." && pwd)
+folder=$(mktemp -d)
+trap 'rm -rf "$folder"' EXIT
+
+program=$folder/crates/package_bench
+mkdir -p "$program/src" "$folder/texts"
+cp "$top/bench/package/main.rt.txt" "$program/src/main.rt"
+for crate in wit_package $(sed -n 's/^wit_package: //p' "$top/crates.txt"); do
+    if [ -d "$top/crates/$crate" ]; then
+        cp -R "$top/crates/$crate" "$folder/crates/"
+        grep "^$crate:" "$top/crates.txt" >>"$folder/crates.txt"
+    fi
+done
+echo 'package_bench: wit_package wit_rules wit_types wit_syntax' >>"$folder/crates.txt"
+
+if ! log=$(cd "$program" && rt run </dev/null 2>&1); then
+    printf '%s\n' "$log" >&2
+    exit 1
+fi
+python3 "$top/bench/package.py" make "$folder/texts" "$@"
+"$program/out/package_bench" "$folder"/texts/*.wit | python3 "$top/bench/package.py" table
