@@ -7,58 +7,63 @@ COUNTS = [1000, 2000, 4000, 8000, 16000]
 HEADER = "package sample:bench@1.0.0;\n"
 
 
+def block(head, parts):
+    """What stands in braces behind a head."""
+    yield head + " {\n"
+    yield from parts
+    yield "}\n"
+
+
 def chain(count):
     """Interfaces, each of which uses a type of the one before it."""
-    yield "interface i0 {\n    type t = u32;\n}\n"
+    yield from block("interface i0", ["    type t = u32;\n"])
     for number in range(1, count):
-        yield f"interface i{number} {{\n    use i{number - 1}.{{t}};\n}}\n"
+        yield from block(f"interface i{number}", [f"    use i{number - 1}.{{t}};\n"])
 
 
 def types(count):
     """Records in one interface, each of which has a field of the one before it."""
-    yield "interface i {\n    record t0 {\n        first: u32,\n    }\n"
-    for number in range(1, count):
-        yield f"    record t{number} {{\n        before: list<t{number - 1}>,\n    }}\n"
-    yield "}\n"
+    first = "    record t0 {\n        first: u32,\n    }\n"
+    others = (
+        f"    record t{number} {{\n        before: list<t{number - 1}>,\n    }}\n"
+        for number in range(1, count)
+    )
+    yield from block("interface i", [first, *others])
 
 
 def cases(count):
     """Cases of one enum."""
-    yield "interface i {\n    enum e {\n"
-    for number in range(count):
-        yield f"        case-{number},\n"
-    yield "    }\n}\n"
+    names = (f"        case-{number},\n" for number in range(count))
+    yield from block("interface i", ["    enum e {\n", *names, "    }\n"])
 
 
 def uses(count):
     """Functions in one interface that use one type."""
-    yield "interface i {\n    record t {\n        x: u32,\n    }\n"
-    for number in range(count):
-        yield f"    call-{number}: func(x: list<t>) -> option<t>;\n"
-    yield "}\n"
+    record = "    record t {\n        x: u32,\n    }\n"
+    functions = (f"    call-{number}: func(x: list<t>) -> option<t>;\n" for number in range(count))
+    yield from block("interface i", [record, *functions])
 
 
 def interfaces(count):
     """Interfaces that use one type of another."""
-    yield "interface i {\n    type t = u32;\n}\n"
+    yield from block("interface i", ["    type t = u32;\n"])
     for number in range(count):
-        yield f"interface j{number} {{\n    use i.{{t}};\n}}\n"
+        yield from block(f"interface j{number}", ["    use i.{t};\n"])
 
 
 def worlds(count):
     """Imports and exports of one world."""
-    yield "world w {\n"
-    for number in range(count):
-        yield f"    import call-{number}: func();\n    export run-{number}: func();\n"
-    yield "}\n"
+    sides = (
+        f"    import call-{number}: func();\n    export run-{number}: func();\n"
+        for number in range(count)
+    )
+    yield from block("world w", sides)
 
 
 def foreign(count):
     """Types that are used from one interface of another package."""
-    yield "interface i {\n    use sample:other/j@1.0.0.{"
-    for number in range(count):
-        yield f"t{number}, "
-    yield "};\n}\n"
+    names = "".join(f"t{number}, " for number in range(count))
+    yield from block("interface i", [f"    use sample:other/j@1.0.0.{{{names}}};\n"])
 
 
 PATTERNS = [chain, types, cases, uses, interfaces, worlds, foreign]
