@@ -27,10 +27,10 @@ option_map_some f None y h = absurd cc
 option_map_some f (Some x) y h = (x, refl, same_Some (f x) y h)
 
 -- what is made of an option is made of another that keeps what it has
-kept_map : {X Y : Type 0} (f : X → Y) (o p : Option X) (y : Y) → ((x : X) → o ≡ Some x → p ≡ Some x) → option_map f o ≡ Some y → option_map f p ≡ Some y
+pub kept_map : {X Y : Type 0} (f : X → Y) (o p : Option X) (y : Y) → ((x : X) → o ≡ Some x → p ≡ Some x) → option_map f o ≡ Some y → option_map f p ≡ Some y
 kept_map {X} {Y} f o p y keep h = let m = option_map_some f o y h in ap (option_map f) (keep m.0 m.1) ∙ ap (λ (z : Y). Some z) m.2
 
-kept_then : {X Y : Type 0} (f g : X → Option Y) (o p : Option X) (y : Y) → ((x : X) → o ≡ Some x → p ≡ Some x) → ((x : X) → f x ≡ Some y → g x ≡ Some y)
+pub kept_then : {X Y : Type 0} (f g : X → Option Y) (o p : Option X) (y : Y) → ((x : X) → o ≡ Some x → p ≡ Some x) → ((x : X) → f x ≡ Some y → g x ≡ Some y)
     → and_then f o ≡ Some y → and_then g p ≡ Some y
 kept_then f g None p y keep go h = absurd cc
 kept_then f g (Some x) p y keep go h = ap (and_then g) (keep x refl) ∙ go x h
@@ -149,9 +149,8 @@ module _ (owners : Owners) (given : Owner → Name → Tree) where
   added a d t h = ap flat (get_added a d) ∙ h
 
   -- what stands at an id is what its definition's parts give
-  pub stands_at : (b : List TypeDef) (i : ℕ) (d : TypeDef) (t : Tree) → IsWhole owners given b → slice_get b i ≡ Some d → def_tree owners given (trees owners given b) d ≡ Some t
-      → ref_tree (trees owners given b) (ref.Id i) ≡ Some t
-  stands_at b i d t whole at tree =
+  pub def_at : (b : List TypeDef) (i : ℕ) (d : TypeDef) → IsWhole owners given b → slice_get b i ≡ Some d → (t : Tree) × (ref_tree (trees owners given b) (ref.Id i) ≡ Some t) × (def_tree owners given (trees owners given b) d ≡ Some t)
+  def_at b i d whole at =
       let p = get_split b i d at in
       let front : List TypeDef = p.0 ++ d ∷ [] in
       let b_is : b ≡ front ++ p.1 = p.2 ∙ sym (append_assoc p.0 (d ∷ []) p.1) in
@@ -168,7 +167,11 @@ module _ (owners : Owners) (given : Owner → Name → Tree) where
       let later : def_tree owners given (trees owners given b) d ≡ Some w.0 =
       subst (λ (a : List TypeDef). def_tree owners given (trees owners given a) d ≡ Some w.0) (sym p.2)
       (subst (λ (ts : List (Option Tree)). def_tree owners given ts d ≡ Some w.0) (sym up.1) (def_more (trees owners given p.0) up.0 d w.0 known)) in
-      w.1 ∙ sym later ∙ tree
+      (w.0, w.1, later)
+
+  pub stands_at : (b : List TypeDef) (i : ℕ) (d : TypeDef) (t : Tree) → IsWhole owners given b → slice_get b i ≡ Some d → def_tree owners given (trees owners given b) d ≡ Some t
+      → ref_tree (trees owners given b) (ref.Id i) ≡ Some t
+  stands_at b i d t whole at tree = (let w = def_at b i d whole at in w.1 ∙ sym w.2 ∙ tree)
 
   pub whole_none : IsWhole owners given []
   whole_none i l = absurd (omega arith)

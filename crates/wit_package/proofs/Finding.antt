@@ -34,21 +34,21 @@ use Rattle.wit_package.proofs.Owning.{has_interface_owner, has_world_owner, are_
 abbrev pub others_of : Items → List (ForeignName × ℕ) → Foreign
 others_of items types = record { owners = foreign_owners items; types = types }
 
-module _ (scopes : List ItemScope) (items : Items) (are : AreItemsOf (needs_in scopes) items) (a : List TypeDef) (types : List (ForeignName × ℕ)) (spans : List Span) (unknown : AreUnknown items (needs_in scopes) a types spans) where
+module _ (scopes : List ItemScope) (needs : List NeedTree) (all : (n : NeedTree) → Has (needs_in scopes) n → Has needs n) (items : Items) (are : AreItemsOf needs items) (a : List TypeDef) (types : List (ForeignName × ℕ)) (spans : List Span) (unknown : AreUnknown items needs a types spans) where
   asked_place : (n : NeedTree) (asked : Asked) → n.asked ≡ asked → (need_owner n).place ≡ place_asked asked n.item.text
   asked_place n asked e = ap (λ (z : Asked). place_asked z n.item.text) e
 
   pub finds : FindsForeign scopes (others_of items types)
   finds = record {
     interfaces = λ n has e.
-        (let there = are.there n has in
-        let sort = (items_are_sorts (needs_in scopes) items are).interfaces (need_owner n) n.item.text there.0 there.1 (asked_place n _ e) in
-        has_interface_owner (needs_in scopes) items are (need_owner n) sort.0 (subst (λ (i : AstItem). Has items (need_owner n, i)) sort.1 there.1));
+        (let there = are.there n (all n has) in
+        let sort = (items_are_sorts needs items are).interfaces (need_owner n) n.item.text there.0 there.1 (asked_place n _ e) in
+        has_interface_owner needs items are (need_owner n) sort.0 (subst (λ (i : AstItem). Has items (need_owner n, i)) sort.1 there.1));
     worlds = λ n has e.
-        (let there = are.there n has in
-        let sort = (items_are_sorts (needs_in scopes) items are).worlds (need_owner n) n.item.text there.0 there.1 (asked_place n _ e) in
-        has_world_owner (needs_in scopes) items are (need_owner n) sort.0 (subst (λ (i : AstItem). Has items (need_owner n, i)) sort.1 there.1));
-    types = λ n y has named. unknown.there n y has named;
+        (let there = are.there n (all n has) in
+        let sort = (items_are_sorts needs items are).worlds (need_owner n) n.item.text there.0 there.1 (asked_place n _ e) in
+        has_world_owner needs items are (need_owner n) sort.0 (subst (λ (i : AstItem). Has items (need_owner n, i)) sort.1 there.1));
+    types = λ n y has named. unknown.there n y (all n has) named;
   }
 
   pub ready_together : (files : List FileTree) (me : PackageNameTree) (k : KnownTypes) → k.foreign ≡ types → (sorted : List ItemScope) → IsDeclared files me scopes → IsKept (LookupsBreak me (file_uses files) scopes) → AreItemsSorted scopes sorted

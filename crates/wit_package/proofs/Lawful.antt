@@ -1,7 +1,11 @@
 -- Laws of packages that are built.
 use Rattle.std.proofs.Common.{List, refl}
 use Rattle.wit_syntax.specs.Ast.{FileTree}
+use Rattle.wit_scopes.specs.Paths.{file_uses}
 use Rattle.wit_scopes.specs.Scopes.{package_scopes}
+use Rattle.wit_foreign.specs.Needs.{needs_in}
+use Rattle.wit_package.specs.TopUses.{files_need}
+use Rattle.wit_package.proofs.Among.{asked_still}
 use Rattle.wit_package.specs.Laws.{KeptPackagesMayBeBuilt, PackagesAreBuiltInTwoSteps, BuiltPackagesAreResolved, ItemsBreakAsScopesDo, MissingNamesComeFirst}
 use Rattle.wit_package.proofs.Finding.{ready_together}
 use Rattle.wit_package.proofs.Building.{may_add, may_add_worlds, are_numbered, builds, ready_behind, both_kept, interfaces_break, worlds_break}
@@ -11,7 +15,7 @@ use Rattle.wit_package.proofs.Missing.{missing_first, files_first, lookups_first
 
 pub may_be_built : KeptPackagesMayBeBuilt
 may_be_built files me sorted items k a ns interfaces names worlds spans begun = (
-  ready_together (package_scopes me files) items begun.items_are a k.foreign spans begun.start.unknown files me k refl sorted begun.declared begun.found begun.are_sorted,
+  ready_together (package_scopes me files) (files_need me files) (asked_still me (file_uses files) (needs_in (package_scopes me files))) items begun.items_are a k.foreign spans begun.start.unknown files me k refl sorted begun.declared begun.found begun.are_sorted,
   may_build files me begun.declared sorted begun.are_sorted items begun.items_are k a ns interfaces names worlds spans begun.start,
 )
 

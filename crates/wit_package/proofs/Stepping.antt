@@ -37,6 +37,8 @@ use Rattle.wit_interfaces.specs.Places.{interfaces_at}
 use Rattle.wit_built_worlds.specs.Places.{worlds_at}
 use Rattle.wit_resolved_scopes.specs.Texts.{interfaces_of, worlds_of}
 use Rattle.wit_readiness.proofs.Needing.{needs_have_gates}
+use Rattle.wit_package.specs.TopUses.{with_top_uses, files_need}
+use Rattle.wit_package.proofs.Among.{all_gates}
 use Rattle.wit_package.specs.Built.{AreReadyTogether, MayBuild, Builds, ItemsBreak}
 use Rattle.wit_package.specs.Faults as fault
 use Rattle.wit_package.specs.Faults.{VersionsBreak, packages_in, named_packages, OneScopeBreaks, PackageBreaks, MissingComesFirst}
@@ -82,7 +84,7 @@ module _ (files : List FileTree) (me : PackageNameTree) (d : Declared) (scopes :
   sorted_there = at_places scopes places places_within
 
   pub gates_there : HaveGates needs
-  gates_there = subst HaveGates (sym are.needs_are) (needs_have_gates files me (package_scopes me files) declared)
+  gates_there = subst HaveGates (sym are.needs_are) (all_gates me (file_uses files) (needs_in (package_scopes me files)) (needs_have_gates files me (package_scopes me files) declared))
 
   pub own_read : IsReadWhere (view.package_name d.name).version
   own_read = subst (λ (p : PackageNameTree). IsReadWhere p.version) (sym are.name_is) (own_version me needs are.versions)
@@ -174,9 +176,9 @@ module _ (files : List FileTree) (d : Declared) (is : IsDeclaredOf files d) wher
     pub refused_by_memory : (fault : PackageFault) → fault ≡ OutOfMemory → Refuses files fault
     refused_by_memory f e = record { cause = subst (IsFaultOf (PackageBreaks files)) (sym e) tt; order = behind f }
 
-    pub refused_by_versions : (fault : PackageFault) → IsFaultOf (VersionsBreak (named_packages (view.package_name d.name) (package_scopes (view.package_name d.name) files))) fault → Refuses files fault
+    pub refused_by_versions : (fault : PackageFault) → IsFaultOf (VersionsBreak (named_packages (view.package_name d.name) files)) fault → Refuses files fault
     refused_by_versions f broken = record {
-      cause = widened (VersionsBreak (named_packages (view.package_name d.name) (package_scopes (view.package_name d.name) files))) (PackageBreaks files) (λ rule at b. fault.by_versions (view.package_name d.name) is.declared.named b) f broken;
+      cause = widened (VersionsBreak (named_packages (view.package_name d.name) files)) (PackageBreaks files) (λ rule at b. fault.by_versions (view.package_name d.name) is.declared.named b) f broken;
       order = behind f;
     }
 
@@ -193,13 +195,13 @@ module _ (files : List FileTree) (d : Declared) (is : IsDeclaredOf files d) wher
     }
 
     -- files that keep all that is asked of them break no rule
-    pub all_kept : IsKept (VersionsBreak (named_packages (view.package_name d.name) (package_scopes (view.package_name d.name) files))) → IsKept (CircleBreaks (map item_entry (package_scopes (view.package_name d.name) files)))
+    pub all_kept : IsKept (VersionsBreak (named_packages (view.package_name d.name) files)) → IsKept (CircleBreaks (map item_entry (package_scopes (view.package_name d.name) files)))
         → IsKept (OneScopeBreaks (package_text (view.package_name d.name)) (package_scopes (view.package_name d.name) files)) → IsKept (PackageBreaks files)
     all_kept versions circles scopes rule at (fault.by_files b) = is.declared.kept rule at b
     all_kept versions circles scopes rule at (fault.by_lookups other named b) =
         found rule at (subst (λ (p : PackageNameTree). LookupsBreak p (file_uses files) (package_scopes p files) rule at) (same_Some other (view.package_name d.name) (sym named ∙ is.declared.named)) b)
     all_kept versions circles scopes rule at (fault.by_versions other named b) =
-        versions rule at (subst (λ (p : PackageNameTree). VersionsBreak (named_packages p (package_scopes p files)) rule at) (same_Some other (view.package_name d.name) (sym named ∙ is.declared.named)) b)
+        versions rule at (subst (λ (p : PackageNameTree). VersionsBreak (named_packages p files) rule at) (same_Some other (view.package_name d.name) (sym named ∙ is.declared.named)) b)
     all_kept versions circles scopes rule at (fault.by_circle other named b) =
         circles rule at (subst (λ (p : PackageNameTree). CircleBreaks (map item_entry (package_scopes p files)) rule at) (same_Some other (view.package_name d.name) (sym named ∙ is.declared.named)) b)
     all_kept versions circles scopes rule at (fault.by_scope other named b) =
@@ -238,12 +240,15 @@ module _ (files : List FileTree) (d : Declared) (is : IsDeclaredOf files d) wher
   pub lookups_refused : (fault : PackageFault) → IsFaultOf (LookupsBreak own_name (scope_view.uses d.uses.items) own_scopes) fault → Refuses files fault
   lookups_refused f h = refused_by_lookups files d is f (lookups_as (λ (us : List (List ToplevelUseTree)) (ss : List ItemScope). IsFaultOf (LookupsBreak own_name us ss) f) h)
 
-  -- what is needed, of the scopes as code has them
-  pub needs_same : (xs : List Scope) → xs ≡ d.scopes.items → (ns : List NeedTree) → ns ≡ needs_in (map scope_view.item_scope xs) → ns ≡ needs_in (package_scopes own_name files)
-  needs_same xs same ns e = e ∙ ap (λ (ys : List Scope). needs_in (map scope_view.item_scope ys)) same ∙ ap needs_in own_are
+  -- what is asked of others, as code has it
+  pub needs_same : (ns : List NeedTree) → ns ≡ with_top_uses own_name (scope_view.uses d.uses.items) (needs_in own_scopes) → ns ≡ files_need own_name files
+  needs_same ns e =
+      e
+      ∙ ap (λ (us : List (List ToplevelUseTree)). with_top_uses own_name us (needs_in own_scopes)) is.uses_are
+      ∙ ap (λ (ss : List ItemScope). with_top_uses own_name (file_uses files) (needs_in ss)) own_are
 
   module _ (found : IsKept (LookupsBreak own_name (scope_view.uses d.uses.items) own_scopes)) where
-    pub versions_refused : (ns : List NeedTree) → ns ≡ needs_in (package_scopes own_name files) → (fault : PackageFault) → IsFaultOf (VersionsBreak (own_name ∷ packages_in ns)) fault → Refuses files fault
+    pub versions_refused : (ns : List NeedTree) → ns ≡ files_need own_name files → (fault : PackageFault) → IsFaultOf (VersionsBreak (own_name ∷ packages_in ns)) fault → Refuses files fault
     versions_refused ns e f h = refused_by_versions files d is (lookups_found found) f (subst (λ (ms : List NeedTree). IsFaultOf (VersionsBreak (own_name ∷ packages_in ms)) f) e h)
 
     pub circle_refused : (fault : PackageFault) → IsFaultOf (CircleBreaks (map item_entry own_scopes)) fault → Refuses files fault
@@ -252,7 +257,7 @@ module _ (files : List FileTree) (d : Declared) (is : IsDeclaredOf files d) wher
     pub scope_refused_whole : (fault : PackageFault) → IsFaultOf (OneScopeBreaks (package_text own_name) (package_scopes own_name files)) fault → Refuses files fault
     scope_refused_whole = refused_by_scope files d is (lookups_found found)
 
-    module _ (ns : List NeedTree) (needed : ns ≡ needs_in (package_scopes own_name files)) (versions : IsKept (VersionsBreak (own_name ∷ packages_in ns))) where
+    module _ (ns : List NeedTree) (needed : ns ≡ files_need own_name files) (versions : IsKept (VersionsBreak (own_name ∷ packages_in ns))) where
       pub checked_with : AreUses ns → (places : List ℕ) → IsOrderOf (map item_entry own_scopes) places → AreChecked files own_name d own_scopes ns places
       checked_with uses places ordered = record {
         name_is = refl;

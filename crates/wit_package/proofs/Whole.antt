@@ -18,10 +18,10 @@ use Rattle.wit_package_types.specs.Known.{KnownTypes, FindsOwn}
 use Rattle.wit_package_types.specs.Standing.{AreKnownStanding}
 use Rattle.wit_package_types.proofs.Functional.{are_functional}
 use Rattle.wit_resources.specs.declared.natures.Nature.{Nature}
-use Rattle.wit_foreign.specs.Needs.{needs_in}
 use Rattle.wit_foreign.specs.Items.{Items, AreItemsOf}
 use Rattle.wit_foreign.specs.Unknown.{AreUnknown, LeadToOwners}
 use Rattle.wit_foreign.proofs.Standing.{unknown_types_stand}
+use Rattle.wit_package.specs.TopUses.{files_need}
 use Rattle.wit_resolved_scopes.specs.InArena.{own_owner, IsBuilt}
 use Rattle.wit_resolved_scopes.specs.Texts.{InterfaceText, AreItemsSorted, interfaces_of, worlds_of, interface_texts}
 use Rattle.wit_interfaces.specs.Interfaces.{AreInterfacesIn}
@@ -36,8 +36,8 @@ use Rattle.wit_package.specs.Resolved.{foreign_owners, owner_in, owners_of, cont
 use Rattle.wit_package.proofs.Owning.{interface_owners_length, world_owners_length, interface_owned, world_owned}
 use Rattle.wit_package.proofs.Scoping.{interface_there, world_there}
 
-module _ (files : List FileTree) (me : PackageNameTree) (declared : IsDeclared files me (package_scopes me files)) (sorted : List ItemScope) (are_sorted : AreItemsSorted (package_scopes me files) sorted) (items : Items) (are : AreItemsOf (needs_in (package_scopes me files)) items)
-    (k : KnownTypes) (a : List TypeDef) (ns : List Nature) (interfaces : List Interface) (names : List Name) (worlds : List World) (spans : List Span) (start : IsStart (needs_in (package_scopes me files)) items k a ns interfaces names worlds spans)
+module _ (files : List FileTree) (me : PackageNameTree) (declared : IsDeclared files me (package_scopes me files)) (sorted : List ItemScope) (are_sorted : AreItemsSorted (package_scopes me files) sorted) (items : Items) (are : AreItemsOf (files_need me files) items)
+    (k : KnownTypes) (a : List TypeDef) (ns : List Nature) (interfaces : List Interface) (names : List Name) (worlds : List World) (spans : List Span) (start : IsStart (files_need me files) items k a ns interfaces names worlds spans)
   where
     abbrev own_interfaces : List Owner
     own_interfaces = map (λ (t : InterfaceText). owner_in (package_text me) t.place) (interface_texts sorted)
@@ -46,7 +46,7 @@ module _ (files : List FileTree) (me : PackageNameTree) (declared : IsDeclared f
     own_worlds = map (λ (w : WorldScope). owner_in (package_text me) (in_world w.name.text)) (worlds_of sorted)
 
     leads : LeadToOwners (owners_of (package_text me) items sorted) items
-    leads w j has = interface_owned (needs_in (package_scopes me files)) items are own_interfaces w j has
+    leads w j has = interface_owned (files_need me files) items are own_interfaces w j has
 
     no_own : (i y : Name) (j : ℕ) → FindsOwn k i y j → ⊥
     no_own i y j f = let e : place_of i [] ≡ Some f.place = ap (place_of i) (sym start.no_interface) ∙ f.first in cc
@@ -54,14 +54,14 @@ module _ (files : List FileTree) (me : PackageNameTree) (declared : IsDeclared f
     start_known : (given : Owner → Name → Tree) → AreKnownStanding (package_text me) (package_scopes me files) given (owners_of (package_text me) items sorted) k a
     start_known given = record {
       own = λ i y j f. absurd (no_own i y j f);
-      foreign = (unknown_types_stand given (owners_of (package_text me) items sorted) items (needs_in (package_scopes me files)) a k.foreign spans leads start.unknown).1;
+      foreign = (unknown_types_stand given (owners_of (package_text me) items sorted) items (files_need me files) a k.foreign spans leads start.unknown).1;
     }
 
     start_built : IsBuilt (context_of me files items sorted) k a
     start_built = record {
       functional = are_functional (package_scopes me files) (declared_kept files me (package_scopes me files) declared);
       even = ap length start.no_interface ∙ sym (ap length start.no_table);
-      whole = λ given. (unknown_types_stand given (owners_of (package_text me) items sorted) items (needs_in (package_scopes me files)) a k.foreign spans leads start.unknown).0;
+      whole = λ given. (unknown_types_stand given (owners_of (package_text me) items sorted) items (files_need me files) a k.foreign spans leads start.unknown).0;
       known = start_known;
     }
 
@@ -89,11 +89,11 @@ module _ (files : List FileTree) (me : PackageNameTree) (declared : IsDeclared f
       interface_owners = interface_owner;
       world_owners = world_owner;
       foreign_interfaces = leads;
-      foreign_worlds = world_owned (needs_in (package_scopes me files)) items are own_worlds;
+      foreign_worlds = world_owned (files_need me files) items are own_worlds;
     }
 
     pub is_resolved : (b : List TypeDef) (interfaces2 : List Interface) (worlds2 : List World) → Builds (context_of me files items sorted) a interfaces worlds (interfaces_of sorted) (worlds_of sorted) b interfaces2 worlds2
-        → (p : UnresolvedPackage) → IsMade me (package_docs files) items (needs_in (package_scopes me files)) b interfaces2 worlds2 spans p → IsResolved files p
+        → (p : UnresolvedPackage) → IsMade me (package_docs files) items (files_need me files) b interfaces2 worlds2 spans p → IsResolved files p
     is_resolved b interfaces2 worlds2 builds p made =
         let more = extends_for (context_of me files items sorted) a b builds.grows in
         record {
@@ -111,7 +111,7 @@ module _ (files : List FileTree) (me : PackageNameTree) (declared : IsDeclared f
           others = more.0;
           types_are = made.types ∙ more.1;
           names = k.foreign;
-          unknown_are = subst (λ (ss : List Span). AreUnknown items (needs_in (package_scopes me files)) a k.foreign ss) (sym made.spans_are) start.unknown;
+          unknown_are = subst (λ (ss : List Span). AreUnknown items (files_need me files) a k.foreign ss) (sym made.spans_are) start.unknown;
           foreign_interfaces = interfaces;
           own_interfaces = builds.more;
           interfaces_are = made.interfaces_are ∙ builds.behind;

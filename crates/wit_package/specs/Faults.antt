@@ -16,7 +16,8 @@ use Rattle.wit_lookups.specs.Lookups.{LookupsBreak}
 use Rattle.wit_orders.specs.Needs.{item_entry, types_of, CircleBreaks}
 use Rattle.wit_arena.specs.Tree.{PackageText, Place, in_interface, in_world, in_listed}
 use Rattle.wit_arena.specs.Meaning.{Has, package_text}
-use Rattle.wit_foreign.specs.Needs.{NeedTree, needs_in}
+use Rattle.wit_foreign.specs.Needs.{NeedTree}
+use Rattle.wit_package.specs.TopUses.{files_need}
 use Rattle.wit_resolved_scopes.specs.Faults.{ScopeBreaks}
 use Rattle.wit_resolved_scopes.specs.Texts.{own_members}
 
@@ -41,14 +42,14 @@ VersionsBreak names = AnyBreaks (λ (p : PackageNameTree). VersionWhereBreaks p.
 abbrev pub packages_in : List NeedTree → List PackageNameTree
 packages_in needs = map (λ (n : NeedTree). n.«package») needs
 
-abbrev pub named_packages : PackageNameTree → List ItemScope → List PackageNameTree
-named_packages me scopes = me ∷ packages_in (needs_in scopes)
+abbrev pub named_packages : PackageNameTree → List FileTree → List PackageNameTree
+named_packages me files = me ∷ packages_in (files_need me files)
 
 -- the files of a package: they break a rule by themselves, or over their names, or lead back to themselves, or one of their scopes does
 pub data PackageBreaks (files : List FileTree) (rule : PackageRule) (at : Span) : Type 0 where
   by_files : FilesBreak files rule at → PackageBreaks files rule at
   by_lookups : (me : PackageNameTree) → package_name files ≡ Some me → LookupsBreak me (file_uses files) (package_scopes me files) rule at → PackageBreaks files rule at
-  by_versions : (me : PackageNameTree) → package_name files ≡ Some me → VersionsBreak (named_packages me (package_scopes me files)) rule at → PackageBreaks files rule at
+  by_versions : (me : PackageNameTree) → package_name files ≡ Some me → VersionsBreak (named_packages me files) rule at → PackageBreaks files rule at
   by_circle : (me : PackageNameTree) → package_name files ≡ Some me → CircleBreaks (map item_entry (package_scopes me files)) rule at → PackageBreaks files rule at
   by_scope : (me : PackageNameTree) → package_name files ≡ Some me → OneScopeBreaks (package_text me) (package_scopes me files) rule at → PackageBreaks files rule at
 

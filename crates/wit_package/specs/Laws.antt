@@ -16,8 +16,8 @@ use Rattle.wit_lookups.specs.Lookups.{LookupsBreak}
 use Rattle.wit_arena.specs.Tree.{Name}
 use Rattle.wit_package_types.specs.Known.{KnownTypes}
 use Rattle.wit_resources.specs.declared.natures.Nature.{Nature}
-use Rattle.wit_foreign.specs.Needs.{needs_in}
 use Rattle.wit_foreign.specs.Items.{Items, AreItemsOf, interfaces_in}
+use Rattle.wit_package.specs.TopUses.{files_need}
 use Rattle.wit_resolved_scopes.specs.InArena.{Context}
 use Rattle.wit_resolved_scopes.specs.Fit.{KnowsInterfaces}
 use Rattle.wit_resolved_scopes.specs.Texts.{AreItemsSorted, interfaces_of, worlds_of}
@@ -33,8 +33,8 @@ pub record IsBegun (files : List FileTree) (me : PackageNameTree) (sorted : List
   pub declared : IsDeclared files me (package_scopes me files)
   pub found : IsKept (LookupsBreak me (file_uses files) (package_scopes me files))
   pub are_sorted : AreItemsSorted (package_scopes me files) sorted
-  pub items_are : AreItemsOf (needs_in (package_scopes me files)) items
-  pub start : IsStart (needs_in (package_scopes me files)) items k a ns interfaces names worlds spans
+  pub items_are : AreItemsOf (files_need me files) items
+  pub start : IsStart (files_need me files) items k a ns interfaces names worlds spans
 
 -- its interfaces and worlds may be brought in
 abbrev pub KeptPackagesMayBeBuilt : Type 0
@@ -66,7 +66,7 @@ abbrev pub BuiltPackagesAreResolved : Type 0
 BuiltPackagesAreResolved =
     (files : List FileTree) (me : PackageNameTree) (sorted : List ItemScope) (items : Items) (k : KnownTypes) (a b : List TypeDef) (ns : List Nature) (interfaces interfaces2 : List Interface) (names : List Name) (worlds worlds2 : List World) (spans : List Span) (p : UnresolvedPackage)
     → IsBegun files me sorted items k a ns interfaces names worlds spans → Builds (context_of me files items sorted) a interfaces worlds (interfaces_of sorted) (worlds_of sorted) b interfaces2 worlds2
-    → IsMade me (package_docs files) items (needs_in (package_scopes me files)) b interfaces2 worlds2 spans p → IsResolved files p
+    → IsMade me (package_docs files) items (files_need me files) b interfaces2 worlds2 spans p → IsResolved files p
 
 -- the interfaces and worlds in their order break the rules that the package's scopes do, at the same places
 pub record BreakAlike (c : Context) (sorted : List ItemScope) : Type 0 where

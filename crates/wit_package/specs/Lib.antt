@@ -7,3 +7,4 @@ pub mod Steps
 pub mod Group
 pub mod GroupView
 pub mod Places
+pub mod TopUses

@@ -17,10 +17,11 @@ use Rattle.wit_arena.specs.Docs.{said, contents_of}
 use Rattle.wit_arena.specs.Meaning.{package_text}
 use Rattle.wit_arena.specs.Unfold.{Owners, IsWhole}
 use Rattle.wit_package_types.specs.Foreign.{ForeignName}
-use Rattle.wit_foreign.specs.Needs.{NeedTree, needs_in}
+use Rattle.wit_foreign.specs.Needs.{NeedTree}
 use Rattle.wit_foreign.specs.Items.{Items, AreItemsOf}
 use Rattle.wit_foreign.specs.Unknown.{AreUnknown}
 use Rattle.wit_foreign.specs.Deps.{IsPackageName, AreDeps, package_entries}
+use Rattle.wit_package.specs.TopUses.{files_need}
 use Rattle.wit_resolved_scopes.specs.InArena.{Context}
 use Rattle.wit_resolved_scopes.specs.Texts.{AreItemsSorted, worlds_of, interface_texts}
 use Rattle.wit_interfaces.specs.Interfaces.{AreInterfacesIn}
@@ -74,7 +75,7 @@ pub record IsResolved (files : List FileTree) (p : UnresolvedPackage) : Type 0 w
   pub sorted : List ItemScope
   pub are_sorted : AreItemsSorted (package_scopes me files) sorted
   pub items : Items
-  pub items_are : AreItemsOf (needs_in (package_scopes me files)) items
+  pub items_are : AreItemsOf (files_need me files) items
   pub name : IsPackageName me p.name
   pub docs : contents_of p.docs ≡ said (package_docs files)
   -- types refer backwards alone, whatever is given for names of other packages, and types without a name that are made of the same are one
@@ -85,7 +86,7 @@ pub record IsResolved (files : List FileTree) (p : UnresolvedPackage) : Type 0 w
   pub others : List TypeDef
   pub types_are : p.types ≡ unknown ++ others
   pub names : List (ForeignName × ℕ)
-  pub unknown_are : AreUnknown items (needs_in (package_scopes me files)) unknown names p.unknown_type_spans.items
+  pub unknown_are : AreUnknown items (files_need me files) unknown names p.unknown_type_spans.items
   pub foreign_interfaces : List Interface
   pub own_interfaces : List Interface
   pub interfaces_are : p.interfaces ≡ foreign_interfaces ++ own_interfaces
@@ -95,5 +96,5 @@ pub record IsResolved (files : List FileTree) (p : UnresolvedPackage) : Type 0 w
   pub worlds_are : p.worlds ≡ foreign_worlds ++ own_worlds
   pub own_worlds_are : AreWorldsIn (context_of me files items sorted) p.types (length foreign_worlds) (worlds_of sorted) own_worlds
   -- of interfaces and worlds of other packages nothing is known but their names and where they are first asked for
-  pub foreign_are : ArePlaceholders (needs_in (package_scopes me files)) items foreign_interfaces foreign_worlds
-  pub deps_are : AreDeps items (needs_in (package_scopes me files)) (package_entries p.foreign_deps.entries) p.foreign_dep_spans.items
+  pub foreign_are : ArePlaceholders (files_need me files) items foreign_interfaces foreign_worlds
+  pub deps_are : AreDeps items (files_need me files) (package_entries p.foreign_deps.entries) p.foreign_dep_spans.items

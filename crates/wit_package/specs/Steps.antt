@@ -20,8 +20,9 @@ use Rattle.wit_arena.specs.Tree.{Name}
 use Rattle.wit_arena.specs.Meaning.{package_text}
 use Rattle.wit_package_types.specs.Known.{KnownTypes}
 use Rattle.wit_resources.specs.declared.natures.Nature.{Nature}
-use Rattle.wit_foreign.specs.Needs.{NeedTree, needs_in, AreUses}
+use Rattle.wit_foreign.specs.Needs.{NeedTree, AreUses}
 use Rattle.wit_foreign.specs.Items.{Items, AreItemsOf}
+use Rattle.wit_package.specs.TopUses.{files_need}
 use Rattle.wit_package.specs.Faults.{VersionsBreak, packages_in, OneScopeBreaks, PackageBreaks, MissingComesFirst}
 use Rattle.wit_package.specs.Places.{AreAt, ArePlacesOf}
 use Rattle.wit_package.specs.Resolved.{IsResolved}
@@ -38,7 +39,7 @@ pub record AreChecked (files : List FileTree) (me : PackageNameTree) (d : Declar
   pub declared : IsDeclaredOf files d
   pub scopes_are : scopes ≡ package_scopes me files
   pub found : IsKept (LookupsBreak me (file_uses files) (package_scopes me files))
-  pub needs_are : needs ≡ needs_in (package_scopes me files)
+  pub needs_are : needs ≡ files_need me files
   pub uses : AreUses needs
   pub versions : IsKept (VersionsBreak (me ∷ packages_in needs))
   pub order_is : IsOrderOf (map item_entry (package_scopes me files)) order

@@ -10,6 +10,7 @@ mod made;
 mod places;
 mod resolve;
 mod resolver;
+mod top_uses;
 mod versions;
 
 pub use group::UnresolvedPackageGroup;

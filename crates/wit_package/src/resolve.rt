@@ -1,6 +1,6 @@
 //! From the files of a package to what they are resolved to.
 
-ghost use Rattle.std.specs.Prelude.{List, map, IfOk, IfErr};
+ghost use Rattle.std.specs.Prelude.{◌≡◌, List, map, IfOk, IfErr};
 ghost use Rattle.wit_syntax.specs.Ast.{PackageNameTree, FileTree};
 ghost use Rattle.wit_syntax.specs.AstView as view;
 ghost use Rattle.wit_scopes.specs.Scopes.{package_scopes};
@@ -8,7 +8,9 @@ ghost use Rattle.wit_scopes.specs.View as scope_view;
 ghost use Rattle.wit_rules.specs.Breaks.{IsFaultOf};
 ghost use Rattle.wit_rules.specs.DeclaredView.{IsDeclaredOf};
 ghost use Rattle.wit_arena.specs.Meaning.{package_text};
+ghost use Rattle.wit_foreign.specs.Needs.{AreUses, needs_in};
 ghost use Rattle.wit_foreign.specs.View as asked;
+ghost use Rattle.wit_package.specs.TopUses.{with_top_uses};
 ghost use Rattle.wit_package.specs.Faults.{OneScopeBreaks};
 ghost use Rattle.wit_package.specs.Steps as spec;
 
@@ -16,8 +18,9 @@ use crate::asked::{Start, start_of};
 use crate::build::build;
 use crate::made::package_of;
 use crate::places::places_of;
+use crate::top_uses;
 use crate::versions::check_versions;
-use std::alloc::Global;
+use std::alloc::{AllocError, Global};
 use wit_foreign::{ForeignItems, Need, foreign_items, foreign_needs};
 use wit_lookups::check_lookups;
 use wit_orders::item_order;
@@ -93,6 +96,15 @@ fn resolved_in<'a>(
     )
 }
 
+/// All that the files of a package ask of others.
+fn needs_of<'a>(alloc: Global, declared: &Declared<'a>) -> Result<Vec<Need<'a>>, AllocError>
+    ensures needs { IfOk result (λ v. asked.needs v.items ≡ with_top_uses (view.package_name declared.now.name) (scope_view.uses declared.now.uses.items) (needs_in (map scope_view.item_scope declared.now.scopes.items))) }
+    ensures uses { IfOk result (λ v. AreUses (asked.needs v.items)) }
+{
+    let needs = foreign_needs(alloc, declared.scopes.as_slice())?;
+    top_uses::with_top_uses(alloc, &declared.name, declared.uses.as_slice(), needs)
+}
+
 /// What a package is resolved to of which this is what its files declare.
 fn resolved(alloc: Global, declared: &Declared<'_>) -> Result<UnresolvedPackage, PackageFault>
     requires { (files : List FileTree) × IsDeclaredOf files declared.now }
@@ -100,7 +112,7 @@ fn resolved(alloc: Global, declared: &Declared<'_>) -> Result<UnresolvedPackage,
     ensures cause { (files : List FileTree) → IsDeclaredOf files declared.now → IfErr result (spec.Refuses files) }
 {
     check_lookups(alloc, declared)?;
-    let needs = foreign_needs(alloc, declared.scopes.as_slice())?;
+    let needs = needs_of(alloc, declared)?;
     check_versions(&declared.name, needs.as_slice())?;
     let order = item_order(alloc, declared.scopes.as_slice())?;
     resolved_in(alloc, declared, needs.as_slice(), order.as_slice())

@@ -1,6 +1,6 @@
 //! Values under ids.
 
-ghost use Rattle.std.specs.Prelude.{◌≡◌, ◌<◌, ◌++◌, [], ◌∷◌, Some, length, IfOk, OnErr, slice_get};
+ghost use Rattle.std.specs.Prelude.{◌≡◌, ◌<◌, ◌++◌, [], ◌∷◌, Some, length, take, IfOk, OnErr, slice_get};
 ghost use Rattle.std.specs.Slice.Iter.{iter_rest};
 
 use crate::id::Id;
@@ -14,7 +14,7 @@ pub trait Stored {
     type Tag;
 }
 
-/// Values under ids, which are their places: what is put in stays, and is never taken back.
+/// Values under ids, which are their places: what is put in stays under its id, unless all from some id on is taken back.
 #[derive(Drop)]
 pub struct Arena<T> {
     items: Vec<T>,
@@ -64,6 +64,22 @@ impl<T: Stored> Arena<T> {
         ensures { result ≡ length self.now }
     {
         self.items.len()
+    }
+
+    /// Takes back the last values, so that this many are left at most.
+    pub fn truncate(&mut self, len: usize)
+    where
+        T: Drop,
+        ensures { self.new ≡ take len self.old }
+    {
+        self.items.truncate(len);
+    }
+
+    /// The values as a list, by rising ids.
+    pub fn into_items(self) -> Vec<T>
+        ensures { result.items ≡ self }
+    {
+        self.items
     }
 
     /// The values, by rising ids.

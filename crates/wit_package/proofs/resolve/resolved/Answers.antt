@@ -28,15 +28,15 @@ returns-in_err-check_versions-clause-cause c = λ files is.
     let ss : List ItemScope = map scope_view.item_scope d.scopes.items in
     let found = c.in_ok-check_lookups.ensures.ok in
     let ns : List NeedTree = asked.needs c.in_ok-needs.needs.items in
-    let needed = needs_same files d is c.as_slice.result.now c.as_slice.ensures.value ns c.in_ok-needs.ensures.needs in
-    if_err c.from_residual-in_err-check_versions.result (IsFaultOf (VersionsBreak (me ∷ packages_in (asked.needs c.as_slice-2.result.now)))) (Refuses files)
-    (λ f h. versions_refused files d is found ns needed f (subst (λ (xs : List Need). IsFaultOf (VersionsBreak (me ∷ packages_in (asked.needs xs))) f) c.as_slice-2.ensures.value h)) (search rules)
+    let needed = needs_same files d is ns c.in_ok-needs.ensures.needs in
+    if_err c.from_residual-in_err-check_versions.result (IsFaultOf (VersionsBreak (me ∷ packages_in (asked.needs c.as_slice.result.now)))) (Refuses files)
+    (λ f h. versions_refused files d is found ns needed f (subst (λ (xs : List Need). IsFaultOf (VersionsBreak (me ∷ packages_in (asked.needs xs))) f) c.as_slice.ensures.value h)) (search rules)
 
 pub returns-in_err-order-clause-cause : goal.returns-in_err-order-clause-cause
 returns-in_err-order-clause-cause c = λ files is.
     let d = c.args.declared.now in
-    if_err c.from_residual-in_err-order.result (IsFaultOf (CircleBreaks (map item_entry (map scope_view.item_scope c.as_slice-3.result.now)))) (Refuses files)
-    (λ f h. circle_refused files d is c.in_ok-check_lookups.ensures.ok f (subst (λ (xs : List Scope). IsFaultOf (CircleBreaks (map item_entry (map scope_view.item_scope xs))) f) c.as_slice-3.ensures.value h)) (search rules)
+    if_err c.from_residual-in_err-order.result (IsFaultOf (CircleBreaks (map item_entry (map scope_view.item_scope c.as_slice-2.result.now)))) (Refuses files)
+    (λ f h. circle_refused files d is c.in_ok-check_lookups.ensures.ok f (subst (λ (xs : List Scope). IsFaultOf (CircleBreaks (map item_entry (map scope_view.item_scope xs))) f) c.as_slice-2.ensures.value h)) (search rules)
 
 pub resolved_in-requires : goal.resolved_in-requires
 resolved_in-requires c =
@@ -47,13 +47,13 @@ resolved_in-requires c =
     let ss : List ItemScope = map scope_view.item_scope d.scopes.items in
     let found = c.in_ok-check_lookups.ensures.ok in
     let ns : List NeedTree = asked.needs c.in_ok-needs.needs.items in
-    let needed = needs_same files d is c.as_slice.result.now c.as_slice.ensures.value ns c.in_ok-needs.ensures.needs in
-    let versions = subst (λ (xs : List Need). IsKept (VersionsBreak (me ∷ packages_in (asked.needs xs)))) c.as_slice-2.ensures.value c.in_ok-check_versions.ensures.ok in
-    let ordered = subst (λ (xs : List Scope). IsOrderOf (map item_entry (map scope_view.item_scope xs)) c.in_ok-order.order.items × IsKept (CircleBreaks (map item_entry (map scope_view.item_scope xs)))) c.as_slice-3.ensures.value c.in_ok-order.ensures.ok in
+    let needed = needs_same files d is ns c.in_ok-needs.ensures.needs in
+    let versions = subst (λ (xs : List Need). IsKept (VersionsBreak (me ∷ packages_in (asked.needs xs)))) c.as_slice.ensures.value c.in_ok-check_versions.ensures.ok in
+    let ordered = subst (λ (xs : List Scope). IsOrderOf (map item_entry (map scope_view.item_scope xs)) c.in_ok-order.order.items × IsKept (CircleBreaks (map item_entry (map scope_view.item_scope xs)))) c.as_slice-2.ensures.value c.in_ok-order.ensures.ok in
     let checked = checked_with files d is found ns needed versions c.in_ok-needs.ensures.uses c.in_ok-order.order.items ordered.0 in
     let as_slices =
-    subst (λ (xs : List Need). AreChecked files me d ss (asked.needs xs) c.as_slice-5.result.now) (sym c.as_slice-4.ensures.value)
-    (subst (λ (ps : List ℕ). AreChecked files me d ss ns ps) (sym c.as_slice-5.ensures.value) checked) in
+    subst (λ (xs : List Need). AreChecked files me d ss (asked.needs xs) c.as_slice-4.result.now) (sym c.as_slice-3.ensures.value)
+    (subst (λ (ps : List ℕ). AreChecked files me d ss ns ps) (sym c.as_slice-4.ensures.value) checked) in
     (files, me, as_slices)
 
 pub returns-clause-ok : goal.returns-clause-ok
@@ -63,13 +63,13 @@ returns-clause-ok c = λ files is.
     let ss : List ItemScope = map scope_view.item_scope d.scopes.items in
     let found = c.in_ok-check_lookups.ensures.ok in
     let ns : List NeedTree = asked.needs c.in_ok-needs.needs.items in
-    let needed = needs_same files d is c.as_slice.result.now c.as_slice.ensures.value ns c.in_ok-needs.ensures.needs in
-    let versions = subst (λ (xs : List Need). IsKept (VersionsBreak (me ∷ packages_in (asked.needs xs)))) c.as_slice-2.ensures.value c.in_ok-check_versions.ensures.ok in
-    let ordered = subst (λ (xs : List Scope). IsOrderOf (map item_entry (map scope_view.item_scope xs)) c.in_ok-order.order.items × IsKept (CircleBreaks (map item_entry (map scope_view.item_scope xs)))) c.as_slice-3.ensures.value c.in_ok-order.ensures.ok in
+    let needed = needs_same files d is ns c.in_ok-needs.ensures.needs in
+    let versions = subst (λ (xs : List Need). IsKept (VersionsBreak (me ∷ packages_in (asked.needs xs)))) c.as_slice.ensures.value c.in_ok-check_versions.ensures.ok in
+    let ordered = subst (λ (xs : List Scope). IsOrderOf (map item_entry (map scope_view.item_scope xs)) c.in_ok-order.order.items × IsKept (CircleBreaks (map item_entry (map scope_view.item_scope xs)))) c.as_slice-2.ensures.value c.in_ok-order.ensures.ok in
     let checked = checked_with files d is found ns needed versions c.in_ok-needs.ensures.uses c.in_ok-order.order.items ordered.0 in
     let as_slices =
-    subst (λ (xs : List Need). AreChecked files me d ss (asked.needs xs) c.as_slice-5.result.now) (sym c.as_slice-4.ensures.value)
-    (subst (λ (ps : List ℕ). AreChecked files me d ss ns ps) (sym c.as_slice-5.ensures.value) checked) in
+    subst (λ (xs : List Need). AreChecked files me d ss (asked.needs xs) c.as_slice-4.result.now) (sym c.as_slice-3.ensures.value)
+    (subst (λ (ps : List ℕ). AreChecked files me d ss ns ps) (sym c.as_slice-4.ensures.value) checked) in
     if_ok c.resolved_in.result (IsResolvedIn files me) (Resolves files) (resolves files d is found ns needed versions ordered.1) (c.resolved_in.ensures.ok files me as_slices)
 
 pub returns-clause-cause : goal.returns-clause-cause
@@ -79,11 +79,11 @@ returns-clause-cause c = λ files is.
     let ss : List ItemScope = map scope_view.item_scope d.scopes.items in
     let found = c.in_ok-check_lookups.ensures.ok in
     let ns : List NeedTree = asked.needs c.in_ok-needs.needs.items in
-    let needed = needs_same files d is c.as_slice.result.now c.as_slice.ensures.value ns c.in_ok-needs.ensures.needs in
-    let versions = subst (λ (xs : List Need). IsKept (VersionsBreak (me ∷ packages_in (asked.needs xs)))) c.as_slice-2.ensures.value c.in_ok-check_versions.ensures.ok in
-    let ordered = subst (λ (xs : List Scope). IsOrderOf (map item_entry (map scope_view.item_scope xs)) c.in_ok-order.order.items × IsKept (CircleBreaks (map item_entry (map scope_view.item_scope xs)))) c.as_slice-3.ensures.value c.in_ok-order.ensures.ok in
+    let needed = needs_same files d is ns c.in_ok-needs.ensures.needs in
+    let versions = subst (λ (xs : List Need). IsKept (VersionsBreak (me ∷ packages_in (asked.needs xs)))) c.as_slice.ensures.value c.in_ok-check_versions.ensures.ok in
+    let ordered = subst (λ (xs : List Scope). IsOrderOf (map item_entry (map scope_view.item_scope xs)) c.in_ok-order.order.items × IsKept (CircleBreaks (map item_entry (map scope_view.item_scope xs)))) c.as_slice-2.ensures.value c.in_ok-order.ensures.ok in
     let checked = checked_with files d is found ns needed versions c.in_ok-needs.ensures.uses c.in_ok-order.order.items ordered.0 in
     let as_slices =
-    subst (λ (xs : List Need). AreChecked files me d ss (asked.needs xs) c.as_slice-5.result.now) (sym c.as_slice-4.ensures.value)
-    (subst (λ (ps : List ℕ). AreChecked files me d ss ns ps) (sym c.as_slice-5.ensures.value) checked) in
+    subst (λ (xs : List Need). AreChecked files me d ss (asked.needs xs) c.as_slice-4.result.now) (sym c.as_slice-3.ensures.value)
+    (subst (λ (ps : List ℕ). AreChecked files me d ss ns ps) (sym c.as_slice-4.ensures.value) checked) in
     if_err c.resolved_in.result (IsFaultOf (OneScopeBreaks (package_text me) (package_scopes me files))) (Refuses files) (scope_refused_whole files d is found) (c.resolved_in.ensures.cause files me as_slices)

@@ -1,0 +1,6 @@
+//! Laws: types and functions that are moved into a graph of packages stand there for what they stood for.
+#![tactic(auto)]
+
+mod law;
+
+pub use law::{law_moved_functions_stand_for_the_same, law_moved_types_stand_for_the_same};

@@ -1,0 +1,3 @@
+pub mod Moved
+pub mod Plan
+pub mod View

@@ -1,0 +1,81 @@
+//! Functions.
+
+ghost use Rattle.std.specs.Prelude.{◌≡◌, map};
+ghost use Rattle.std.specs.List.{list_all};
+ghost use Rattle.wit_moves.specs.Moved as spec;
+
+use crate::places::TypePlaces;
+use wit_types::{Function, FunctionKind, Param};
+
+/// Whether the resource that a function is of stands somewhere, where it is of one.
+pub fn has_resource(places: &TypePlaces, kind: &FunctionKind) -> bool
+    ensures { result ≡ spec.is_resource_placed places.now (spec.resource_of kind.now) }
+{
+    match kind.resource() {
+        Some(id) => places.has_id(id),
+        None => true,
+    }
+}
+
+/// Whether the types of all parameters stand somewhere.
+fn has_params(places: &TypePlaces, params: &[Param]) -> bool
+    ensures { result ≡ list_all (λ p. spec.is_ref_placed places.now p.ty) params.now }
+{
+    params.iter().all(|param| places.has(&param.ty))
+}
+
+/// Whether all types that a function takes and gives stand somewhere.
+pub fn has_signature(places: &TypePlaces, function: &Function) -> bool
+    ensures { result ≡ spec.is_signature_placed places.now function.now.params.items function.now.result }
+{
+    has_params(places, function.params.as_slice()) && places.has_part(&function.result)
+}
+
+/// Moves the types of parameters.
+fn move_params(places: &TypePlaces, params: &mut [Param])
+    ensures { params.new ≡ map (spec.moved_param (spec.to places.now)) params.old }
+{
+    for param in params.iter_mut() {
+        param.ty = places.moved(param.ty);
+    }
+}
+
+/// The kind of a function of the resource where it stands.
+fn moved_function_kind(places: &TypePlaces, kind: FunctionKind) -> FunctionKind
+    ensures { result ≡ spec.moved_function_kind (spec.to places.now) kind }
+{
+    match kind {
+        FunctionKind::Freestanding => FunctionKind::Freestanding,
+        FunctionKind::AsyncFreestanding => FunctionKind::AsyncFreestanding,
+        FunctionKind::Method(id) => FunctionKind::Method(places.moved_id(id)),
+        FunctionKind::AsyncMethod(id) => FunctionKind::AsyncMethod(places.moved_id(id)),
+        FunctionKind::Static(id) => FunctionKind::Static(places.moved_id(id)),
+        FunctionKind::AsyncStatic(id) => FunctionKind::AsyncStatic(places.moved_id(id)),
+        FunctionKind::Constructor(id) => FunctionKind::Constructor(places.moved_id(id)),
+    }
+}
+
+/// A function over the types where they stand.
+pub fn moved_function(places: &TypePlaces, function: Function) -> Function
+    ensures { spec.IsMovedFunction (spec.to places.now) function result }
+{
+    let Function {
+        name,
+        kind,
+        mut params,
+        result,
+        docs,
+        stability,
+        span,
+    } = function;
+    move_params(places, params.as_mut_slice());
+    Function {
+        name,
+        kind: moved_function_kind(places, kind),
+        params,
+        result: places.moved_part(result),
+        docs,
+        stability,
+        span,
+    }
+}

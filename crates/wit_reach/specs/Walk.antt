@@ -1,0 +1,23 @@
+-- A walk that takes the last of what is left, each time.
+use Rattle.std.specs.Prelude.{ℕ, ◌<◌, List, [], ◌∷◌, length, ◌⊎◌}
+use Rattle.wit_order.specs.Order.{Has}
+use Rattle.wit_order.specs.Places.{Rows}
+use Rattle.wit_reach.specs.Reach.{Uses, Reaches}
+
+-- the last of a list, or n
+abbrev pub bottom : ℕ → List ℕ → ℕ
+bottom n [] = n
+bottom n (x ∷ xs) = bottom x xs
+
+-- all are below n, and each is below the one before it
+abbrev pub AreFalling : ℕ → List ℕ → Type 0
+AreFalling n [] = Unit {0}
+AreFalling n (x ∷ xs) = (x < n) × AreFalling x xs
+
+-- what holds between two steps: what is left lies below all that was taken
+pub record Walk (g : Rows) (from left taken : List ℕ) : Type 0 where
+  pub falling : AreFalling (length g) taken
+  pub below : (i : ℕ) → Has left i → i < bottom (length g) taken
+  pub starts : (i : ℕ) → Has from i → Has taken i ⊎ Has left i
+  pub closed : (i j : ℕ) → Has taken i → Uses g i j → Has taken j ⊎ Has left j
+  pub only : (i : ℕ) → Has taken i ⊎ Has left i → (s : ℕ) × Has from s × Reaches g s i
