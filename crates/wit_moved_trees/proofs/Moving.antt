@@ -14,12 +14,14 @@ use Rattle.wit_types.specs.declared.interface.TypeOwner.{TypeOwner}
 use Rattle.wit_features.specs.Features.{FeatureSet, stays as item_stays}
 use Rattle.wit_moves.specs.Moved.{Places, place_of, is_placed, is_ref_placed, is_part_placed, to, is_kind_placed, IsMovedKind, flat}
 use Rattle.wit_moves.specs.Plan.{OwnerPlaces, is_owner_placed, moved_owner, named_stays, type_stays, Plan, with_place, with_type, with_types, AreTypesPlaced, IsMovedDef, AreMovedDefs, no_defs, left_out, moved}
+use Rattle.wit_moves.specs.Interfaces.{AreMovedNames, no_entries, one_goes, one_stays}
 use Rattle.wit_arena.specs.Tree.{Name, Owner, Tree}
 use Rattle.wit_arena.specs.Unfold.{flat as flat_tree, Owners, and_then, ref_tree, part_tree, part_trees, named_kind_tree, nameless_tree, owner_of, def_tree_of, def_tree, trees, IsWhole}
 use Rattle.wit_arena.specs.Standing.{HasTree}
-use Rattle.wit_arena.proofs.Lists.{get_kept, get_last}
+use Rattle.wit_arena.specs.Meaning.{Has}
+use Rattle.wit_arena.proofs.Lists.{get_kept, get_last, has_none, has_here, has_later, has_cases}
 use Rattle.wit_arena.proofs.Unfolding.{ref_kept, added, def_at, whole_more, kept_then}
-use Rattle.wit_moved_trees.specs.Law.{StandForTheSame, MovedTypesStandForTheSame, MovedFunctionsStandForTheSame}
+use Rattle.wit_moved_trees.specs.Law.{StandForTheSame, MovedTypesStandForTheSame, MovedNamesStandForTheSame, MovedFunctionsStandForTheSame}
 use Rattle.wit_moved_trees.proofs.Following.{named_follows, nameless_follows, param_names, params_follow, part_follows}
 
 -- ---- places
@@ -260,6 +262,25 @@ pub moved_types_stand : MovedTypesStandForTheSame
 moved_types_stand given package_owners graph_owners features owners others places foreign own graph fs m =
     let s = all_so_far given package_owners graph_owners features owners others places foreign own graph m.package_whole m.graph_whole m.so_many m.others_stand m.owners_are m.placed own fs m.are_moved [] (append-nil own) in
     (s.whole, λ i j t p h. s.stand i j t (subst (λ (ps : Places). place_of ps i ≡ Some j) m.placed.are p) h)
+
+-- ---- names
+
+module _ (places : Places) where
+  -- each name that is kept was there, with an id that has that place
+  name_was : (old new : List (String Global × ℕ)) → AreMovedNames places old new → (x : String Global) (j : ℕ) → Has new (x, j) → (i : ℕ) × Has old (x, i) × (place_of places i ≡ Some j)
+  name_was _ _ no_entries x j has = absurd (has_none (x, j) has)
+  name_was _ _ (one_goes k v es fs gone so) x j has = (let r = name_was es fs so x j has in (r.0, has_later (k, v) es (x, r.0) r.1, r.2))
+  name_was _ _ (one_stays k v w es fs there at_place so) x j has =
+      elim (has_cases (k, w) fs (x, j) has) as (λ _. (i : ℕ) × Has ((k, v) ∷ es) (x, i) × (place_of places i ≡ Some j)) [
+        | inl same ↦
+            let p = placed_some (place_of places v) there in
+            let at : j ≡ p.0 = ap (λ (e : String Global × ℕ). e.1) same ∙ at_place ∙ ap (λ (o : Option ℕ). unwrap_or o v) p.1 in
+            (v, subst (λ (y : String Global). Has ((k, v) ∷ es) (y, v)) (sym (ap (λ (e : String Global × ℕ). e.0) same)) (has_here (k, v) es), p.1 ∙ ap (λ (n : ℕ). Some n) (sym at))
+        | inr later ↦ (let r = name_was es fs so x j later in (r.0, has_later (k, v) es (x, r.0) r.1, r.2))
+      ]
+
+pub moved_names_stand : MovedNamesStandForTheSame
+moved_names_stand given places package_owners graph_owners a b old new same moves x j has = (let r = name_was places old new moves x j has in (r.0, r.1, λ t h. same r.0 j t r.2 h))
 
 -- ---- functions
 

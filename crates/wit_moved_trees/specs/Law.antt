@@ -1,5 +1,6 @@
 -- Types and functions that are moved into a graph of packages stand there for what they stood for (WIT, Types, Items, Packages).
-use Rattle.std.specs.Prelude.{◌≡◌, ℕ, true, List, ◌++◌, Some, length, map, string_bytes}
+use Rattle.std.specs.Prelude.{◌≡◌, ℕ, true, List, ◌++◌, Some, String, length, map, string_bytes}
+use Rattle.std.specs.declared.alloc.Global.{Global}
 use Rattle.wit_types.specs.declared.interface.TypeDef.{TypeDef}
 use Rattle.wit_types.specs.declared.interface.TypeOwner.{TypeOwner}
 use Rattle.wit_types.specs.declared.function.Param.{Param}
@@ -7,6 +8,8 @@ use Rattle.wit_types.specs.declared.function.Function.{Function}
 use Rattle.wit_features.specs.Features.{FeatureSet}
 use Rattle.wit_moves.specs.Moved.{Places, place_of, to, is_signature_placed, IsMovedFunction}
 use Rattle.wit_moves.specs.Plan.{OwnerPlaces, is_owner_placed, moved_owner, AreTypesPlaced, AreMovedDefs}
+use Rattle.wit_moves.specs.Interfaces.{AreMovedNames}
+use Rattle.wit_arena.specs.Meaning.{Has}
 use Rattle.wit_arena.specs.Tree.{Name, Owner, Tree, TreeOption, Trees}
 use Rattle.wit_arena.specs.Unfold.{Owners, part_tree, part_trees, owner_of, trees, IsWhole}
 use Rattle.wit_arena.specs.Standing.{HasTree}
@@ -30,6 +33,13 @@ MovedTypesStandForTheSame =
     (given : Owner → Name → Tree) (package_owners graph_owners : Owners) (features : FeatureSet) (owners : OwnerPlaces) (others places : Places) (foreign own graph moved : List TypeDef)
     → AreMovedBehind given package_owners graph_owners features owners others places foreign own graph moved
     → IsWhole graph_owners given (graph ++ moved) × StandForTheSame given places package_owners (foreign ++ own) graph_owners (graph ++ moved)
+
+-- each name there was one, and stands for what it stood for
+abbrev pub MovedNamesStandForTheSame : Type 0
+MovedNamesStandForTheSame =
+    (given : Owner → Name → Tree) (places : Places) (package_owners graph_owners : Owners) (a b : List TypeDef) (old new : List (String Global × ℕ))
+    → StandForTheSame given places package_owners a graph_owners b → AreMovedNames places old new
+    → (x : String Global) (j : ℕ) → Has new (x, j) → (i : ℕ) × Has old (x, i) × ((t : Tree) → HasTree package_owners given a i t → HasTree graph_owners given b j t)
 
 -- a function takes, under those names, and gives these in an arena
 pub record IsOfTrees (owners : Owners) (given : Owner → Name → Tree) (a : List TypeDef) (f : Function) (names : List Name) (params : Trees) (result : TreeOption) : Type 0 where

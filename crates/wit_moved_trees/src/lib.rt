@@ -3,4 +3,7 @@
 
 mod law;
 
-pub use law::{law_moved_functions_stand_for_the_same, law_moved_types_stand_for_the_same};
+pub use law::{
+    law_moved_functions_stand_for_the_same, law_moved_names_stand_for_the_same,
+    law_moved_types_stand_for_the_same,
+};

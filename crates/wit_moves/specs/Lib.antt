@@ -1,3 +1,4 @@
 pub mod Moved
 pub mod Plan
 pub mod View
+pub mod Interfaces

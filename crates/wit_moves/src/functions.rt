@@ -55,27 +55,11 @@ fn moved_function_kind(places: &TypePlaces, kind: FunctionKind) -> FunctionKind
     }
 }
 
-/// A function over the types where they stand.
-pub fn moved_function(places: &TypePlaces, function: Function) -> Function
-    ensures { spec.IsMovedFunction (spec.to places.now) function result }
+/// Moves a function to the types where they stand.
+pub fn move_function(places: &TypePlaces, function: &mut Function)
+    ensures { spec.IsMovedFunction (spec.to places.now) function.old function.new }
 {
-    let Function {
-        name,
-        kind,
-        mut params,
-        result,
-        docs,
-        stability,
-        span,
-    } = function;
-    move_params(places, params.as_mut_slice());
-    Function {
-        name,
-        kind: moved_function_kind(places, kind),
-        params,
-        result: places.moved_part(result),
-        docs,
-        stability,
-        span,
-    }
+    move_params(places, function.params.as_mut_slice());
+    function.kind = moved_function_kind(places, function.kind);
+    function.result = places.moved_part(function.result);
 }
