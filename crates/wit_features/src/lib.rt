@@ -2,5 +2,7 @@
 #![tactic(auto)]
 
 mod features;
+mod gates;
 
 pub use features::{Features, breaks_gate};
+pub use gates::check_gates;

@@ -2,3 +2,4 @@ pub mod Moved
 pub mod Plan
 pub mod View
 pub mod Interfaces
+pub mod Worlds

@@ -39,7 +39,7 @@ pub fn move_names(places: &TypePlaces, names: &mut IndexMap<String, TypeId>)
 }
 
 /// Whether a function stays: where its gates let it and the resource that it is of, if it is of one, does.
-fn stays(features: &Features, places: &TypePlaces, function: &Function) -> bool
+pub fn stays(features: &Features, places: &TypePlaces, function: &Function) -> bool
     ensures { result ≡ spec.function_stays features.now places.now function.now }
 {
     features.keeps(&function.stability) && has_resource(places, &function.kind)

@@ -6,9 +6,11 @@ mod interfaces;
 mod kinds;
 mod places;
 mod plan;
+mod worlds;
 
 pub use functions::{has_resource, has_signature, move_function};
 pub use interfaces::{check_functions, move_functions, move_interface, move_names};
 pub use kinds::{has_kind, moved_kind};
 pub use places::{InterfacePlaces, Places, TypePlaces, WorldPlaces};
 pub use plan::{MoveFault, OwnerPlaces};
+pub use worlds::{check_side, moved_side};
