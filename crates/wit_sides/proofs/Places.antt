@@ -1,6 +1,7 @@
 -- The first of some names that changes a name.
-use Rattle.std.proofs.Common.{◌≡◌, ◌<◌, ℕ, suc, Bool, true, false, List, [], ◌∷◌, None, Some, Option, length, cond, refl, sym, ap, subst, arith}
-use Rattle.std.specs.Prelude.{bytes_eq, string_bytes, slice_get, option_map}
+use Rattle.std.proofs.Common.{◌≡◌, ◌<◌, ℕ, suc, Bool, ◌||◌, true, false, List, [], ◌∷◌, None, Some, Option, length, cond, refl, sym, ap, subst, arith}
+use Rattle.std.specs.Prelude.{bytes_eq, string_bytes, slice_get, option_map, is_some}
+use Rattle.std.specs.List.{list_any}
 use Rattle.std.proofs.lemmas.Option.{same_Some}
 use Rattle.name_places.specs.FirstPlaces.{place_of}
 use Rattle.wit_types.specs.declared.world.IncludeName.{IncludeName}
@@ -30,3 +31,14 @@ stands_at name (n ∷ ns) p e = step name n ns (bytes_eq name (string_bytes n.na
 pub stays : (name : List ℕ) (ns : List IncludeName) → place_of name (sources ns) ≡ None → through ns name ≡ name
 stays name [] e = refl
 stays name (n ∷ ns) e = none name n ns (bytes_eq name (string_bytes n.name)) (place_of name (sources ns)) (stays name ns) e
+
+-- a name is there where it has a place
+module _ (name n : List ℕ) (ns : List (List ℕ)) where
+  one_more : (b : Bool) (o : Option ℕ) → is_some o ≡ list_any (bytes_eq name) ns → is_some (cond b (Some 0) (option_map suc o)) ≡ (b || list_any (bytes_eq name) ns)
+  one_more true o e = refl
+  one_more false None e = e
+  one_more false (Some q) e = e
+
+pub is_there : (name : List ℕ) (ns : List (List ℕ)) → is_some (place_of name ns) ≡ list_any (bytes_eq name) ns
+is_there name [] = refl
+is_there name (n ∷ ns) = one_more name n ns (bytes_eq name n) (place_of name ns) (is_there name ns)
