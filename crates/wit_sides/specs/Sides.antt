@@ -1,5 +1,5 @@
 -- What stands on a side of a world that includes others (WIT, Item: `include`; Component Model, Name Uniqueness).
-use Rattle.std.specs.Prelude.{◌≡◌, ℕ, Bool, List, [], ◌∷◌, ◌++◌, Some, map, flat_map, string_bytes, slice_get, bytes_eq, is_some, if◌then◌else◌}
+use Rattle.std.specs.Prelude.{◌≡◌, ℕ, Bool, true, false, List, [], ◌∷◌, ◌++◌, Some, map, flat_map, string_bytes, slice_get, bytes_eq, is_some, if◌then◌else◌}
 use Rattle.std.specs.Map.{lookup}
 use Rattle.wit_words.specs.declared.source_map.Span.{Span}
 use Rattle.wit_words.specs.Slice.{Slice}
@@ -33,6 +33,23 @@ pub record IsClash (es : List Entry) (at : Span) : Type 0 where
   pub again : IsRepeat bytes_eq (name_keys (plain_names es)) place
   pub there : slice_get (map (λ (n : Slice). n.span) (plain_names es)) place ≡ Some at
 
+-- entries in their order, each key where it first stands
+pub data AreUnited {K V : Type 0} (eq : K → K → Bool) : List (K × V) → List (K × V) → Type 0 where
+  no_entries : AreUnited eq [] []
+  first_of_its_key : (es side : List (K × V)) (e : K × V) → AreUnited eq es side → is_some (lookup (eq e.0) es) ≡ false → AreUnited eq (es ++ e ∷ []) (side ++ e ∷ [])
+  key_again : (es side : List (K × V)) (e : K × V) → AreUnited eq es side → is_some (lookup (eq e.0) es) ≡ true → AreUnited eq (es ++ e ∷ []) side
+
+-- the entries in their order, an interface that comes again being one with the first, and no plain names clash
+pub record IsJoined (es side : List Entry) : Type 0 where
+  pub entries : AreUnited key_eq es side
+  pub distinct : (at : Span) → IsClash es at → ⊥
+
+abbrev pub IsSideCause : List Entry → SideFault → Type 0
+IsSideCause es (IncludeClash at) = IsClash es at
+IsSideCause es OutOfMemory = Unit {0}
+
+-- ---- the same, worked out
+
 -- with an entry, which goes last where its key isn't there yet
 module _ {K V : Type 0} (eq : K → K → Bool) where
   abbrev pub with_entry : List (K × V) → K × V → List (K × V)
@@ -41,12 +58,3 @@ module _ {K V : Type 0} (eq : K → K → Bool) where
   abbrev pub with_entries : List (K × V) → List (K × V) → List (K × V)
   with_entries side [] = side
   with_entries side (e ∷ es) = with_entries (with_entry side e) es
-
--- the entries in their order, an interface that comes again being one with the first, and no plain names clash
-pub record IsJoined (es side : List Entry) : Type 0 where
-  pub entries : side ≡ with_entries key_eq [] es
-  pub distinct : (at : Span) → IsClash es at → ⊥
-
-abbrev pub IsSideCause : List Entry → SideFault → Type 0
-IsSideCause es (IncludeClash at) = IsClash es at
-IsSideCause es OutOfMemory = Unit {0}
