@@ -3,7 +3,7 @@
 ghost use Rattle.std.specs.Prelude.{◌≡◌, ◌↔◌, None, IsTrue};
 
 /// What is said of something in front of it (WIT, Comments).
-#[derive(Drop)]
+#[derive(Clone, Drop)]
 pub struct Docs {
     /// The text, if there is one.
     pub contents: Option<String>,

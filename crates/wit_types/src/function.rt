@@ -12,7 +12,7 @@ use crate::kind::Type;
 use crate::stability::Stability;
 
 /// A function (WIT, Item: `func`).
-#[derive(Drop)]
+#[derive(Clone, Drop)]
 pub struct Function {
     /// Its name; that of a method `[method]resource.name`, of a static function `[static]resource.name`, of a constructor
     /// `[constructor]resource`.
@@ -32,7 +32,7 @@ pub struct Function {
 }
 
 /// A parameter of a function.
-#[derive(Drop)]
+#[derive(Clone, Drop)]
 pub struct Param {
     /// Its name.
     pub name: String,

@@ -33,7 +33,7 @@ impl Stored for Interface {
 }
 
 /// A type that is defined (WIT, Types).
-#[derive(Drop)]
+#[derive(Clone, Drop)]
 pub struct TypeDef {
     /// Its name, if it has one.
     pub name: Option<String>,

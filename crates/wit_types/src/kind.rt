@@ -43,7 +43,7 @@ pub enum Type {
 }
 
 /// What a defined type is.
-#[derive(Drop)]
+#[derive(Clone, Drop)]
 pub enum TypeDefKind {
     /// `record`
     Record(Record),
@@ -87,14 +87,14 @@ pub enum Handle {
 }
 
 /// A record (WIT, Item: `record`).
-#[derive(Drop)]
+#[derive(Clone, Drop)]
 pub struct Record {
     /// Its fields, in order.
     pub fields: Vec<Field>,
 }
 
 /// A field of a record.
-#[derive(Drop)]
+#[derive(Clone, Drop)]
 pub struct Field {
     /// Its docs.
     pub docs: Docs,
@@ -107,14 +107,14 @@ pub struct Field {
 }
 
 /// Flags (WIT, Item: `flags`).
-#[derive(Drop)]
+#[derive(Clone, Drop)]
 pub struct Flags {
     /// The flags, in order.
     pub flags: Vec<Flag>,
 }
 
 /// One of some flags.
-#[derive(Drop)]
+#[derive(Clone, Drop)]
 pub struct Flag {
     /// Its docs.
     pub docs: Docs,
@@ -125,21 +125,21 @@ pub struct Flag {
 }
 
 /// A tuple (WIT, Types).
-#[derive(Drop)]
+#[derive(Clone, Drop)]
 pub struct Tuple {
     /// The types of its parts, in order.
     pub types: Vec<Type>,
 }
 
 /// A variant (WIT, Item: `variant`).
-#[derive(Drop)]
+#[derive(Clone, Drop)]
 pub struct Variant {
     /// Its cases, in order.
     pub cases: Vec<Case>,
 }
 
 /// A case of a variant.
-#[derive(Drop)]
+#[derive(Clone, Drop)]
 pub struct Case {
     /// Its docs.
     pub docs: Docs,
@@ -152,14 +152,14 @@ pub struct Case {
 }
 
 /// An enum (WIT, Item: `enum`).
-#[derive(Drop)]
+#[derive(Clone, Drop)]
 pub struct Enum {
     /// Its cases, in order.
     pub cases: Vec<EnumCase>,
 }
 
 /// A case of an enum.
-#[derive(Drop)]
+#[derive(Clone, Drop)]
 pub struct EnumCase {
     /// Its docs.
     pub docs: Docs,

@@ -6,7 +6,7 @@ ghost use Rattle.wit_types.specs.Stability.{IsUnknown, IsStable};
 use semver::Version;
 
 /// How stable an item is, by the gates in front of it (WIT, Feature Gates).
-#[derive(Drop)]
+#[derive(Clone, Drop)]
 pub enum Stability {
     /// It has no gates.
     Unknown,

@@ -39,7 +39,7 @@ impl Stored for World {
 }
 
 /// A world that another includes (WIT, Item: `include`).
-#[derive(Drop)]
+#[derive(Clone, Drop)]
 pub struct WorldInclude {
     /// How stable that is.
     pub stability: Stability,
@@ -52,7 +52,7 @@ pub struct WorldInclude {
 }
 
 /// A name that is changed where its world is included: `name as as_`.
-#[derive(Drop)]
+#[derive(Clone, Drop)]
 pub struct IncludeName {
     /// The name in the included world.
     pub name: String,
@@ -61,7 +61,7 @@ pub struct IncludeName {
 }
 
 /// What a world imports or exports (WIT, Item: `world`).
-#[derive(Drop)]
+#[derive(Clone, Drop)]
 pub enum WorldItem {
     /// An interface.
     Interface {
