@@ -1,3 +1,4 @@
 mod Mapped
 mod Planning
 mod Retaining
+pub mod Leading

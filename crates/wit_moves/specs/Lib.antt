@@ -3,3 +3,4 @@ pub mod Plan
 pub mod View
 pub mod Interfaces
 pub mod Worlds
+pub mod Breaks

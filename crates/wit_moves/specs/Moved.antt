@@ -15,6 +15,8 @@ use Rattle.wit_types.specs.declared.kind.Enum.{Enum}
 use Rattle.wit_types.specs.declared.kind.Result_.{Result_}
 use Rattle.wit_types.specs.declared.kind.TypeDefKind.{TypeDefKind}
 use Rattle.wit_types.specs.declared.kind.TypeDefKind.TheVariants as kind
+use Rattle.wit_types.specs.declared.interface.TypeDef.{TypeDef}
+use Rattle.wit_types.specs.declared.interface.TypeOwner.{TypeOwner}
 use Rattle.wit_types.specs.declared.function.Param.{Param}
 use Rattle.wit_types.specs.declared.function.Function.{Function}
 use Rattle.wit_types.specs.declared.function.FunctionKind.{FunctionKind}
@@ -134,6 +136,15 @@ pub data IsMovedKind (f : ℕ → ℕ) : TypeDefKind → TypeDefKind → Type 0 
   moved_stream : (p : Option Ref) → IsMovedKind f (kind.Stream p) (kind.Stream (moved_part f p))
   moved_alias : (r : Ref) → IsMovedKind f (kind.Alias r) (kind.Alias (moved_ref f r))
   moved_unknown : IsMovedKind f kind.Unknown kind.Unknown
+
+-- the same type, which belongs there
+pub record IsMovedDef (f : ℕ → ℕ) (owner : TypeOwner) (old new : TypeDef) : Type 0 where
+  pub name : new.name ≡ old.name
+  pub kind : IsMovedKind f old.kind new.kind
+  pub owner_is : new.owner ≡ owner
+  pub docs : new.docs ≡ old.docs
+  pub stability : new.stability ≡ old.stability
+  pub span : new.span ≡ old.span
 
 -- ---- functions
 

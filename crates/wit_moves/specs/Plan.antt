@@ -8,7 +8,7 @@ use Rattle.wit_types.specs.declared.interface.TypeOwner.TheVariants as belongs
 use Rattle.wit_features.specs.Features.{FeatureSet, stays}
 use Rattle.wit_moves.specs.declared.plan.MoveFault.{MoveFault}
 use Rattle.wit_moves.specs.declared.plan.MoveFault.TheVariants.{ItemNotFound, OutOfMemory}
-use Rattle.wit_moves.specs.Moved.{Places, is_placed, to, is_kind_placed, IsMovedKind}
+use Rattle.wit_moves.specs.Moved.{Places, is_placed, to, is_kind_placed, IsMovedDef}
 
 -- where interfaces and worlds stand
 pub record OwnerPlaces : Type 0 where
@@ -74,23 +74,14 @@ IsPlaceCause features owners others base ds (ItemNotFound at) = TypesBreak featu
 
 -- ---- moved
 
--- the same type where it stands
-pub record IsMovedDef (owners : OwnerPlaces) (places : Places) (old new : TypeDef) : Type 0 where
-  pub name : new.name ≡ old.name
-  pub kind : IsMovedKind (to places) old.kind new.kind
-  pub owner : new.owner ≡ moved_owner owners old.owner
-  pub docs : new.docs ≡ old.docs
-  pub stability : new.stability ≡ old.stability
-  pub span : new.span ≡ old.span
-
 -- those of types that stand somewhere, in their order; the first has that number
 pub data AreMovedDefs (owners : OwnerPlaces) (places : Places) (first : ℕ) : List TypeDef → List TypeDef → Type 0 where
   no_defs : AreMovedDefs owners places first [] []
   left_out : (ds es : List TypeDef) (d : TypeDef) → AreMovedDefs owners places first ds es → is_placed places (first + length ds) ≡ false → AreMovedDefs owners places first (ds ++ d ∷ []) es
-  moved : (ds es : List TypeDef) (d e : TypeDef) → AreMovedDefs owners places first ds es → is_placed places (first + length ds) ≡ true → IsMovedDef owners places d e
+  moved : (ds es : List TypeDef) (d e : TypeDef) → AreMovedDefs owners places first ds es → is_placed places (first + length ds) ≡ true → IsMovedDef (to places) (moved_owner owners d.owner) d e
       → AreMovedDefs owners places first (ds ++ d ∷ []) (es ++ e ∷ [])
 
 -- what one more type adds
 pub data AddsDef (owners : OwnerPlaces) (places : Places) (i : ℕ) (d : TypeDef) (es : List TypeDef) : List TypeDef → Type 0 where
   adds_nothing : is_placed places i ≡ false → AddsDef owners places i d es es
-  adds_it : (e : TypeDef) → is_placed places i ≡ true → IsMovedDef owners places d e → AddsDef owners places i d es (es ++ e ∷ [])
+  adds_it : (e : TypeDef) → is_placed places i ≡ true → IsMovedDef (to places) (moved_owner owners d.owner) d e → AddsDef owners places i d es (es ++ e ∷ [])

@@ -4,6 +4,7 @@ ghost use Rattle.std.specs.Prelude.{◌≡◌, map};
 ghost use Rattle.std.specs.List.{list_all};
 ghost use Rattle.wit_moves.specs.Moved as spec;
 
+use crate::maps::{TypeMap, moved_part, moved_type};
 use crate::places::TypePlaces;
 use wit_types::{Function, FunctionKind, Param};
 
@@ -32,34 +33,34 @@ pub fn has_signature(places: &TypePlaces, function: &Function) -> bool
 }
 
 /// Moves the types of parameters.
-fn move_params(places: &TypePlaces, params: &mut [Param])
-    ensures { params.new ≡ map (spec.moved_param (spec.to places.now)) params.old }
+fn move_params<M: TypeMap>(ids: &M, params: &mut [Param])
+    ensures { params.new ≡ map (spec.moved_param (M.goes ids.now)) params.old }
 {
     for param in params.iter_mut() {
-        param.ty = places.moved(param.ty);
+        param.ty = moved_type(ids, param.ty);
     }
 }
 
 /// The kind of a function of the resource where it stands.
-fn moved_function_kind(places: &TypePlaces, kind: FunctionKind) -> FunctionKind
-    ensures { result ≡ spec.moved_function_kind (spec.to places.now) kind }
+fn moved_function_kind<M: TypeMap>(ids: &M, kind: FunctionKind) -> FunctionKind
+    ensures { result ≡ spec.moved_function_kind (M.goes ids.now) kind }
 {
     match kind {
         FunctionKind::Freestanding => FunctionKind::Freestanding,
         FunctionKind::AsyncFreestanding => FunctionKind::AsyncFreestanding,
-        FunctionKind::Method(id) => FunctionKind::Method(places.moved_id(id)),
-        FunctionKind::AsyncMethod(id) => FunctionKind::AsyncMethod(places.moved_id(id)),
-        FunctionKind::Static(id) => FunctionKind::Static(places.moved_id(id)),
-        FunctionKind::AsyncStatic(id) => FunctionKind::AsyncStatic(places.moved_id(id)),
-        FunctionKind::Constructor(id) => FunctionKind::Constructor(places.moved_id(id)),
+        FunctionKind::Method(id) => FunctionKind::Method(ids.moved_id(id)),
+        FunctionKind::AsyncMethod(id) => FunctionKind::AsyncMethod(ids.moved_id(id)),
+        FunctionKind::Static(id) => FunctionKind::Static(ids.moved_id(id)),
+        FunctionKind::AsyncStatic(id) => FunctionKind::AsyncStatic(ids.moved_id(id)),
+        FunctionKind::Constructor(id) => FunctionKind::Constructor(ids.moved_id(id)),
     }
 }
 
 /// Moves a function to the types where they stand.
-pub fn move_function(places: &TypePlaces, function: &mut Function)
-    ensures { spec.IsMovedFunction (spec.to places.now) function.old function.new }
+pub fn move_function<M: TypeMap>(ids: &M, function: &mut Function)
+    ensures { spec.IsMovedFunction (M.goes ids.now) function.old function.new }
 {
-    move_params(places, function.params.as_mut_slice());
-    function.kind = moved_function_kind(places, function.kind);
-    function.result = places.moved_part(function.result);
+    move_params(ids, function.params.as_mut_slice());
+    function.kind = moved_function_kind(ids, function.kind);
+    function.result = moved_part(ids, function.result);
 }

@@ -5,8 +5,11 @@ ghost use Rattle.std.specs.List.{list_all};
 ghost use Rattle.wit_types.specs.declared.kind.TypeDefKind.TheVariants as of;
 ghost use Rattle.wit_moves.specs.Moved as spec;
 
+use crate::maps::{TypeMap, moved_part, moved_type};
 use crate::places::TypePlaces;
-use wit_types::{Case, Field, Handle, Record, Result_, Tuple, Type, TypeDefKind, Variant};
+use wit_types::{
+    Case, Field, Handle, Record, Result_, Tuple, Type, TypeDef, TypeDefKind, TypeOwner, Variant,
+};
 
 /// Whether the types of all fields stand somewhere.
 fn has_fields(places: &TypePlaces, fields: &[Field]) -> bool
@@ -64,93 +67,115 @@ pub fn has_kind(places: &TypePlaces, kind: &TypeDefKind) -> bool
 }
 
 /// Moves the types of fields.
-fn move_fields(places: &TypePlaces, fields: &mut [Field])
-    ensures { fields.new ≡ map (spec.moved_field (spec.to places.now)) fields.old }
+fn move_fields<M: TypeMap>(ids: &M, fields: &mut [Field])
+    ensures { fields.new ≡ map (spec.moved_field (M.goes ids.now)) fields.old }
 {
     for field in fields.iter_mut() {
-        field.ty = places.moved(field.ty);
+        field.ty = moved_type(ids, field.ty);
     }
 }
 
 /// Moves the types of cases.
-fn move_cases(places: &TypePlaces, cases: &mut [Case])
-    ensures { cases.new ≡ map (spec.moved_case (spec.to places.now)) cases.old }
+fn move_cases<M: TypeMap>(ids: &M, cases: &mut [Case])
+    ensures { cases.new ≡ map (spec.moved_case (M.goes ids.now)) cases.old }
 {
     for case in cases.iter_mut() {
-        case.ty = places.moved_part(case.ty);
+        case.ty = moved_part(ids, case.ty);
     }
 }
 
 /// Moves types.
-fn move_types(places: &TypePlaces, types: &mut [Type])
-    ensures { types.new ≡ map (spec.moved_ref (spec.to places.now)) types.old }
+fn move_types<M: TypeMap>(ids: &M, types: &mut [Type])
+    ensures { types.new ≡ map (spec.moved_ref (M.goes ids.now)) types.old }
 {
     for ty in types.iter_mut() {
-        *ty = places.moved(*ty);
+        *ty = moved_type(ids, *ty);
     }
 }
 
 /// A handle of the resource where it stands.
-fn moved_handle(places: &TypePlaces, handle: Handle) -> Handle
-    ensures { result ≡ spec.moved_handle (spec.to places.now) handle }
+fn moved_handle<M: TypeMap>(ids: &M, handle: Handle) -> Handle
+    ensures { result ≡ spec.moved_handle (M.goes ids.now) handle }
 {
     match handle {
-        Handle::Own(id) => Handle::Own(places.moved_id(id)),
-        Handle::Borrow(id) => Handle::Borrow(places.moved_id(id)),
+        Handle::Own(id) => Handle::Own(ids.moved_id(id)),
+        Handle::Borrow(id) => Handle::Borrow(ids.moved_id(id)),
     }
 }
 
 /// A record of the types where they stand.
-fn moved_record(places: &TypePlaces, record_: Record) -> TypeDefKind
-    ensures { spec.IsMovedKind (spec.to places.now) (of.Record record_) result }
+fn moved_record<M: TypeMap>(ids: &M, record_: Record) -> TypeDefKind
+    ensures { spec.IsMovedKind (M.goes ids.now) (of.Record record_) result }
 {
     let Record { mut fields } = record_;
-    move_fields(places, fields.as_mut_slice());
+    move_fields(ids, fields.as_mut_slice());
     TypeDefKind::Record(Record { fields })
 }
 
 /// A variant of the types where they stand.
-fn moved_variant(places: &TypePlaces, variant: Variant) -> TypeDefKind
-    ensures { spec.IsMovedKind (spec.to places.now) (of.Variant variant) result }
+fn moved_variant<M: TypeMap>(ids: &M, variant: Variant) -> TypeDefKind
+    ensures { spec.IsMovedKind (M.goes ids.now) (of.Variant variant) result }
 {
     let Variant { mut cases } = variant;
-    move_cases(places, cases.as_mut_slice());
+    move_cases(ids, cases.as_mut_slice());
     TypeDefKind::Variant(Variant { cases })
 }
 
 /// A tuple of the types where they stand.
-fn moved_tuple(places: &TypePlaces, tuple: Tuple) -> TypeDefKind
-    ensures { spec.IsMovedKind (spec.to places.now) (of.Tuple tuple) result }
+fn moved_tuple<M: TypeMap>(ids: &M, tuple: Tuple) -> TypeDefKind
+    ensures { spec.IsMovedKind (M.goes ids.now) (of.Tuple tuple) result }
 {
     let Tuple { mut types } = tuple;
-    move_types(places, types.as_mut_slice());
+    move_types(ids, types.as_mut_slice());
     TypeDefKind::Tuple(Tuple { types })
 }
 
 /// A definition of the types where they stand.
-pub fn moved_kind(places: &TypePlaces, kind: TypeDefKind) -> TypeDefKind
-    ensures { spec.IsMovedKind (spec.to places.now) kind result }
+pub fn moved_kind<M: TypeMap>(ids: &M, kind: TypeDefKind) -> TypeDefKind
+    ensures { spec.IsMovedKind (M.goes ids.now) kind result }
 {
     match kind {
-        TypeDefKind::Record(record) => moved_record(places, record),
-        TypeDefKind::Variant(variant) => moved_variant(places, variant),
-        TypeDefKind::Tuple(tuple) => moved_tuple(places, tuple),
-        TypeDefKind::Handle(handle) => TypeDefKind::Handle(moved_handle(places, handle)),
-        TypeDefKind::Option(ty) => TypeDefKind::Option(places.moved(ty)),
-        TypeDefKind::List(ty) => TypeDefKind::List(places.moved(ty)),
+        TypeDefKind::Record(record) => moved_record(ids, record),
+        TypeDefKind::Variant(variant) => moved_variant(ids, variant),
+        TypeDefKind::Tuple(tuple) => moved_tuple(ids, tuple),
+        TypeDefKind::Handle(handle) => TypeDefKind::Handle(moved_handle(ids, handle)),
+        TypeDefKind::Option(ty) => TypeDefKind::Option(moved_type(ids, ty)),
+        TypeDefKind::List(ty) => TypeDefKind::List(moved_type(ids, ty)),
         TypeDefKind::FixedLengthList(ty, length) => {
-            TypeDefKind::FixedLengthList(places.moved(ty), length)
+            TypeDefKind::FixedLengthList(moved_type(ids, ty), length)
         }
-        TypeDefKind::Alias(ty) => TypeDefKind::Alias(places.moved(ty)),
-        TypeDefKind::Future(part) => TypeDefKind::Future(places.moved_part(part)),
-        TypeDefKind::Stream(part) => TypeDefKind::Stream(places.moved_part(part)),
+        TypeDefKind::Alias(ty) => TypeDefKind::Alias(moved_type(ids, ty)),
+        TypeDefKind::Future(part) => TypeDefKind::Future(moved_part(ids, part)),
+        TypeDefKind::Stream(part) => TypeDefKind::Stream(moved_part(ids, part)),
         TypeDefKind::Result(result) => TypeDefKind::Result(Result_ {
-            ok: places.moved_part(result.ok),
-            err: places.moved_part(result.err),
+            ok: moved_part(ids, result.ok),
+            err: moved_part(ids, result.err),
         }),
         TypeDefKind::Flags(flags) => TypeDefKind::Flags(flags),
         TypeDefKind::Enum(labels) => TypeDefKind::Enum(labels),
         TypeDefKind::Resource => TypeDefKind::Resource,
         TypeDefKind::Unknown => TypeDefKind::Unknown,
+    }
+}
+
+/// A type of the types where they stand, which belongs there.
+pub fn moved_def<M: TypeMap>(ids: &M, owner: TypeOwner, def: TypeDef) -> TypeDef
+    ensures { spec.IsMovedDef (M.goes ids.now) owner def result }
+{
+    let TypeDef {
+        name,
+        kind,
+        owner: _,
+        docs,
+        stability,
+        span,
+    } = def;
+    TypeDef {
+        name,
+        kind: moved_kind(ids, kind),
+        owner,
+        docs,
+        stability,
+        span,
     }
 }

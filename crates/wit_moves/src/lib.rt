@@ -4,13 +4,15 @@
 mod functions;
 mod interfaces;
 mod kinds;
+mod maps;
 mod places;
 mod plan;
 mod worlds;
 
 pub use functions::{has_resource, has_signature, move_function};
 pub use interfaces::{check_functions, move_functions, move_interface, move_names};
-pub use kinds::{has_kind, moved_kind};
+pub use kinds::{has_kind, moved_def};
+pub use maps::TypeMap;
 pub use places::{InterfacePlaces, Places, TypePlaces, WorldPlaces};
-pub use plan::{MoveFault, OwnerPlaces};
+pub use plan::{MoveFault, OwnerPlaces, moved_defs, type_places};
 pub use worlds::{check_side, moved_side};

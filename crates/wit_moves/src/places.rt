@@ -1,6 +1,6 @@
 //! Where the values of an arena stand in another.
 
-ghost use Rattle.std.specs.Prelude.{◌≡◌, ◌++◌, ◌∷◌, [], None, Some, OnErr, OnOk, length, option_map};
+ghost use Rattle.std.specs.Prelude.{◌≡◌, ◌++◌, ◌∷◌, [], None, Some, OnErr, OnOk, length};
 ghost use Rattle.wit_moves.specs.Moved as spec;
 
 use std::alloc::{AllocError, Global};
@@ -85,7 +85,7 @@ impl<T> Places<T> {
     }
 
     /// Where one stands, or its id as it is where it is left out.
-    pub fn moved_id(&self, id: Id<T>) -> Id<T>
+    pub fn to(&self, id: Id<T>) -> Id<T>
         ensures { result ≡ spec.to self.now id }
     {
         let index = id.index();
@@ -118,26 +118,6 @@ impl Places<TypeTag> {
         match part {
             None => true,
             Some(ty) => self.has(ty),
-        }
-    }
-
-    /// A type where it stands.
-    pub fn moved(&self, ty: Type) -> Type
-        ensures { result ≡ spec.moved_ref (spec.to self.now) ty }
-    {
-        match ty {
-            Type::Id(id) => Type::Id(self.moved_id(id)),
-            other => other,
-        }
-    }
-
-    /// The same of one that may be left out.
-    pub fn moved_part(&self, part: Option<Type>) -> Option<Type>
-        ensures { result ≡ option_map (spec.moved_ref (spec.to self.now)) part }
-    {
-        match part {
-            None => None,
-            Some(ty) => Some(self.moved(ty)),
         }
     }
 }

@@ -4,7 +4,7 @@ ghost use Rattle.std.specs.Prelude.{◌≡◌, ℕ, ◌+◌, ◌<◌, ◌^◌, l
 ghost use Rattle.wit_moves.specs.Plan as spec;
 ghost use Rattle.wit_moves.specs.View as seen;
 
-use crate::kinds::{has_kind, moved_kind};
+use crate::kinds::{has_kind, moved_def};
 use crate::places::{InterfacePlaces, TypePlaces, WorldPlaces};
 use std::alloc::{AllocError, AllocFailed, Global};
 use wit_features::Features;
@@ -65,8 +65,8 @@ fn moved_owner(owners: &OwnerPlaces, owner: TypeOwner) -> TypeOwner
     ensures { result ≡ spec.moved_owner (seen.owners owners.now) owner }
 {
     match owner {
-        TypeOwner::World(id) => TypeOwner::World(owners.worlds.moved_id(id)),
-        TypeOwner::Interface(id) => TypeOwner::Interface(owners.interfaces.moved_id(id)),
+        TypeOwner::World(id) => TypeOwner::World(owners.worlds.to(id)),
+        TypeOwner::Interface(id) => TypeOwner::Interface(owners.interfaces.to(id)),
         TypeOwner::None => TypeOwner::None,
     }
 }
@@ -120,28 +120,6 @@ pub fn type_places(
     Ok(places)
 }
 
-/// A type where it stands.
-fn moved_def(owners: &OwnerPlaces, places: &TypePlaces, def: TypeDef) -> TypeDef
-    ensures { spec.IsMovedDef (seen.owners owners.now) places.now def result }
-{
-    let TypeDef {
-        name,
-        kind,
-        owner,
-        docs,
-        stability,
-        span,
-    } = def;
-    TypeDef {
-        name,
-        kind: moved_kind(places, kind),
-        owner: moved_owner(owners, owner),
-        docs,
-        stability,
-        span,
-    }
-}
-
 /// Adds a type of that number, if it stands somewhere.
 fn add_def(
     found: &mut Vec<TypeDef>,
@@ -153,7 +131,8 @@ fn add_def(
     ensures { OnOk result (spec.AddsDef (seen.owners owners.now) places.now index def found.old.items found.new.items) }
 {
     if places.has_id(TypeId::from_index(index)) {
-        found.push(moved_def(owners, places, def))?;
+        let owner = moved_owner(owners, def.owner);
+        found.push(moved_def(places, owner, def))?;
     }
     Ok(())
 }

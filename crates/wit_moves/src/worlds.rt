@@ -42,9 +42,9 @@ fn move_item(places: &TypePlaces, interfaces: &InterfacePlaces, item: &mut World
     ensures { spec.IsMovedItem (to places.now) (to interfaces.now) item.old item.new }
 {
     match item {
-        WorldItem::Interface { id, .. } => *id = interfaces.moved_id(*id),
+        WorldItem::Interface { id, .. } => *id = interfaces.to(*id),
         WorldItem::Function(function) => move_function(places, function),
-        WorldItem::TypeItem { id, .. } => *id = places.moved_id(*id),
+        WorldItem::TypeItem { id, .. } => *id = places.to(*id),
     }
 }
 
@@ -87,7 +87,7 @@ fn moved_key(interfaces: &InterfacePlaces, key: WorldKey) -> WorldKey
 {
     match key {
         WorldKey::Name(name) => WorldKey::Name(name),
-        WorldKey::Interface(id) => WorldKey::Interface(interfaces.moved_id(id)),
+        WorldKey::Interface(id) => WorldKey::Interface(interfaces.to(id)),
     }
 }
 

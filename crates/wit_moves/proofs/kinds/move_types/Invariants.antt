@@ -4,4 +4,4 @@ use Rattle.wit_moves.proofs.Mapped.{mapped}
 use Rattle.wit_moves.proofs.kinds.move_types.Given as goal
 
 abbrev pub invariant-loop-ty : goal.invariant-loop-ty
-invariant-loop-ty l = l.types ≡ mapped (spec.moved_ref (spec.to l.places)) l.ty-index l.fn.types
+invariant-loop-ty g l = l.types ≡ mapped (spec.moved_ref (g.M.TypeMap.goes l.ids)) l.ty-index l.fn.types
