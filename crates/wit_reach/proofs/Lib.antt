@@ -1,2 +1,5 @@
 mod Lists
 mod Ends
+mod Local
+mod Used
+mod Items

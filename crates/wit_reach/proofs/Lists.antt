@@ -1,17 +1,17 @@
 -- Lists of interfaces.
-use Rattle.std.proofs.Common.{◌≡◌, ℕ, ◌<◌, ◌+◌, List, [], ◌∷◌, ◌++◌, ◌⊎◌, inl, inr, refl, sym, subst, arith, length, take, get_or, zero, suc, Bool, true, false, ap, ◌∙◌}
+use Rattle.std.proofs.Common.{◌≡◌, ℕ, ◌<◌, ◌+◌, List, [], ◌∷◌, ◌++◌, ◌⊎◌, inl, inr, refl, sym, subst, arith, length, take, get_or, Bool, true, false, ap, ◌∙◌}
 use Rattle.std.proofs.lemmas.Cmp.{ranked}
 use Rattle.std.proofs.lemmas.List.{reverse-append, get_or_default}
 use Rattle.std.specs.BTreeMap.{is_at}
 use Rattle.std.specs.BTreeMap.Range.{IsLtBy}
 use Rattle.std.specs.List.{All, list_any}
 use Rattle.std.specs.Ordering.{is_eq, nat_cmp, MatchOrdering}
-use Rattle.std.specs.Prelude.{reverse, ◌||◌}
+use Rattle.std.specs.Prelude.{reverse, ◌||◌, Option, None, IsSome, ◌↔◌}
 use Rattle.std.specs.declared.cmp.Ordering.{Ordering}
 use Rattle.std.specs.declared.cmp.Ordering.TheVariants.{Less, Equal, Greater}
 use Rattle.wit_order.specs.Order.{Has, AreDependenciesFirst}
 use Rattle.wit_order.proofs.Lists.{has_get, has_place, has_more, has_was, has_take_more}
-use Rattle.wit_reach.specs.Reach.{AreRising}
+use Rattle.wit_reach.specs.Paths.{AreRising}
 
 pub has_append : (xs ys : List ℕ) (x : ℕ) → Has ys x → Has (xs ++ ys) x
 has_append [] ys x h = h
@@ -154,3 +154,8 @@ item_has xs k r l e = subst (Has xs) (sym (item_at xs k r l e)) (has_get xs k l)
 
 pub item_more : (xs : List ℕ) (k r x : ℕ) → k < length xs → r ≡ get_or xs k r → Has (take (k + 1) xs) x → (x ≡ r) ⊎ Has (take k xs) x
 item_more xs k r x l e h = elim (has_take_more xs k x l h) as (λ _. (x ≡ r) ⊎ Has (take k xs) x) [ inl here ↦ inl (here ∙ sym (item_at xs k r l e)) | inr was ↦ inr was ]
+
+-- what gives no key is empty
+pub none_left : (r : Option ℕ) (keys : List ℕ) → (IsSome r ↔ (0 < length keys)) → r ≡ None → keys ≡ []
+none_left r [] v e = refl
+none_left r (k ∷ keys) v e = absurd (let some = subst IsSome e (v.1 (omega arith)) in cc)

@@ -1,7 +1,8 @@
 -- What is reached over the types that interfaces use, and which interfaces a world imports in the end (Component Model, WIT, Worlds).
-use Rattle.std.specs.Prelude.{◌≡◌, ℕ, ◌<◌, List, [], ◌∷◌, length, ◌⊎◌}
+use Rattle.std.specs.Prelude.{◌≡◌, ℕ, ◌<◌, List, [], length, ◌⊎◌}
 use Rattle.wit_order.specs.Order.{Has, AreDependenciesFirst}
 use Rattle.wit_order.specs.Places.{Rows, Needs}
+use Rattle.wit_reach.specs.Paths.{AreRising, Reaches}
 use Rattle.wit_reach.specs.declared.reach.WorldLists.{WorldLists}
 use Rattle.wit_reach.specs.declared.reach.ElaborateFault.{ElaborateFault}
 use Rattle.wit_reach.specs.declared.reach.ElaborateFault.TheVariants.{ExportConflict, OutOfMemory}
@@ -9,23 +10,6 @@ use Rattle.wit_reach.specs.declared.reach.ElaborateFault.TheVariants.{ExportConf
 -- interface i uses a type of interface j
 abbrev pub Uses : Rows → ℕ → ℕ → Type 0
 Uses g i j = Needs g i j
-
--- each of the list is below each behind it
-abbrev pub AreRising : List ℕ → Type 0
-AreRising [] = Unit {0}
-AreRising (x ∷ xs) = ((y : ℕ) → Has xs y → x < y) × AreRising xs
-
--- a path of one or more interfaces, each using a type of the next: it begins at a, goes on over the list, and ends at b
-abbrev pub IsPath : Rows → ℕ → List ℕ → ℕ → Type 0
-IsPath g a [] b = a ≡ b
-IsPath g a (c ∷ via) b = Uses g a c × IsPath g c via b
-
-abbrev pub Reaches : Rows → ℕ → ℕ → Type 0
-Reaches g a b = (via : List ℕ) × IsPath g a via b
-
--- interfaces use earlier ones alone
-abbrev pub AreBackward : Rows → Type 0
-AreBackward g = (i j : ℕ) → Uses g i j → j < i
 
 -- what a world lists: imported interfaces, those whose types its own items use, and its exported interfaces
 pub record Lists : Type 0 where
@@ -46,17 +30,11 @@ IsStart g w i = Has w.imports i ⊎ Has w.used i ⊎ IsNeededOutside g w.exports
 
 -- the elaborated imports: all ends of paths from a start
 abbrev pub IsElaborated : Rows → Lists → ℕ → Type 0
-IsElaborated g w i = (s : ℕ) × IsStart g w s × Reaches g s i
+IsElaborated g w i = (s : ℕ) × IsStart g w s × Reaches (Uses g) s i
 
 -- an exported interface that a dependency from outside depends on
 abbrev pub IsConflict : Rows → Lists → ℕ → Type 0
-IsConflict g w i = Has w.exports i × ((s : ℕ) × IsNeededOutside g w.exports s × Reaches g s i)
-
--- each end of a path from a start, once, in rising order
-pub record AreEnds (g : Rows) (start : ℕ → Type 0) (order : List ℕ) : Type 0 where
-  pub all : (i s : ℕ) → start s → Reaches g s i → Has order i
-  pub only : (i : ℕ) → Has order i → (s : ℕ) × start s × Reaches g s i
-  pub rising : AreRising order
+IsConflict g w i = Has w.exports i × ((s : ℕ) × IsNeededOutside g w.exports s × Reaches (Uses g) s i)
 
 -- the list is the elaborated imports, each once, dependencies first, and no export is needed from outside
 pub record IsElaboration (g : Rows) (w : Lists) (order : List ℕ) : Type 0 where

@@ -1,6 +1,14 @@
-//! Which interfaces a world imports in the end, by what they and its exports depend on (Component Model, WIT, Worlds).
+//! What is reached from where: which interfaces a world imports in the end, by what they and its exports depend on, and which types
+//! are its own (Component Model, WIT, Worlds).
 #![tactic(auto)]
 
+mod deps;
+mod ids;
 mod reach;
+mod types;
+mod world;
 
+pub use deps::{interface_deps, type_interface_dep};
 pub use reach::{ElaborateFault, WorldLists, closure, elaborate, law_elaborated_stays};
+pub use types::world_types;
+pub use world::world_lists;

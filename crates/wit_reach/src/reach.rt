@@ -2,11 +2,12 @@
 
 ghost use Rattle.std.specs.Prelude.{◌≡◌, ℕ, ◌<◌, ◌⊎◌, ◌↔◌, List, [], length, reverse, IfOk, IfErr, OnOk, IfSome, IfNone, IsTrue};
 ghost use Rattle.wit_order.specs.Order.{Has};
-ghost use Rattle.wit_reach.specs.Reach.{AreBackward, AreEnds, IsNeededOutside, IsElaboration, IsElaborateCause, AreThere, lists_of, ElaboratingAgainIsTheSame};
+ghost use Rattle.wit_reach.specs.Paths.{AreBackward, AreEnds};
+ghost use Rattle.wit_reach.specs.Reach.{Uses, IsNeededOutside, IsElaboration, IsElaborateCause, AreThere, lists_of, ElaboratingAgainIsTheSame};
 
 use std::alloc::{AllocError, AllocFailed, Global};
 use std::collections::BTreeSet;
-use wit_types::InterfaceId;
+use wit_types::{Id, InterfaceId};
 
 /// The interfaces that a world lists as imports, those whose types its own items use, and those that it exports.
 #[derive(Debug, Drop)]
@@ -56,7 +57,10 @@ fn has(set: &BTreeSet<usize>, interface: InterfaceId) -> bool
 }
 
 /// Adds the interfaces to the set.
-fn add_all(set: &mut BTreeSet<usize>, interfaces: &[InterfaceId]) -> Result<(), AllocError>
+pub(crate) fn add_all(
+    set: &mut BTreeSet<usize>,
+    interfaces: &[InterfaceId],
+) -> Result<(), AllocError>
     ensures was { OnOk result ((i : ℕ) → Has set.old.keys i → Has set.new.keys i) }
     ensures new { OnOk result ((i : ℕ) → Has interfaces.now i → Has set.new.keys i) }
     ensures only { OnOk result ((i : ℕ) → Has set.new.keys i → Has set.old.keys i ⊎ Has interfaces.now i) }
@@ -68,7 +72,7 @@ fn add_all(set: &mut BTreeSet<usize>, interfaces: &[InterfaceId]) -> Result<(), 
 }
 
 /// The list from its end on.
-fn turned(alloc: Global, falling: &[InterfaceId]) -> Result<Vec<InterfaceId>, AllocError>
+pub(crate) fn turned<T>(alloc: Global, falling: &[Id<T>]) -> Result<Vec<Id<T>>, AllocError>
     ensures { IfOk result (λ rising. rising.items ≡ reverse falling.now) }
 {
     falling.iter().rev().copied().collect(alloc)
@@ -80,9 +84,9 @@ fn reached(
     uses: &[Vec<InterfaceId>],
     starts: &[InterfaceId],
 ) -> Result<Vec<InterfaceId>, AllocError>
-    requires backward { AreBackward uses.now }
+    requires backward { AreBackward (Uses uses.now) }
     requires there { (i : ℕ) → Has starts.now i → i < length uses.now }
-    ensures { IfOk result (λ order. AreEnds uses.now (Has starts.now) order.items) }
+    ensures { IfOk result (λ order. AreEnds (Uses uses.now) (Has starts.now) order.items) }
 {
     let mut left = BTreeSet::new(alloc);
     add_all(&mut left, starts)?;
@@ -102,9 +106,9 @@ pub fn closure(
     uses: &[Vec<InterfaceId>],
     interface: InterfaceId,
 ) -> Result<Vec<InterfaceId>, AllocError>
-    requires backward { AreBackward uses.now }
+    requires backward { AreBackward (Uses uses.now) }
     requires there { interface < length uses.now }
-    ensures { IfOk result (λ order. AreEnds uses.now (λ s. s ≡ interface) order.items) }
+    ensures { IfOk result (λ order. AreEnds (Uses uses.now) (λ s. s ≡ interface) order.items) }
 {
     let mut starts = Vec::new(alloc);
     starts.push(interface)?;
@@ -168,7 +172,7 @@ pub fn elaborate(
     uses: &[Vec<InterfaceId>],
     world: &WorldLists,
 ) -> Result<Vec<InterfaceId>, ElaborateFault>
-    requires backward { AreBackward uses.now }
+    requires backward { AreBackward (Uses uses.now) }
     requires there { AreThere uses.now (lists_of world.now) }
     ensures ok { IfOk result (λ order. IsElaboration uses.now (lists_of world.now) order.items) }
     ensures cause { IfErr result (IsElaborateCause uses.now (lists_of world.now)) }

@@ -1,6 +1,7 @@
 use Rattle.std.proofs.Common.{◌≡◌, ℕ, List, sym, subst, ◌++◌, ◌↔◌}
 use Rattle.wit_order.specs.Order.{Has}
-use Rattle.wit_reach.specs.Reach.{lists_of, Lists, AreEnds, IsNeededOutside}
+use Rattle.wit_reach.specs.Reach.{lists_of, Lists, IsNeededOutside, Uses}
+use Rattle.wit_reach.specs.Paths.{AreEnds}
 use Rattle.wit_reach.proofs.Ends.{start_list, no_conflict, elaborates}
 use Rattle.wit_reach.proofs.reach.elaborate.Goals as goal
 
@@ -20,8 +21,8 @@ returns-clause-ok c =
     subst (λ (l : List ℕ). (i : ℕ) → Has c.in_ok-starts.starts.items i ↔ IsNeededOutside c.args.uses.now l i) c.as_slice-2.ensures.value c.in_ok-starts.ensures in
     let joined : c.as_slice-7.result.now ≡ (c.in_ok-starts.starts.items ++ w.imports) ++ w.used = let a = c.as_slice-7.ensures.value in let b = c.in_ok-extend_from_slice-2.ensures.items in let d = c.in_ok-extend_from_slice.ensures.items in let e = c.as_slice-5.ensures.value in let f = c.as_slice-6.ensures.value in cc in
     let starts = start_list g w c.in_ok-starts.starts.items c.as_slice-7.result.now c.requires.backward c.requires.there joined third in
-    let ends : AreEnds g (Has c.in_ok-starts.starts.items) c.in_ok-outside.outside.items =
-    subst (λ (l : List ℕ). AreEnds g (Has l) c.in_ok-outside.outside.items) c.as_slice-3.ensures.value c.in_ok-outside.ensures in
+    let ends : AreEnds (Uses g) (Has c.in_ok-starts.starts.items) c.in_ok-outside.outside.items =
+    subst (λ (l : List ℕ). AreEnds (Uses g) (Has l) c.in_ok-outside.outside.items) c.as_slice-3.ensures.value c.in_ok-outside.ensures in
     let none = c.in_default.ensures.none in
     elaborates g w c.as_slice-7.result.now c.in_ok-order.order.items c.requires.backward starts.1 starts.2 c.in_ok-order.ensures
     (no_conflict g w c.in_ok-starts.starts.items c.in_ok-outside.outside.items c.add_all.new.set.keys third ends

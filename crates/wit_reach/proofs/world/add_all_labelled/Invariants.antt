@@ -1,0 +1,6 @@
+use Rattle.std.proofs.Common.{◌≡◌, ◌++◌, flat_map}
+use Rattle.wit_reach.specs.Lists as spec
+use Rattle.wit_reach.proofs.world.add_all_labelled.Given as goal
+
+abbrev pub invariant-loop-key : goal.invariant-loop-key
+invariant-loop-key l = l.ids.items ++ flat_map spec.labelled l.key-iterator ≡ l.fn.ids.items ++ spec.labelled_in l.fn.side.entries
