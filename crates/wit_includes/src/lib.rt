@@ -1,0 +1,7 @@
+//! What a world brings to one that includes it (WIT, Item: `include`).
+#![tactic(auto)]
+
+mod names;
+mod worlds;
+
+pub use worlds::{Include, IncludeFault, Included, included_world};
