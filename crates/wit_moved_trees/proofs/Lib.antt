@@ -1,2 +1,3 @@
+mod Earlier
 mod Following
 mod Moving

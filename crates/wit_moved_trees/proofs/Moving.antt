@@ -12,8 +12,8 @@ use Rattle.wit_types.specs.declared.function.Param.{Param}
 use Rattle.wit_types.specs.declared.interface.TypeDef.{TypeDef}
 use Rattle.wit_types.specs.declared.interface.TypeOwner.{TypeOwner}
 use Rattle.wit_features.specs.Features.{FeatureSet, stays as item_stays}
-use Rattle.wit_moves.specs.Moved.{Places, place_of, is_placed, is_ref_placed, is_part_placed, to, is_kind_placed, IsMovedKind, flat}
-use Rattle.wit_moves.specs.Plan.{OwnerPlaces, is_owner_placed, moved_owner, named_stays, type_stays, Plan, with_place, with_type, with_types, AreTypesPlaced, IsMovedDef, AreMovedDefs, no_defs, left_out, moved}
+use Rattle.wit_moves.specs.Moved.{Places, place_of, is_placed, is_ref_placed, is_part_placed, to, is_kind_placed, IsMovedKind, IsMovedDef, flat}
+use Rattle.wit_moves.specs.Plan.{OwnerPlaces, is_owner_placed, moved_owner, named_stays, type_stays, Plan, with_place, with_type, with_types, AreTypesPlaced, AreMovedDefs, no_defs, left_out, moved}
 use Rattle.wit_moves.specs.Interfaces.{AreMovedNames, no_entries, one_goes, one_stays}
 use Rattle.wit_arena.specs.Tree.{Name, Owner, Tree}
 use Rattle.wit_arena.specs.Unfold.{flat as flat_tree, Owners, and_then, ref_tree, part_tree, part_trees, named_kind_tree, nameless_tree, owner_of, def_tree_of, def_tree, trees, IsWhole}
@@ -26,11 +26,11 @@ use Rattle.wit_moved_trees.proofs.Following.{named_follows, nameless_follows, pa
 
 -- ---- places
 
-either : (b : Bool) → (b ≡ true) ⊎ (b ≡ false)
+pub either : (b : Bool) → (b ≡ true) ⊎ (b ≡ false)
 either true = inl refl
 either false = inr refl
 
-placed_some : (o : Option ℕ) → is_some o ≡ true → (j : ℕ) × (o ≡ Some j)
+pub placed_some : (o : Option ℕ) → is_some o ≡ true → (j : ℕ) × (o ≡ Some j)
 placed_some None h = absurd cc
 placed_some (Some j) h = (j, refl)
 
@@ -39,11 +39,11 @@ flat_is None j h = absurd cc
 flat_is (Some p) j h = ap (λ (q : Option ℕ). Some q) h
 
 -- what has a place has it with more behind
-place_kept : (places more : Places) (i j : ℕ) → place_of places i ≡ Some j → place_of (places ++ more) i ≡ Some j
+pub place_kept : (places more : Places) (i j : ℕ) → place_of places i ≡ Some j → place_of (places ++ more) i ≡ Some j
 place_kept places more i j h = ap flat (get_kept places more i (Some j) (flat_is (slice_get places i) j h))
 
 -- a place among these and one more
-place_more : (places : Places) (o : Option ℕ) (i j : ℕ) → place_of (places ++ o ∷ []) i ≡ Some j → (place_of places i ≡ Some j) ⊎ ((i ≡ length places) × (o ≡ Some j))
+pub place_more : (places : Places) (o : Option ℕ) (i j : ℕ) → place_of (places ++ o ∷ []) i ≡ Some j → (place_of places i ≡ Some j) ⊎ ((i ≡ length places) × (o ≡ Some j))
 place_more [] o zero j h = inr (refl, h)
 place_more [] o (suc i) j h = absurd cc
 place_more (p ∷ places) o zero j h = inl h
@@ -55,7 +55,7 @@ place_more (p ∷ places) o (suc i) j h =
 
 module _ (features : FeatureSet) (owners : OwnerPlaces) where
   -- a plan goes on behind what it has
-  plan_grows : (p : Plan) (ds : List TypeDef) → (more : Places) × ((with_types features owners p ds).places ≡ p.places ++ more)
+  pub plan_grows : (p : Plan) (ds : List TypeDef) → (more : Places) × ((with_types features owners p ds).places ≡ p.places ++ more)
   plan_grows p [] = ([], sym (append-nil p.places))
   plan_grows p (d ∷ ds) = by (type_stays features owners p.places d) (λ q. plan_grows q ds)
     where
@@ -63,12 +63,12 @@ module _ (features : FeatureSet) (owners : OwnerPlaces) where
       by true go = (let r = go (with_place true p) in (Some p.next ∷ r.0, r.1 ∙ append_assoc p.places (Some p.next ∷ []) r.0))
       by false go = (let r = go (with_place false p) in (None ∷ r.0, r.1 ∙ append_assoc p.places (None ∷ []) r.0))
 
-  plan_append : (p : Plan) (xs ys : List TypeDef) → with_types features owners p (xs ++ ys) ≡ with_types features owners (with_types features owners p xs) ys
+  pub plan_append : (p : Plan) (xs ys : List TypeDef) → with_types features owners p (xs ++ ys) ≡ with_types features owners (with_types features owners p xs) ys
   plan_append p [] ys = refl
   plan_append p (x ∷ xs) ys = plan_append (with_type features owners p x) xs ys
 
   -- each type has one place more, or none
-  plan_length : (p : Plan) (ds : List TypeDef) → length (with_types features owners p ds).places ≡ length p.places + length ds
+  pub plan_length : (p : Plan) (ds : List TypeDef) → length (with_types features owners p ds).places ≡ length p.places + length ds
   plan_length p [] = omega arith
   plan_length p (d ∷ ds) = by (type_stays features owners p.places d) (λ q. plan_length q ds)
     where
@@ -76,12 +76,12 @@ module _ (features : FeatureSet) (owners : OwnerPlaces) where
       by true go = (let r = go (with_place true p) in let l = length-append p.places (Some p.next ∷ []) in omega (arith, r, l))
       by false go = (let r = go (with_place false p) in let l = length-append p.places (None ∷ []) in omega (arith, r, l))
 
-take_front : (xs ys : List TypeDef) → take (length xs) (xs ++ ys) ≡ xs
+pub take_front : (xs ys : List TypeDef) → take (length xs) (xs ++ ys) ≡ xs
 take_front [] [] = refl
 take_front [] (y ∷ ys) = refl
 take_front (x ∷ xs) ys = ap (λ (zs : List TypeDef). x ∷ zs) (take_front xs ys)
 
-get_here : (xs ys : List TypeDef) (d : TypeDef) → slice_get (xs ++ d ∷ ys) (length xs) ≡ Some d
+pub get_here : (xs ys : List TypeDef) (d : TypeDef) → slice_get (xs ++ d ∷ ys) (length xs) ≡ Some d
 get_here [] ys d = refl
 get_here (x ∷ xs) ys d = get_here xs ys d
 
@@ -105,13 +105,13 @@ module _ (given : Owner → Name → Tree) (package_owners graph_owners : Owners
         (kept_then (λ (w : Owner). named_kind_tree given done w (string_bytes x) k) (λ (w : Owner). named_kind_tree given there w (string_bytes x) l) (owner_of package_owners o) (owner_of graph_owners (moved_owner owners o)) t
         (λ w f. same x refl ∙ f) (λ w. named_follows so_far (to places) done there follows given w (string_bytes x) k l t p m) h)
 
-    def_follows : (d e : TypeDef) (t : Tree) → is_kind_placed so_far d.kind ≡ true → IsMovedDef owners places d e → ((x : String Global) → d.name ≡ Some x → owner_of graph_owners (moved_owner owners d.owner) ≡ owner_of package_owners d.owner)
+    def_follows : (d e : TypeDef) (t : Tree) → is_kind_placed so_far d.kind ≡ true → IsMovedDef (to places) (moved_owner owners d.owner) d e → ((x : String Global) → d.name ≡ Some x → owner_of graph_owners (moved_owner owners d.owner) ≡ owner_of package_owners d.owner)
         → def_tree package_owners given done d ≡ Some t → def_tree graph_owners given there e ≡ Some t
     def_follows d e t p m same h =
-        subst (λ (n : Option (String Global)). def_tree_of graph_owners given there n e.owner e.kind ≡ Some t) (sym m.name) (by_name d.name d.owner e.owner d.kind e.kind t p m.kind m.owner same h)
+        subst (λ (n : Option (String Global)). def_tree_of graph_owners given there n e.owner e.kind ≡ Some t) (sym m.name) (by_name d.name d.owner e.owner d.kind e.kind t p m.kind m.owner_is same h)
 
 -- what was put last is there exactly where it stays
-pushed_is : (b : Bool) (p : Plan) (more : Places) → is_placed ((with_place b p).places ++ more) (length p.places) ≡ b
+pub pushed_is : (b : Bool) (p : Plan) (more : Places) → is_placed ((with_place b p).places ++ more) (length p.places) ≡ b
 pushed_is true p more = ap (λ (o : Option (Option ℕ)). is_some (flat o)) (get_kept (p.places ++ Some p.next ∷ []) more (length p.places) (Some p.next) (get_last p.places (Some p.next)))
 pushed_is false p more = ap (λ (o : Option (Option ℕ)). is_some (flat o)) (get_kept (p.places ++ None ∷ []) more (length p.places) None (get_last p.places None))
 
@@ -188,7 +188,7 @@ module _ (given : Owner → Name → Tree) (package_owners graph_owners : Owners
             whole = so_far.whole;
           }
 
-      module _ (e : TypeDef) (there : is_placed places (length foreign + length xs) ≡ true) (is : IsMovedDef owners places d e) where
+      module _ (e : TypeDef) (there : is_placed places (length foreign + length xs) ≡ true) (is : IsMovedDef (to places) (moved_owner owners d.owner) d e) where
         yes : stays ≡ true
         yes = sym stays_is ∙ there
 

@@ -1,0 +1,10 @@
+mod Members
+mod Backward
+mod Renaming
+mod Clones
+mod Definitions
+mod Named
+mod Copying
+mod Functions
+mod MovedIds
+mod Standing
