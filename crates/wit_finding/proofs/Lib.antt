@@ -1,0 +1,5 @@
+mod Having
+mod Asking
+mod Naming
+mod Placing
+mod Named
