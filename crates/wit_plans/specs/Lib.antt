@@ -1,0 +1,4 @@
+pub mod Checks
+pub mod Plans
+pub mod View
+pub mod Moves
