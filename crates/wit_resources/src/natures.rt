@@ -1,13 +1,13 @@
 //! What is known of types.
 
-ghost use Rattle.std.specs.Prelude.{◌≡◌, [], Some, OnOk};
+ghost use Rattle.std.specs.Prelude.{◌≡◌, [], Some, take, OnOk};
 ghost use Rattle.wit_types.specs.declared.kind.«Type».TheVariants.{Id};
 ghost use Rattle.wit_resources.specs.Natures as spec;
 
 use std::alloc::{AllocError, Global};
 use std::marker::Model;
 use wit_arena::Types;
-use wit_types::{Case, Field, Handle, Type, TypeDefKind, TypeId};
+use wit_types::{Case, Field, Handle, Type, TypeDef, TypeDefKind, TypeId};
 
 /// What is known of a type. A type of another package may be a resource, and is taken for one.
 #[derive(Clone, Copy, Debug, PartialEq, Eq)]
@@ -141,6 +141,24 @@ impl Natures {
         ensures { result ≡ spec.part_holds self.now part.now }
     {
         part_holds(self.known.as_slice(), part)
+    }
+
+    /// Adds what is known of types that come behind those.
+    pub fn extend(&mut self, defs: &[TypeDef]) -> Result<(), AllocError>
+        ensures { OnOk result (self.new ≡ spec.natures_from self.old defs.now) }
+    {
+        for def in defs {
+            let nature = of_kind(self.known.as_slice(), &def.kind);
+            self.known.push(nature)?;
+        }
+        Ok(())
+    }
+
+    /// Forgets the last types, so that this many are left at most.
+    pub fn truncate(&mut self, len: usize)
+        ensures { self.new ≡ take len self.old }
+    {
+        self.known.truncate(len);
     }
 
     /// Adds what is known of the types of the arena that came since.
