@@ -1,0 +1,2 @@
+mod Including
+mod Stood
