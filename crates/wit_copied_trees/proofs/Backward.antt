@@ -18,7 +18,7 @@ use Rattle.wit_types.specs.declared.interface.TypeOwner.{TypeOwner}
 use Rattle.wit_types.specs.declared.interface.TypeOwner.TheVariants as belongs
 use Rattle.wit_order.specs.Order.{Has}
 use Rattle.wit_reach.specs.Ids.{ref_ids, part_ids, handle_ids, kind_ids}
-use Rattle.wit_copied_trees.proofs.Members.{has_parts}
+use Rattle.wit_reach.proofs.Lists.{has_parts}
 use Rattle.wit_arena.specs.Tree.{Name, Owner, Tree, TreeOption, Trees, a_tree, trees_and, list_tree, fixed_length_list_tree, option_tree, tuple_tree, result_tree, future_tree, stream_tree, own_tree, borrow_tree, record_tree, variant_tree, named_tree, value_of}
 use Rattle.wit_arena.specs.Unfold.{Owners, flat, and_then, ref_tree, value_tree, part_tree, part_trees, handle_tree, kind_tree, named_kind_tree, owner_of, nameless_tree, def_tree_of, def_tree, trees_from, trees}
 use Rattle.wit_arena.proofs.Lists.{get_kept, get_last, get_split}

@@ -8,8 +8,11 @@ use Rattle.wit_types.specs.declared.interface.TypeDef.{TypeDef}
 use Rattle.wit_types.specs.declared.world.IncludeName.{IncludeName}
 use Rattle.wit_types.specs.declared.world.World.{World}
 use Rattle.wit_order.specs.Order.{Has}
-use Rattle.wit_reach.specs.Paths.{IsPath, AreRising}
+use Rattle.wit_reach.specs.Paths.{AreRising}
 use Rattle.wit_reach.specs.Ids.{kind_ids}
+use Rattle.wit_reach.proofs.Ends.{reaches_more}
+use Rattle.wit_reach.proofs.Lists.{has_append}
+use Rattle.wit_reach.proofs.Local.{stays_local}
 use Rattle.wit_reach.specs.Types.{IsLocalAt, IsMadeOf, UsesLocal, is_local}
 use Rattle.wit_copies.specs.Same.{text_of}
 use Rattle.wit_copies.specs.Copies as copies
@@ -23,20 +26,12 @@ use Rattle.wit_arena.proofs.Lists.{get_kept, get_more}
 use Rattle.wit_arena.proofs.Unfolding.{flat_some, ref_kept, added, def_at, whole_more}
 use Rattle.wit_copied_trees.specs.Renamed.{IsRenamedTree}
 use Rattle.wit_copied_trees.specs.Law.{AreIncludedBehind, IncludedTypesStandForTheSame}
-use Rattle.wit_copied_trees.proofs.Members.{has_second, has_place, get_there, stands_before, goes_own, goes_else}
+use Rattle.wit_copied_trees.proofs.Members.{has_place, get_there, stands_before, goes_own, goes_else}
 use Rattle.wit_copied_trees.proofs.Backward.{trees_length, whole_backward}
 use Rattle.wit_copied_trees.proofs.Renaming.{Gives}
 use Rattle.wit_copied_trees.proofs.Named.{copy_follows, stays_elsewhere}
 
 -- ---- a world's types
-
-path_more : (uses : ℕ → ℕ → Type 0) (a : ℕ) (via : List ℕ) (b c : ℕ) → IsPath uses a via b → uses b c → (more : List ℕ) × IsPath uses a more c
-path_more uses a [] b c p u = (c ∷ [], (subst (λ (z : ℕ). uses z c) (sym p) u, refl))
-path_more uses a (d ∷ via) b c p u = (let r = path_more uses d via b c p.1 u in (d ∷ r.0, (p.0, r.1)))
-
-path_local : (from : ℕ) (ds : List TypeDef) (a : ℕ) (via : List ℕ) (b : ℕ) → IsLocalAt from ds a → IsPath (UsesLocal from ds) a via b → IsLocalAt from ds b
-path_local from ds a [] b l p = subst (IsLocalAt from ds) p l
-path_local from ds a (c ∷ via) b l p = path_local from ds c via b p.0.1 p.1
 
 module _ (names : List IncludeName) (owners : Owners) (given : Owner → Name → Tree) (from into : ℕ) (w v : Owner) (world : World) (types : List TypeDef) (own : List ℕ) (new : List TypeDef)
     (b : AreIncludedBehind names owners given from into w v world types own new)
@@ -48,12 +43,12 @@ module _ (names : List IncludeName) (owners : Owners) (given : Owner → Name �
     c = copies_behind types own
 
     own_local : (i : ℕ) → Has own i → IsLocalAt from types i
-    own_local i h = (let o = b.are_own.only i h in path_local from types o.0 o.2.0 i o.1.1 o.2.1)
+    own_local i h = (let o = b.are_own.only i h in stays_local from types o.0 o.2.0 i o.1.1 o.2.1)
 
     own_closed : (i j : ℕ) → Has own i → IsMadeOf types i j → IsLocalAt from types j → Has own j
     own_closed i j h made local =
         let o = b.are_own.only i h in
-        b.are_own.all j o.0 o.1 (path_more (UsesLocal from types) o.0 o.2.0 i j o.2.1 (made, local))
+        b.are_own.all j o.0 o.1 (reaches_more (UsesLocal from types) o.0 i j o.2 (made, local))
 
     one_def : (i : ℕ) (d e : TypeDef) → slice_get types i ≡ Some d → slice_get types i ≡ Some e → d ≡ e
     one_def i d e p q = same_Some d e (sym p ∙ q)
@@ -98,7 +93,7 @@ module _ (names : List IncludeName) (owners : Owners) (given : Owner → Name �
 
     module _ (is rest : List ℕ) (es : List TypeDef) (i : ℕ) (d e g : TypeDef) (split : is ++ i ∷ rest ≡ own) (so_far : SoFar is es) (at : slice_get types i ≡ Some d) (copied : IsCopiedDef c from into d e) (r : IsRenamedDef names into e g) where
       is_own : Has own i
-      is_own = subst (λ (xs : List ℕ). Has xs i) split (has_second is (i ∷ rest) i (inl refl))
+      is_own = subst (λ (xs : List ℕ). Has xs i) split (has_append is (i ∷ rest) i (inl refl))
 
       local : is_local from d.owner ≡ true
       local = (let o = own_local i is_own in subst (λ (z : TypeDef). is_local from z.owner ≡ true) (one_def i o.0 d o.1 at) o.2)

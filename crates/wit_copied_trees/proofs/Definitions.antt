@@ -20,7 +20,8 @@ use Rattle.wit_arena.specs.Tree.{Name, Owner, Tree, TreeOption, Trees, list_tree
 use Rattle.wit_arena.specs.Unfold.{flat, value_tree, part_tree, part_trees, kind_tree}
 use Rattle.wit_copied_trees.specs.Renamed as renamed
 use Rattle.wit_copied_trees.specs.Renamed.{IsRenamedTree, IsRenamedPart, AreRenamedTrees}
-use Rattle.wit_copied_trees.proofs.Members.{has_first, has_second}
+use Rattle.wit_order.proofs.Lists.{has_was}
+use Rattle.wit_reach.proofs.Lists.{has_append}
 use Rattle.wit_copied_trees.proofs.Clones.{field_parts, field_names, case_parts, case_names, type_parts, flag_names, enum_names}
 use Rattle.wit_copied_trees.proofs.Renaming.{Gives, gives_map, gives_then, ref_follows, value_follows, part_follows, parts_follow, handle_follows}
 
@@ -85,9 +86,9 @@ module _ (names : List IncludeName) (from into : Owner) (P : ℕ → Type 0) (f 
     kind_follows _ _ _ t p (copy.same_option r) (moved.moved_option _) h = value_in option_tree r t renamed.renamed_option p h
     kind_follows _ _ _ t p (copy.same_result r) (moved.moved_result _) h =
         gives_then IsPart Is (λ (u : TreeOption). option_map (result_tree u) (part_tree done r.err)) (λ (u : TreeOption). option_map (result_tree u) (part_tree there (moved_part f r.err))) (part_tree done r.ok) (part_tree there (moved_part f r.ok)) t
-        (λ u. part_follows names from into P f done there follows r.ok u (λ j h. p j (has_first (part_ids r.ok) (part_ids r.err) j h)))
+        (λ u. part_follows names from into P f done there follows r.ok u (λ j h. p j (has_was (part_ids r.ok) (part_ids r.err) j h)))
         (λ u v n. gives_map IsPart Is (result_tree u) (result_tree v) (part_tree done r.err) (part_tree there (moved_part f r.err)) t
-        (λ x. part_follows names from into P f done there follows r.err x (λ j h. p j (has_second (part_ids r.ok) (part_ids r.err) j h)))
+        (λ x. part_follows names from into P f done there follows r.err x (λ j h. p j (has_append (part_ids r.ok) (part_ids r.err) j h)))
         (λ x y m. renamed.renamed_result u v x y n m))
         h
     kind_follows _ _ _ t p (copy.same_list r) (moved.moved_list _) h = value_in list_tree r t renamed.renamed_list p h

@@ -14,7 +14,8 @@ use Rattle.wit_arena.specs.Tree.{Tree}
 use Rattle.wit_arena.specs.Unfold.{flat, part_tree, part_trees, trees}
 use Rattle.wit_copied_trees.specs.Renamed.{IsRenamedTree, IsRenamedPart, AreRenamedTrees}
 use Rattle.wit_copied_trees.specs.Law.{IncludedFunctionsStandForTheSame}
-use Rattle.wit_copied_trees.proofs.Members.{has_first, has_second}
+use Rattle.wit_order.proofs.Lists.{has_was}
+use Rattle.wit_reach.proofs.Lists.{has_append}
 use Rattle.wit_copied_trees.proofs.Clones.{param_parts, param_names}
 use Rattle.wit_copied_trees.proofs.Renaming.{Gives, part_follows, parts_follow}
 use Rattle.wit_copied_trees.proofs.Copying.{follows_where, included_types_stand}
@@ -31,10 +32,10 @@ included_functions_stand names owners given from into w v world types own new f 
     let param_ids : List ℕ = flat_map (λ (p : Param). ref_ids p.ty) f.params.items in
     let rs : List (Option Ref) = map (λ (p : Param). Some p.ty) f.params.items in
     let of_params : (j : ℕ) → Has (flat_map part_ids rs) j → P j =
-    λ j k. has_first param_ids (part_ids f.result) j (subst (λ (is : List ℕ). Has is j) (flat_map-map part_ids (λ (p : Param). Some p.ty) f.params.items) k) in
+    λ j k. has_was param_ids (part_ids f.result) j (subst (λ (is : List ℕ). Has is j) (flat_map-map part_ids (λ (p : Param). Some p.ty) f.params.items) k) in
     let takes : Gives (AreRenamedTrees names w v) params (part_trees there (map (moved_part c) rs)) = parts_follow names w v P c done there follows rs params of_params is.params_are in
     let gives : Gives (IsRenamedPart names w v) result (part_tree there (moved_part c f.result)) =
-    part_follows names w v P c done there follows f.result result (λ j k. has_second param_ids (part_ids f.result) j k) is.result_is in (
+    part_follows names w v P c done there follows f.result result (λ j k. has_append param_ids (part_ids f.result) j k) is.result_is in (
       takes.0,
       gives.0,
       takes.1,

@@ -1,5 +1,5 @@
 -- Members of lists of ids, and their places.
-use Rattle.std.proofs.Common.{◌≡◌, ℕ, ◌<◌, ◌+◌, suc, zero, Bool, true, false, List, [], ◌∷◌, ◌++◌, ◌⊎◌, inl, inr, Option, Some, None, refl, sym, subst, ap, ◌∙◌, arith, length, get_or, nat_eq, cond}
+use Rattle.std.proofs.Common.{◌≡◌, ℕ, ◌<◌, ◌+◌, suc, zero, Bool, true, false, List, [], ◌∷◌, ◌++◌, inl, inr, Option, Some, None, refl, sym, subst, ap, ◌∙◌, arith, length, get_or, nat_eq, cond}
 use Rattle.std.proofs.lemmas.Bool.{ne_eqb, eq-eqb, eqb-true, lt-ltb}
 use Rattle.std.proofs.lemmas.List.Quantifiers.{position-Some}
 use Rattle.std.proofs.lemmas.Option.{same_Some, slice_get_within}
@@ -8,25 +8,10 @@ use Rattle.std.specs.Prelude.{slice_get, position, option_map, unwrap_or, not, n
 use Rattle.wit_types.specs.declared.interface.TypeDef.{TypeDef}
 use Rattle.wit_order.specs.Order.{Has}
 use Rattle.wit_order.proofs.Lists.{has_get}
+use Rattle.wit_reach.proofs.Lists.{has_parts}
 use Rattle.wit_reach.specs.Paths.{AreRising}
 use Rattle.wit_copies.specs.Copies.{goes}
 use Rattle.wit_includes.specs.Included.{copies_behind}
-
-pub has_parts : (xs ys : List ℕ) (x : ℕ) → Has (xs ++ ys) x → Has xs x ⊎ Has ys x
-has_parts [] ys x h = inr h
-has_parts (z ∷ xs) ys x h =
-    elim h as (λ _. Has (z ∷ xs) x ⊎ Has ys x) [
-      | inl here ↦ inl (inl here)
-      | inr later ↦ elim (has_parts xs ys x later) as (λ _. Has (z ∷ xs) x ⊎ Has ys x) [ inl a ↦ inl (inr a) | inr b ↦ inr b ]
-    ]
-
-pub has_first : (xs ys : List ℕ) (x : ℕ) → Has xs x → Has (xs ++ ys) x
-has_first [] ys x h = absurd h
-has_first (z ∷ xs) ys x h = elim h as (λ _. Has (z ∷ (xs ++ ys)) x) [ inl here ↦ inl here | inr later ↦ inr (has_first xs ys x later) ]
-
-pub has_second : (xs ys : List ℕ) (x : ℕ) → Has ys x → Has (xs ++ ys) x
-has_second [] ys x h = h
-has_second (z ∷ xs) ys x h = inr (has_second xs ys x h)
 
 pub get_has : (xs : List ℕ) (k x : ℕ) → slice_get xs k ≡ Some x → Has xs x
 get_has [] k x h = absurd cc

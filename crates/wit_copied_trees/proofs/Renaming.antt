@@ -16,7 +16,8 @@ use Rattle.wit_arena.specs.Unfold.{flat, and_then, ref_tree, value_tree, part_tr
 use Rattle.wit_arena.proofs.Unfolding.{option_map_some}
 use Rattle.wit_copied_trees.specs.Renamed as renamed
 use Rattle.wit_copied_trees.specs.Renamed.{IsRenamedTree, IsRenamedPart, AreRenamedTrees}
-use Rattle.wit_copied_trees.proofs.Members.{has_first, has_second}
+use Rattle.wit_order.proofs.Lists.{has_was}
+use Rattle.wit_reach.proofs.Lists.{has_append}
 
 -- it has a value, to which what holds there the first is related
 abbrev pub Gives : {X : Type 0} → (X → X → Type 0) → X → Option X → Type 0
@@ -112,9 +113,9 @@ module _ (names : List IncludeName) (from into : Owner) (P : ℕ → Type 0) (f 
         gives_then (IsRenamedPart names from into) (AreRenamedTrees names from into)
         (λ (t : TreeOption). option_map (trees_and t) (part_trees done rs)) (λ (t : TreeOption). option_map (trees_and t) (part_trees there (map (moved_part f) rs)))
         (part_tree done r) (part_tree there (moved_part f r)) ts
-        (λ t. part_follows r t (λ j h. p j (has_first (part_ids r) (flat_map part_ids rs) j h)))
+        (λ t. part_follows r t (λ j h. p j (has_was (part_ids r) (flat_map part_ids rs) j h)))
         (λ t u n. gives_map (AreRenamedTrees names from into) (AreRenamedTrees names from into) (trees_and t) (trees_and u) (part_trees done rs) (part_trees there (map (moved_part f) rs)) ts
-        (λ us. parts_follow rs us (λ j h. p j (has_second (part_ids r) (flat_map part_ids rs) j h)))
+        (λ us. parts_follow rs us (λ j h. p j (has_append (part_ids r) (flat_map part_ids rs) j h)))
         (λ ps qs. renamed.parts_and t u ps qs n))
         h
 

@@ -21,7 +21,9 @@ use Rattle.wit_sides.specs.Renames.{IsRenamedItem, AreRenamed}
 use Rattle.wit_includes.specs.Included as brings
 use Rattle.wit_includes.specs.Included.{copies_behind, is_of_world, IsRenamedName, AreRenamedDefs}
 use Rattle.wit_copied_trees.specs.There.{IncludedTypesAreBackward, IncludedSidesAreThere}
-use Rattle.wit_copied_trees.proofs.Members.{get_has, has_parts, has_first, has_second}
+use Rattle.wit_copied_trees.proofs.Members.{get_has}
+use Rattle.wit_order.proofs.Lists.{has_was}
+use Rattle.wit_reach.proofs.Lists.{has_parts, has_append}
 use Rattle.wit_copied_trees.proofs.MovedIds.{has_moved, kind_moved, item_moved}
 
 -- what stands in two lists stands in the first, or behind it
@@ -128,8 +130,8 @@ module _ (names : List IncludeName) (c : Copies) where
   side_from _ _ _ (copies.one_entry_more k l x y es fs s m more) (renames.one_more _ n _ z _ gs q r rest) j h =
       let e : item_ids z ≡ map (goes c) (item_ids x) = renamed_ids names y z r ∙ item_moved (goes c) x m.0 y m.1 m.2 in
       elim (has_parts (item_ids z) (side_ids gs) j h) as (λ _. (i : ℕ) × Has (side_ids ((k, x) ∷ es)) i × (j ≡ goes c i)) [
-        | inl here ↦ (let o = has_moved (goes c) (item_ids x) j (subst (λ (ids : List ℕ). Has ids j) e here) in (o.0, has_first (item_ids x) (side_ids es) o.0 o.1, o.2))
-        | inr later ↦ (let o = side_from es fs gs more rest j later in (o.0, has_second (item_ids x) (side_ids es) o.0 o.1, o.2))
+        | inl here ↦ (let o = has_moved (goes c) (item_ids x) j (subst (λ (ids : List ℕ). Has ids j) e here) in (o.0, has_was (item_ids x) (side_ids es) o.0 o.1, o.2))
+        | inr later ↦ (let o = side_from es fs gs more rest j later in (o.0, has_append (item_ids x) (side_ids es) o.0 o.1, o.2))
       ]
 
 pub included_sides : IncludedSidesAreThere

@@ -1,10 +1,9 @@
 -- Rising lists have each member once.
-use Rattle.std.proofs.Common.{◌≡◌, ℕ, ◌<◌, ◌+◌, List, [], ◌∷◌, zero, suc, false, refl, sym, ◌∙◌, subst, arith, length, take, get_or, nat_eq}
+use Rattle.std.proofs.Common.{◌≡◌, ℕ, ◌<◌, ◌+◌, List, [], ◌∷◌, zero, suc, false, refl, sym, ◌∙◌, arith, length, take, get_or, nat_eq}
 use Rattle.std.proofs.lemmas.Bool.{ne_eqb}
 use Rattle.std.proofs.lemmas.List.{take_more}
 use Rattle.std.specs.List.{list_any}
 use Rattle.indexmap.specs.IndexSet.{insert_key}
-use Rattle.wit_order.specs.Order.{Has}
 use Rattle.wit_order.proofs.Lists.{has_get}
 use Rattle.wit_reach.specs.Paths.{AreRising}
 
@@ -26,7 +25,3 @@ pub put_behind : (xs keys now : List ℕ) (k x y : ℕ) → AreRising xs → k <
 put_behind xs keys now k x y rising l before is same e =
     let at : y ≡ get_or xs k 0 = same ∙ is ∙ read xs k x l in
     e ∙ rw (before, at, is_new xs k rising l) (sym (take_more xs k 0 l))
-
--- what is read from a list is of it
-pub read_has : (xs : List ℕ) (k x : ℕ) → k < length xs → x ≡ get_or xs k x → Has xs x
-read_has xs k x l is = subst (Has xs) (sym (is ∙ read xs k x l)) (has_get xs k l)

@@ -1,5 +1,5 @@
 -- What a world is made of is there, with all that it includes.
-use Rattle.std.proofs.Common.{◌≡◌, ◌<◌, ℕ, List, [], ◌∷◌, ◌++◌, ◌⊎◌, inl, inr, refl, sym, subst, ap, ◌∙◌, arith, length, append_assoc, length-append, ◌+◌}
+use Rattle.std.proofs.Common.{◌≡◌, ◌<◌, ℕ, List, [], ◌∷◌, ◌++◌, inl, inr, refl, sym, subst, ap, ◌∙◌, arith, length, append_assoc, length-append, ◌+◌}
 use Rattle.std.proofs.lemmas.List.{append-nil}
 use Rattle.wit_order.specs.Order.{Has}
 use Rattle.wit_types.specs.declared.interface.TypeDef.{TypeDef}
@@ -10,6 +10,8 @@ use Rattle.wit_types.specs.declared.world_key.WorldKey.{WorldKey}
 use Rattle.wit_types.specs.WorldKey.{key_eq}
 use Rattle.wit_reach.specs.Ids.{item_ids, side_ids}
 use Rattle.wit_reach.specs.Types.{AreTypesBackward, AreTypesThere, AreSidesThere}
+use Rattle.wit_order.proofs.Lists.{has_was}
+use Rattle.wit_reach.proofs.Lists.{has_parts, has_append}
 use Rattle.wit_sides.specs.Sides as sides
 use Rattle.wit_sides.specs.Sides.{AreUnited}
 use Rattle.wit_copied_trees.specs.There.{IncludedTypesAreBackward, IncludedSidesAreThere}
@@ -18,22 +20,6 @@ use Rattle.wit_joined.proofs.Including.{slice_has}
 
 abbrev Entries : Type 0
 Entries = List (WorldKey × WorldItem)
-
-has_parts : (xs ys : List ℕ) (x : ℕ) → Has (xs ++ ys) x → Has xs x ⊎ Has ys x
-has_parts [] ys x h = inr h
-has_parts (z ∷ xs) ys x h =
-    elim h as (λ _. Has (z ∷ xs) x ⊎ Has ys x) [
-      | inl here ↦ inl (inl here)
-      | inr later ↦ elim (has_parts xs ys x later) as (λ _. Has (z ∷ xs) x ⊎ Has ys x) [ inl a ↦ inl (inr a) | inr b ↦ inr b ]
-    ]
-
-has_front : (xs ys : List ℕ) (x : ℕ) → Has xs x → Has (xs ++ ys) x
-has_front [] ys x h = absurd h
-has_front (z ∷ xs) ys x h = elim h as (λ _. Has (z ∷ xs ++ ys) x) [ inl here ↦ inl here | inr later ↦ inr (has_front xs ys x later) ]
-
-has_behind : (xs ys : List ℕ) (x : ℕ) → Has ys x → Has (xs ++ ys) x
-has_behind [] ys x h = h
-has_behind (z ∷ xs) ys x h = inr (has_behind xs ys x h)
 
 -- what two lists of entries are made of
 side_append : (es fs : Entries) → side_ids (es ++ fs) ≡ side_ids es ++ side_ids fs
@@ -53,11 +39,11 @@ united_has _ _ sides.no_entries i h = h
 united_has _ _ (sides.first_of_its_key es side e u out) i h =
     subst (λ (l : List ℕ). Has l i) (sym (side_append es (e ∷ [])))
     (elim (has_parts (side_ids side) (side_ids (e ∷ [])) i (subst (λ (l : List ℕ). Has l i) (side_append side (e ∷ [])) h)) as (λ _. Has (side_ids es ++ side_ids (e ∷ [])) i) [
-      | inl was ↦ has_front (side_ids es) (side_ids (e ∷ [])) i (united_has es side u i was)
-      | inr new ↦ has_behind (side_ids es) (side_ids (e ∷ [])) i new
+      | inl was ↦ has_was (side_ids es) (side_ids (e ∷ [])) i (united_has es side u i was)
+      | inr new ↦ has_append (side_ids es) (side_ids (e ∷ [])) i new
     ])
 united_has _ _ (sides.key_again es side e u again) i h =
-    subst (λ (l : List ℕ). Has l i) (sym (side_append es (e ∷ []))) (has_front (side_ids es) (side_ids (e ∷ [])) i (united_has es side u i h))
+    subst (λ (l : List ℕ). Has l i) (sym (side_append es (e ∷ []))) (has_was (side_ids es) (side_ids (e ∷ [])) i (united_has es side u i h))
 
 pub united_there : (types : List TypeDef) (es side : Entries) → AreUnited key_eq es side → AreTypesThere types (side_ids es) → AreTypesThere types (side_ids side)
 united_there types es side u there = λ i h. there i (united_has es side u i h)

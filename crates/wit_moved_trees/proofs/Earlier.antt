@@ -1,5 +1,5 @@
 -- Types that are moved are made of earlier ones.
-use Rattle.std.proofs.Common.{◌≡◌, ℕ, ◌+◌, ◌<◌, Bool, true, false, List, [], ◌∷◌, ◌++◌, ◌⊎◌, inl, inr, Option, Some, None, refl, sym, subst, ap, ◌∙◌, arith, length, take, length-append, append_assoc, map}
+use Rattle.std.proofs.Common.{◌≡◌, ℕ, ◌+◌, ◌<◌, Bool, true, false, List, [], ◌∷◌, ◌++◌, inl, inr, Option, Some, None, refl, sym, subst, ap, ◌∙◌, arith, length, take, length-append, append_assoc, map}
 use Rattle.std.proofs.lemmas.Bool.{and_parts}
 use Rattle.std.proofs.lemmas.List.{append-nil}
 use Rattle.std.proofs.lemmas.Option.{same_Some}
@@ -20,19 +20,12 @@ use Rattle.wit_moves.specs.Plan.{OwnerPlaces, moved_owner, type_stays, Plan, wit
 use Rattle.wit_order.specs.Order.{Has}
 use Rattle.wit_reach.specs.Ids.{ref_ids, part_ids, handle_ids, kind_ids}
 use Rattle.wit_reach.specs.Types.{AreTypesBackward}
+use Rattle.wit_reach.proofs.Lists.{has_parts}
 use Rattle.wit_arena.proofs.Lists.{get_more}
 use Rattle.wit_moved_trees.specs.There.{AreWithin, MovedTypesAreBackward}
 use Rattle.wit_moved_trees.proofs.Moving.{either, placed_some, place_kept, place_more, plan_grows, plan_append, plan_length, take_front, get_here, pushed_is}
 
 -- ---- ids
-
-has_parts : (xs ys : List ℕ) (x : ℕ) → Has (xs ++ ys) x → Has xs x ⊎ Has ys x
-has_parts [] ys x h = inr h
-has_parts (z ∷ xs) ys x h =
-    elim h as (λ _. Has (z ∷ xs) x ⊎ Has ys x) [
-      | inl here ↦ inl (inl here)
-      | inr later ↦ elim (has_parts xs ys x later) as (λ _. Has (z ∷ xs) x ⊎ Has ys x) [ inl a ↦ inl (inr a) | inr b ↦ inr b ]
-    ]
 
 -- where what has a place is moved below a number, so is all that a definition is made of
 module _ (places : Places) (f : ℕ → ℕ) (n : ℕ) (below : (i : ℕ) → is_placed places i ≡ true → f i < n) where

@@ -1,5 +1,5 @@
 -- What one more adds.
-use Rattle.std.proofs.Common.{◌≡◌, ℕ, List, [], ◌∷◌, ◌++◌, length, refl, arith}
+use Rattle.std.proofs.Common.{ℕ, List, ◌∷◌, ◌++◌}
 use Rattle.wit_types.specs.declared.interface.Interface.{Interface}
 use Rattle.wit_types.specs.declared.world.World.{World}
 use Rattle.wit_features.specs.Features.{FeatureSet}
@@ -15,7 +15,3 @@ module _ (features : FeatureSet) (s : Standing) where
   pub one_world : (w : World) (ws : List World) (adds more : List MovedWorld) → AddsWorld features s w adds → AreMovedWorlds features s ws more → AreMovedWorlds features s (w ∷ ws) (adds ++ more)
   one_world w ws _ more (adds_no_world goes) h = world_goes w ws more goes h
   one_world w ws _ more (adds_world m stays moved) h = world_stays w m ws more stays moved h
-
-pub is_empty : {X : Type 0} (xs : List X) → length xs ≡ 0 → xs ≡ []
-is_empty [] e = refl
-is_empty (x ∷ xs) e = absurd (omega (arith, e))

@@ -1,5 +1,5 @@
-mod Lists
-mod Ends
-mod Local
+pub mod Lists
+pub mod Ends
+pub mod Local
 mod Used
 mod Items

@@ -1,9 +1,9 @@
 -- What a world's types are made of.
-use Rattle.std.proofs.Common.{◌≡◌, ℕ, List, ◌<◌, ◌++◌, inl, inr, Some, sym, subst, length, arith}
+use Rattle.std.proofs.Common.{◌≡◌, ℕ, List, [], ◌∷◌, ◌<◌, ◌++◌, inl, inr, Some, sym, subst, length, arith}
 use Rattle.std.specs.Prelude.{slice_get}
 use Rattle.wit_types.specs.declared.interface.TypeDef.{TypeDef}
 use Rattle.wit_order.specs.Order.{Has}
-use Rattle.wit_reach.specs.Paths.{AreEnds}
+use Rattle.wit_reach.specs.Paths.{IsPath, AreEnds}
 use Rattle.wit_reach.specs.Ids.{kind_ids}
 use Rattle.wit_reach.proofs.Lists.{has_parts}
 use Rattle.wit_reach.specs.Types.{IsLocalAt, AreTypesBackward, AreTypesThere, UsesLocal}
@@ -34,3 +34,8 @@ same_ends uses P Q order there back ends = record {
   only = λ i h. (let o = ends.only i h in (o.0, there o.0 o.1, o.2));
   rising = ends.rising;
 }
+
+-- what a path from a local type reaches is local
+pub stays_local : (w : ℕ) (ds : List TypeDef) (a : ℕ) (via : List ℕ) (b : ℕ) → IsLocalAt w ds a → IsPath (UsesLocal w ds) a via b → IsLocalAt w ds b
+stays_local w ds a [] b l p = subst (IsLocalAt w ds) p l
+stays_local w ds a (c ∷ via) b l p = stays_local w ds c via b p.0.1 p.1

@@ -1,5 +1,5 @@
 -- What a world lists, and of which interfaces types are used there (WIT, Item: `world`).
-use Rattle.std.specs.Prelude.{◌≡◌, ℕ, ◌<◌, ◌↔◌, ◌⊎◌, List, [], ◌∷◌, ◌++◌, map, flat_map}
+use Rattle.std.specs.Prelude.{◌≡◌, ℕ, ◌↔◌, ◌⊎◌, List, [], ◌∷◌, ◌++◌, map, flat_map}
 use Rattle.wit_types.specs.declared.interface.TypeDef.{TypeDef}
 use Rattle.wit_types.specs.declared.world.World.{World}
 use Rattle.wit_types.specs.declared.world.WorldItem.{WorldItem}

@@ -1,5 +1,5 @@
 -- Entries that are put behind others.
-use Rattle.std.proofs.Common.{◌≡◌, false, Bool, List, [], ◌∷◌, ◌++◌, None, Some, Option, sym, refl, ap, ◌∙◌, subst, map, length, ℕ, ◌<◌, arith, Vec}
+use Rattle.std.proofs.Common.{◌≡◌, false, Bool, List, [], ◌∷◌, ◌++◌, None, Some, Option, sym, refl, ap, ◌∙◌, subst, map, length, ℕ, ◌<◌, Vec}
 use Rattle.std.proofs.lemmas.List.{length-map}
 use Rattle.std.proofs.lemmas.Option.{slice_get_within}
 use Rattle.std.specs.declared.alloc.Global.{Global}
@@ -26,7 +26,3 @@ within_spans es spans place e again =
     let names = spec.plain_names es in
     let size : length (spec.name_keys names) ≡ vec_len spans = length-map names (λ (n : Slice). name_key n.text) ∙ sym (length-map names (λ (n : Slice). n.span)) ∙ ap length (sym e) ∙ sym spans.ok.0 in
     subst (λ (n : ℕ). place < n) size (slice_get_within (spec.name_keys names) place again.key again.there)
-
-pub is_empty : {X : Type 0} (xs : List X) → length xs ≡ 0 → xs ≡ []
-is_empty [] e = refl
-is_empty (x ∷ xs) e = absurd (omega (arith, e))

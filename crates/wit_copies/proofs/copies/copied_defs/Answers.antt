@@ -1,12 +1,12 @@
 use Rattle.std.proofs.Common.{◌≡◌, ℕ, List, [], ◌∷◌, ◌++◌, ◌+◌, sym, ap, ◌∙◌, subst, drop}
 use Rattle.std.proofs.lemmas.List.{append_assoc, append-nil, drop_more, drop_all}
 use Rattle.wit_types.specs.declared.interface.TypeDef.{TypeDef}
-use Rattle.wit_copies.proofs.Rising.{read_has}
+use Rattle.wit_reach.proofs.Lists.{item_has}
 use Rattle.wit_copies.specs.Copies.{AreCopied, no_types, one_more}
 use Rattle.wit_copies.proofs.copies.copied_defs.Goals as goal
 
 pub get-requires : goal.get-requires
-get-requires c = c.requires c.id-item.result (read_has c.args.ids.now c.loop-id.id-index c.id-item.result c.loop-id-test.true c.id-item.is)
+get-requires c = c.requires c.id-item.result (item_has c.args.ids.now c.loop-id.id-index c.id-item.result c.loop-id-test.true c.id-item.is)
 
 pub loop-id-preserved : goal.loop-id-preserved
 loop-id-preserved c = λ more h.

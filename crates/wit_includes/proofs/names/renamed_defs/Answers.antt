@@ -1,5 +1,5 @@
-use Rattle.std.proofs.Common.{◌≡◌, List, [], ◌∷◌, ◌++◌, sym, ap, ◌∙◌, subst, arith, length, refl}
-use Rattle.std.proofs.lemmas.List.{append_assoc, append-nil}
+use Rattle.std.proofs.Common.{◌≡◌, List, [], ◌∷◌, ◌++◌, sym, ap, ◌∙◌, subst, arith}
+use Rattle.std.proofs.lemmas.List.{append_assoc, append-nil, nil_from_length}
 use Rattle.wit_types.specs.declared.interface.TypeDef.{TypeDef}
 use Rattle.wit_includes.specs.Included.{AreRenamedDefs, no_types, one_more}
 use Rattle.wit_includes.proofs.names.renamed_defs.Goals as goal
@@ -14,9 +14,5 @@ loop-def-preserved c = λ more h.
     subst (AreRenamedDefs c.args.renames.now c.args.world all) (sym grown)
     (c.loop-def.invariant (e ∷ more) (rw c.in-Some.ensures.steps.0 (one_more d e c.next.new.self.rest.items more c.in_ok-renamed_def.ensures h)))
 
-is_empty : {X : Type 0} (xs : List X) → length xs ≡ 0 → xs ≡ []
-is_empty [] e = refl
-is_empty (x ∷ xs) e = absurd (omega (arith, e))
-
 pub returns : goal.returns
-returns c = subst (AreRenamedDefs c.args.renames.now c.args.world c.args.defs.items) (append-nil c.loop-def.found.items) (c.loop-def.invariant [] (let rest = c.loop-def.def-iterator.rest in let none = c.in-None.ensures.steps.0 in let size = rest.ok.0 in rw (is_empty rest.items (omega (arith, none, size))) no_types))
+returns c = subst (AreRenamedDefs c.args.renames.now c.args.world c.args.defs.items) (append-nil c.loop-def.found.items) (c.loop-def.invariant [] (let rest = c.loop-def.def-iterator.rest in let none = c.in-None.ensures.steps.0 in let size = rest.ok.0 in rw (nil_from_length rest.items (omega (arith, none, size))) no_types))

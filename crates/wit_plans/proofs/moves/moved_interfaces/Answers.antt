@@ -1,8 +1,8 @@
 use Rattle.std.proofs.Common.{◌≡◌, List, [], ◌++◌, sym, ap, ◌∙◌, subst, arith}
-use Rattle.std.proofs.lemmas.List.{append_assoc, append-nil}
+use Rattle.std.proofs.lemmas.List.{append_assoc, append-nil, nil_from_length}
 use Rattle.wit_types.specs.declared.interface.Interface.{Interface}
 use Rattle.wit_plans.specs.Moves.{AreMovedInterfaces, no_interfaces}
-use Rattle.wit_plans.proofs.Adding.{one_interface, is_empty}
+use Rattle.wit_plans.proofs.Adding.{one_interface}
 use Rattle.wit_plans.proofs.moves.moved_interfaces.Goals as goal
 
 pub loop-interface-preserved : goal.loop-interface-preserved
@@ -16,4 +16,4 @@ loop-interface-preserved c = λ more h.
 pub returns : goal.returns
 returns c =
     subst (AreMovedInterfaces c.args.features.now c.args.standing.now c.args.owner c.args.interfaces.items) (append-nil c.loop-interface.found.items)
-    (c.loop-interface.invariant [] (let rest = c.loop-interface.interface-iterator.rest in let none = c.in-None.ensures.steps.0 in let size = rest.ok.0 in rw (is_empty rest.items (omega (arith, none, size))) no_interfaces))
+    (c.loop-interface.invariant [] (let rest = c.loop-interface.interface-iterator.rest in let none = c.in-None.ensures.steps.0 in let size = rest.ok.0 in rw (nil_from_length rest.items (omega (arith, none, size))) no_interfaces))

@@ -1,8 +1,8 @@
 use Rattle.std.proofs.Common.{◌≡◌, List, [], ◌++◌, sym, ap, ◌∙◌, subst, arith}
-use Rattle.std.proofs.lemmas.List.{append_assoc, append-nil}
+use Rattle.std.proofs.lemmas.List.{append_assoc, append-nil, nil_from_length}
 use Rattle.wit_plans.specs.declared.moves.MovedWorld.{MovedWorld}
 use Rattle.wit_plans.specs.Moves.{AreMovedWorlds, no_worlds}
-use Rattle.wit_plans.proofs.Adding.{one_world, is_empty}
+use Rattle.wit_plans.proofs.Adding.{one_world}
 use Rattle.wit_plans.proofs.moves.moved_worlds.Goals as goal
 
 pub loop-world-preserved : goal.loop-world-preserved
@@ -16,4 +16,4 @@ loop-world-preserved c = λ more h.
 pub returns : goal.returns
 returns c =
     subst (AreMovedWorlds c.args.features.now c.args.standing.now c.args.worlds.items) (append-nil c.loop-world.found.items)
-    (c.loop-world.invariant [] (let rest = c.loop-world.world-iterator.rest in let none = c.in-None.ensures.steps.0 in let size = rest.ok.0 in rw (is_empty rest.items (omega (arith, none, size))) no_worlds))
+    (c.loop-world.invariant [] (let rest = c.loop-world.world-iterator.rest in let none = c.in-None.ensures.steps.0 in let size = rest.ok.0 in rw (nil_from_length rest.items (omega (arith, none, size))) no_worlds))
