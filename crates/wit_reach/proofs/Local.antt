@@ -1,11 +1,12 @@
 -- What a world's types are made of.
-use Rattle.std.proofs.Common.{◌≡◌, ℕ, List, [], ◌∷◌, ◌<◌, ◌++◌, inl, inr, Some, sym, subst, length, arith}
+use Rattle.std.proofs.Common.{◌≡◌, ℕ, List, ◌<◌, ◌++◌, inl, inr, Some, sym, subst, length, arith}
 use Rattle.std.specs.Prelude.{slice_get}
 use Rattle.wit_types.specs.declared.interface.TypeDef.{TypeDef}
 use Rattle.wit_order.specs.Order.{Has}
 use Rattle.wit_reach.specs.Paths.{IsPath, AreEnds}
 use Rattle.wit_reach.specs.Ids.{kind_ids}
 use Rattle.wit_reach.proofs.Lists.{has_parts}
+use Rattle.wit_reach.proofs.Ends.{closed_ends}
 use Rattle.wit_reach.specs.Types.{IsLocalAt, AreTypesBackward, AreTypesThere, UsesLocal}
 
 -- what a type is made of is there
@@ -37,5 +38,4 @@ same_ends uses P Q order there back ends = record {
 
 -- what a path from a local type reaches is local
 pub stays_local : (w : ℕ) (ds : List TypeDef) (a : ℕ) (via : List ℕ) (b : ℕ) → IsLocalAt w ds a → IsPath (UsesLocal w ds) a via b → IsLocalAt w ds b
-stays_local w ds a [] b l p = subst (IsLocalAt w ds) p l
-stays_local w ds a (c ∷ via) b l p = stays_local w ds c via b p.0.1 p.1
+stays_local w ds a via b l p = closed_ends (UsesLocal w ds) (IsLocalAt w ds) (λ i j m u. u.1) a via b l p

@@ -1,5 +1,5 @@
 -- What a world lists, and of which interfaces types are used there (WIT, Item: `world`).
-use Rattle.std.specs.Prelude.{◌≡◌, ℕ, ◌↔◌, ◌⊎◌, List, [], ◌∷◌, ◌++◌, map, flat_map}
+use Rattle.std.specs.Prelude.{◌≡◌, ℕ, ◌<◌, ◌↔◌, ◌⊎◌, List, [], ◌∷◌, ◌++◌, Some, length, map, flat_map, slice_get}
 use Rattle.wit_types.specs.declared.interface.TypeDef.{TypeDef}
 use Rattle.wit_types.specs.declared.world.World.{World}
 use Rattle.wit_types.specs.declared.world.WorldItem.{WorldItem}
@@ -7,8 +7,10 @@ use Rattle.wit_types.specs.declared.world.WorldItem.TheVariants as item
 use Rattle.wit_types.specs.declared.world_key.WorldKey.{WorldKey}
 use Rattle.wit_types.specs.declared.world_key.WorldKey.TheVariants as key
 use Rattle.wit_order.specs.Order.{Has}
-use Rattle.wit_reach.specs.Reach.{Lists}
-use Rattle.wit_reach.specs.Deps.{AreUsed}
+use Rattle.wit_order.specs.Places.{Rows}
+use Rattle.wit_reach.specs.Paths.{AreBackward}
+use Rattle.wit_reach.specs.Reach.{Lists, Uses, AreThere}
+use Rattle.wit_reach.specs.Deps.{AreUsed, interface_of}
 
 -- types that are imported or exported
 abbrev pub item_type : WorldItem → List ℕ
@@ -59,3 +61,20 @@ pub record AreListsOf (ds : List TypeDef) (uses : ℕ → ℕ → Type 0) (world
   pub imports : lists.imports ≡ listed_in world.imports.entries
   pub used : (j : ℕ) → Has lists.used j ↔ IsUsedIn ds uses world j
   pub exports : lists.exports ≡ interfaces_of world.exports.entries
+
+-- ---- what a world lists is there
+
+-- the interfaces to which types belong
+abbrev pub AreOwnersThere : ℕ → List TypeDef → Type 0
+AreOwnersThere n ds = (i j : ℕ) (d : TypeDef) → slice_get ds i ≡ Some d → interface_of d.owner ≡ Some j → j < n
+
+-- and those of a world
+pub record AreInterfacesThere (n : ℕ) (world : World) : Type 0 where
+  pub imports : (i : ℕ) → Has (interfaces_of world.imports.entries) i → i < n
+  pub exports : (i : ℕ) → Has (interfaces_of world.exports.entries) i → i < n
+
+-- where they are there, so is all that the world lists
+abbrev pub ListsAreThere : Type 0
+ListsAreThere = (ds : List TypeDef) (g : Rows) (world : World) (lists : Lists) → AreListsOf ds (Uses g) world lists
+    → AreOwnersThere (length g) ds → AreInterfacesThere (length g) world → AreBackward (Uses g)
+    → AreThere g lists

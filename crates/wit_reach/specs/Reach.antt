@@ -2,7 +2,7 @@
 use Rattle.std.specs.Prelude.{◌≡◌, ℕ, ◌<◌, List, [], length, ◌⊎◌}
 use Rattle.wit_order.specs.Order.{Has, AreDependenciesFirst}
 use Rattle.wit_order.specs.Places.{Rows, Needs}
-use Rattle.wit_reach.specs.Paths.{AreRising, Reaches}
+use Rattle.wit_reach.specs.Paths.{AreRising, AreBackward, Reaches}
 use Rattle.wit_reach.specs.declared.reach.WorldLists.{WorldLists}
 use Rattle.wit_reach.specs.declared.reach.ElaborateFault.{ElaborateFault}
 use Rattle.wit_reach.specs.declared.reach.ElaborateFault.TheVariants.{ExportConflict, OutOfMemory}
@@ -60,3 +60,7 @@ abbrev pub ElaboratingAgainIsTheSame : Type 0
 ElaboratingAgainIsTheSame = (g : Rows) (w : Lists) (order again : List ℕ) → IsElaboration g w order
     → (IsElaboration g (record w { imports = order }) again → again ≡ order) × IsElaboration g (record w { imports = order }) order
     × ((i : ℕ) → IsConflict g (record w { imports = order }) i → ⊥)
+
+-- where all that is listed is there, so is all that is imported in the end
+abbrev pub ElaboratedAreThere : Type 0
+ElaboratedAreThere = (g : Rows) (w : Lists) (order : List ℕ) → AreThere g w → AreBackward (Uses g) → IsElaboration g w order → (i : ℕ) → Has order i → i < length g

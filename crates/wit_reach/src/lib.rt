@@ -9,6 +9,8 @@ mod types;
 mod world;
 
 pub use deps::{interface_deps, type_interface_dep};
-pub use reach::{ElaborateFault, WorldLists, closure, elaborate, law_elaborated_stays};
+pub use reach::{
+    ElaborateFault, WorldLists, closure, elaborate, law_elaborated_are_there, law_elaborated_stays,
+};
 pub use types::world_types;
-pub use world::world_lists;
+pub use world::{law_lists_are_there, world_lists};

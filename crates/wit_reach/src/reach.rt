@@ -3,7 +3,7 @@
 ghost use Rattle.std.specs.Prelude.{◌≡◌, ℕ, ◌<◌, ◌⊎◌, ◌↔◌, List, [], length, reverse, IfOk, IfErr, OnOk, IfSome, IfNone, IsTrue};
 ghost use Rattle.wit_order.specs.Order.{Has};
 ghost use Rattle.wit_reach.specs.Paths.{AreBackward, AreEnds};
-ghost use Rattle.wit_reach.specs.Reach.{Uses, IsNeededOutside, IsElaboration, IsElaborateCause, AreThere, lists_of, ElaboratingAgainIsTheSame};
+ghost use Rattle.wit_reach.specs.Reach.{Uses, IsNeededOutside, IsElaboration, IsElaborateCause, AreThere, lists_of, ElaboratingAgainIsTheSame, ElaboratedAreThere};
 
 use std::alloc::{AllocError, AllocFailed, Global};
 use std::collections::BTreeSet;
@@ -193,4 +193,9 @@ pub fn elaborate(
 /// Elaborating an elaborated world changes nothing.
 pub fn law_elaborated_stays()
     ensures { ElaboratingAgainIsTheSame }
+{}
+
+/// All that a world imports in the end is there, where all that it lists is.
+pub fn law_elaborated_are_there()
+    ensures { ElaboratedAreThere }
 {}

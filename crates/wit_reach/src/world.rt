@@ -209,3 +209,8 @@ pub fn world_lists(
         exports,
     })
 }
+
+/// All that a world lists is there, where its interfaces and those to which types belong are.
+pub fn law_lists_are_there()
+    ensures { spec.ListsAreThere }
+{}
