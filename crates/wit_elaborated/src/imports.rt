@@ -1,0 +1,69 @@
+//! A world's imports with all that they and its exports depend on.
+
+ghost use Rattle.std.specs.Prelude.{◌≡◌, ℕ, ◌<◌, [], length, map, IfOk};
+ghost use Rattle.wit_order.specs.Order.{Has};
+ghost use Rattle.wit_reach.specs.Paths.{AreRising};
+ghost use Rattle.wit_elaborated.specs.Elaborated as spec;
+
+use indexmap::IndexMap;
+use std::alloc::{AllocError, Global};
+use std::hash::Hash;
+use wit_types::{Arena, Interface, InterfaceId, Stability, WorldItem, WorldKey};
+
+/// Interfaces as a world has them where it doesn't list them.
+fn implied(
+    alloc: Global,
+    interfaces: &Arena<Interface>,
+    order: &[InterfaceId],
+) -> Result<Vec<(WorldKey, WorldItem)>, AllocError>
+    requires { (i : ℕ) → Has order.now i → i < length interfaces.now }
+    ensures { IfOk result (λ entries. entries.items ≡ map (spec.implied_entry interfaces.now) order.now) }
+{
+    let mut entries = Vec::new(alloc);
+    for id in order {
+        let item = WorldItem::Interface {
+            id: *id,
+            stability: Stability::Unknown,
+            span: interfaces.get(*id).span,
+        };
+        entries.push((WorldKey::Interface(*id), item))?;
+    }
+    Ok(entries)
+}
+
+/// Entries, and then others: one of which the key is there takes the place of that.
+fn put_behind<K: Eq + Hash + Drop, V: Drop>(
+    alloc: Global,
+    first: Vec<(K, V)>,
+    others: IndexMap<K, V>,
+) -> Result<IndexMap<K, V>, AllocError>
+    ensures { IfOk result (λ found. found.entries ≡ spec.with_entries K.eq (spec.with_entries K.eq [] first.items) others.entries) }
+{
+    let mut found = IndexMap::new(alloc);
+    for (key, value) in first {
+        found.insert(key, value)?;
+    }
+    found.reserve(others.len())?;
+    for (key, value) in others {
+        found.insert(key, value)?;
+    }
+    Ok(found)
+}
+
+/// What a world imports in the end, of what it lists as imports: the interfaces of that order, each as the world lists it, and then
+/// what it imports under plain names, in its order. An interface that the world doesn't list stands where it is declared, and nothing
+/// is said of how stable it is here (Component Model, WIT, Worlds). Fails for want of memory alone.
+pub fn elaborated_imports(
+    alloc: Global,
+    interfaces: &Arena<Interface>,
+    order: &[InterfaceId],
+    imports: IndexMap<WorldKey, WorldItem>,
+) -> Result<IndexMap<WorldKey, WorldItem>, AllocError>
+    requires there { (i : ℕ) → Has order.now i → i < length interfaces.now }
+    requires rising { AreRising order.now }
+    requires listed { (i : ℕ) → Has (spec.interface_keys imports.entries) i → Has order.now i }
+    ensures { IfOk result (λ found. found.entries ≡ spec.elaborated interfaces.now order.now imports.entries) }
+{
+    let first = implied(alloc, interfaces, order)?;
+    put_behind(alloc, first, imports)
+}

@@ -1,0 +1,6 @@
+//! What a world imports in the end (Component Model, WIT, Worlds).
+#![tactic(auto)]
+
+mod imports;
+
+pub use imports::elaborated_imports;
