@@ -1,1 +1,2 @@
 mod Elaborating
+mod Listed

@@ -2,5 +2,7 @@
 #![tactic(auto)]
 
 mod imports;
+mod worlds;
 
 pub use imports::elaborated_imports;
+pub use worlds::elaborated_world;

@@ -2,5 +2,5 @@ pub mod Lists
 pub mod Ends
 pub mod Local
 mod Used
-mod There
+pub mod There
 mod Items
