@@ -6,14 +6,14 @@ use Rattle.std.specs.List.{IsDistinct, AllByRecursion}
 use Rattle.std.specs.Map.{lookup}
 use Rattle.std.specs.Prelude.{nat_eq, if◌then◌else◌, unwrap_or}
 use Rattle.std.specs.declared.alloc.Global.{Global}
-use Rattle.indexmap.specs.IndexMap.{insert_entry}
+use Rattle.indexmap.specs.IndexMap.{insert_entry, insert_all}
 use Rattle.wit_order.specs.Order.{Has}
 use Rattle.wit_reach.specs.Paths.{AreRising}
 use Rattle.wit_types.specs.declared.world.WorldItem.{WorldItem}
 use Rattle.wit_types.specs.declared.world_key.WorldKey.{WorldKey}
 use Rattle.wit_types.specs.declared.world_key.WorldKey.TheVariants as key
 use Rattle.wit_types.specs.WorldKey.{key_eq, key_eq-equivalence}
-use Rattle.wit_elaborated.specs.Elaborated.{Entry, plain_entries, interface_keys, with_entries}
+use Rattle.wit_elaborated.specs.Elaborated.{Entry, plain_entries, interface_keys}
 
 abbrev part : (ℕ → WorldItem) → List ℕ → List Entry
 part f xs = map (λ (i : ℕ). (key.Interface i, f i)) xs
@@ -65,10 +65,10 @@ insert_last (e ∷ es) k v a =
 
 -- ---- the interfaces of an order, each once
 
-starts : (f : ℕ → WorldItem) (done xs : List ℕ) → AreRising (done ++ xs) → with_entries key_eq (part f done) (part f xs) ≡ part f (done ++ xs)
+starts : (f : ℕ → WorldItem) (done xs : List ℕ) → AreRising (done ++ xs) → insert_all key_eq (part f done) (part f xs) ≡ part f (done ++ xs)
 starts f done [] r = ap (part f) (sym (append-nil done))
 starts f done (x ∷ xs) r =
-    ap (λ (found : List Entry). with_entries key_eq found (part f xs)) (insert_last (part f done) (key.Interface x) (f x) (others done r) ∙ part_more done)
+    ap (λ (found : List Entry). insert_all key_eq found (part f xs)) (insert_last (part f done) (key.Interface x) (f x) (others done r) ∙ part_more done)
     ∙ starts f (done ++ x ∷ []) xs (subst AreRising (sym (append_assoc done (x ∷ []) xs)) r)
     ∙ ap (part f) (append_assoc done (x ∷ []) xs)
   where
@@ -84,7 +84,7 @@ starts f done (x ∷ xs) r =
     part_more [] = refl
     part_more (d ∷ ds) = ap (λ (r : List Entry). (key.Interface d, f d) ∷ r) (part_more ds)
 
-pub order_alone : (f : ℕ → WorldItem) (xs : List ℕ) → AreRising xs → with_entries key_eq [] (part f xs) ≡ part f xs
+pub order_alone : (f : ℕ → WorldItem) (xs : List ℕ) → AreRising xs → insert_all key_eq [] (part f xs) ≡ part f xs
 order_alone f xs r = starts f [] xs r
 
 -- ---- and then all that a world lists
@@ -120,13 +120,13 @@ apart_more ps n x (e ∷ es) a d = (all_last ps a.0, apart_more ps n x es a.1 d.
     all_last (q ∷ qs) b = (b.0, all_last qs b.1)
 
 puts : (f : ℕ → WorldItem) (xs : List ℕ) (ps es : List Entry) → AreRising xs → ((i : ℕ) → Has (interface_keys es) i → Has xs i) → Apart ps es → AreDistinct es
-    → with_entries key_eq (part f xs ++ ps) es ≡ part (over f es) xs ++ (ps ++ plain_entries es)
+    → insert_all key_eq (part f xs ++ ps) es ≡ part (over f es) xs ++ (ps ++ plain_entries es)
 puts f xs ps [] r h a d = ap (λ (qs : List Entry). part f xs ++ qs) (sym (append-nil ps))
 puts f xs ps ((key.Interface i, x) ∷ es) r h a d =
-    ap (λ (found : List Entry). with_entries key_eq found es) (insert_part f xs ps i x (h i (inl refl)) r)
+    ap (λ (found : List Entry). insert_all key_eq found es) (insert_part f xs ps i x (h i (inl refl)) r)
     ∙ puts (put f i x) xs ps es r (λ j k. h j (inr k)) a.1 d.1
 puts f xs ps ((key.Name n, x) ∷ es) r h a d =
-    ap (λ (found : List Entry). with_entries key_eq found es) (insert_behind f xs ps n x ∙ ap (λ (qs : List Entry). part f xs ++ qs) (insert_last ps (key.Name n) x a.0))
+    ap (λ (found : List Entry). insert_all key_eq found es) (insert_behind f xs ps n x ∙ ap (λ (qs : List Entry). part f xs ++ qs) (insert_last ps (key.Name n) x a.0))
     ∙ puts f xs (ps ++ (key.Name n, x) ∷ []) es r h (apart_more ps n x es a.1 d.0) d.1
     ∙ ap (λ (qs : List Entry). part (over f es) xs ++ qs) (append_assoc ps ((key.Name n, x) ∷ []) (plain_entries es))
 
@@ -165,9 +165,9 @@ no_apart [] = tt
 no_apart (e ∷ es) = (tt, no_apart es)
 
 pub elaborates : (f : ℕ → WorldItem) (xs : List ℕ) (es : List Entry) → AreRising xs → ((i : ℕ) → Has (interface_keys es) i → Has xs i) → IsDistinct key_eq (map (λ (e : Entry). e.0) es)
-    → with_entries key_eq (with_entries key_eq [] (part f xs)) es ≡ map (λ (i : ℕ). (key.Interface i, unwrap_or (lookup (key_eq (key.Interface i)) es) (f i))) xs ++ plain_entries es
+    → insert_all key_eq (insert_all key_eq [] (part f xs)) es ≡ map (λ (i : ℕ). (key.Interface i, unwrap_or (lookup (key_eq (key.Interface i)) es) (f i))) xs ++ plain_entries es
 elaborates f xs es r h d =
     let apart : AreDistinct es = distinct es d in
-    ap (λ (found : List Entry). with_entries key_eq found es) (order_alone f xs r ∙ sym (append-nil (part f xs)))
+    ap (λ (found : List Entry). insert_all key_eq found es) (order_alone f xs r ∙ sym (append-nil (part f xs)))
     ∙ puts f xs [] es r h (no_apart es) apart
     ∙ ap (λ (found : List Entry). found ++ plain_entries es) (part_alike (over f es) (λ i. unwrap_or (lookup (key_eq (key.Interface i)) es) (f i)) xs (λ i. over_is f es i apart))

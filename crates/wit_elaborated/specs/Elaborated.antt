@@ -1,7 +1,6 @@
 -- What a world imports in the end (Component Model, WIT, Worlds).
-use Rattle.std.specs.Prelude.{ℕ, Bool, List, [], ◌∷◌, ◌++◌, map, flat_map, slice_get, option_map, unwrap_or}
+use Rattle.std.specs.Prelude.{ℕ, List, [], ◌∷◌, ◌++◌, map, flat_map, slice_get, option_map, unwrap_or}
 use Rattle.std.specs.Map.{lookup}
-use Rattle.indexmap.specs.IndexMap.{insert_entry}
 use Rattle.wit_words.specs.declared.source_map.Span.{Span}
 use Rattle.wit_types.specs.declared.interface.Interface.{Interface}
 use Rattle.wit_types.specs.declared.stability.Stability.TheVariants.{Unknown}
@@ -47,11 +46,3 @@ interface_key (key.Interface i) = i ∷ []
 
 abbrev pub interface_keys : List Entry → List ℕ
 interface_keys es = flat_map (λ (e : Entry). interface_key e.0) es
-
--- ---- the same, worked out
-
--- entries with others put among them, one of which the key is there in the place of that
-module _ {K V : Type 0} (eq : K → K → Bool) where
-  abbrev pub with_entries : List (K × V) → List (K × V) → List (K × V)
-  with_entries found [] = found
-  with_entries found (e ∷ es) = with_entries (insert_entry eq found e.0 e.1) es

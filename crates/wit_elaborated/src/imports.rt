@@ -1,6 +1,7 @@
 //! A world's imports with all that they and its exports depend on.
 
 ghost use Rattle.std.specs.Prelude.{◌≡◌, ℕ, ◌<◌, [], length, map, IfOk};
+ghost use Rattle.indexmap.specs.IndexMap.{insert_all};
 ghost use Rattle.wit_order.specs.Order.{Has};
 ghost use Rattle.wit_reach.specs.Paths.{AreRising};
 ghost use Rattle.wit_elaborated.specs.Elaborated as spec;
@@ -37,7 +38,7 @@ fn put_behind<K: Eq + Hash + Drop, V: Drop>(
     first: Vec<(K, V)>,
     others: IndexMap<K, V>,
 ) -> Result<IndexMap<K, V>, AllocError>
-    ensures { IfOk result (λ found. found.entries ≡ spec.with_entries K.eq (spec.with_entries K.eq [] first.items) others.entries) }
+    ensures { IfOk result (λ found. found.entries ≡ insert_all K.eq (insert_all K.eq [] first.items) others.entries) }
 {
     let mut found = IndexMap::new(alloc);
     for (key, value) in first {

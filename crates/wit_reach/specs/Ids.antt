@@ -69,10 +69,11 @@ resource_ids (of.Static r) = r ∷ []
 resource_ids (of.AsyncStatic r) = r ∷ []
 resource_ids (of.Constructor r) = r ∷ []
 
--- of a function: its parameters and its result, and before them its resource
+-- of a function: its parameters and its result
 abbrev pub signature_ids : Function → List ℕ
 signature_ids f = flat_map (λ (p : Param). ref_ids p.ty) f.params.items ++ part_ids f.result
 
+-- and before them its resource
 abbrev pub function_ids : Function → List ℕ
 function_ids f = resource_ids f.kind ++ signature_ids f
 
