@@ -29,10 +29,10 @@ use Rattle.wit_moved_trees.proofs.Moving.{either, placed_some, place_kept, place
 
 -- where what has a place is moved below a number, so is all that a definition is made of
 module _ (places : Places) (f : ℕ → ℕ) (n : ℕ) (below : (i : ℕ) → is_placed places i ≡ true → f i < n) where
-  id_below : (i j : ℕ) → is_placed places i ≡ true → Has (f i ∷ []) j → j < n
+  pub id_below : (i j : ℕ) → is_placed places i ≡ true → Has (f i ∷ []) j → j < n
   id_below i j p h = elim h as (λ _. j < n) [ inl same ↦ subst (λ (k : ℕ). k < n) (sym same) (below i p) | inr later ↦ absurd later ]
 
-  ref_below : (r : Ref) (j : ℕ) → is_ref_placed places r ≡ true → Has (ref_ids (moved_ref f r)) j → j < n
+  pub ref_below : (r : Ref) (j : ℕ) → is_ref_placed places r ≡ true → Has (ref_ids (moved_ref f r)) j → j < n
   ref_below (ref.Id i) j p h = id_below i j p h
   ref_below ref.Bool j p h = absurd h
   ref_below ref.U8 j p h = absurd h
@@ -49,7 +49,7 @@ module _ (places : Places) (f : ℕ → ℕ) (n : ℕ) (below : (i : ℕ) → is
   ref_below ref.String j p h = absurd h
   ref_below ref.ErrorContext j p h = absurd h
 
-  part_below : (r : Option Ref) (j : ℕ) → is_part_placed places r ≡ true → Has (part_ids (moved_part f r)) j → j < n
+  pub part_below : (r : Option Ref) (j : ℕ) → is_part_placed places r ≡ true → Has (part_ids (moved_part f r)) j → j < n
   part_below None j p h = absurd h
   part_below (Some r) j p h = ref_below r j p h
 
@@ -58,7 +58,7 @@ module _ (places : Places) (f : ℕ → ℕ) (n : ℕ) (below : (i : ℕ) → is
   handle_below (handle.Borrow i) j p h = id_below i j p h
 
   -- so it is for rows, where it is for each of them
-  row_below : {X : Type 0} (ids : X → List ℕ) (is_there : X → Bool) (move : X → X) (each : (x : X) (j : ℕ) → is_there x ≡ true → Has (ids (move x)) j → j < n) (xs : List X) (j : ℕ)
+  pub row_below : {X : Type 0} (ids : X → List ℕ) (is_there : X → Bool) (move : X → X) (each : (x : X) (j : ℕ) → is_there x ≡ true → Has (ids (move x)) j → j < n) (xs : List X) (j : ℕ)
       → list_all is_there xs ≡ true → Has (flat_map ids (map move xs)) j → j < n
   row_below ids is_there move each [] j p h = absurd h
   row_below ids is_there move each (x ∷ xs) j p h =
@@ -93,6 +93,17 @@ backward_more types e before here i j (d, at, has) =
       | inl was ↦ before i j (d, was, has)
       | inr last ↦ subst (λ (k : ℕ). j < k) (sym last.0) (here j (subst (λ (x : TypeDef). Has (kind_ids x.kind) j) last.1 has))
     ]
+
+-- a type has a place exactly where it stays
+pub placed_where_stays : (features : FeatureSet) (owners : OwnerPlaces) (others places : Places) (base : ℕ) (xs ys : List TypeDef) (d : TypeDef)
+    → places ≡ (with_types features owners (record { places = others; next = base }) (xs ++ d ∷ ys)).places
+    → is_placed places (length others + length xs) ≡ type_stays features owners (with_types features owners (record { places = others; next = base }) xs).places d
+placed_where_stays features owners others places base xs ys d are =
+    let plan : Plan = with_types features owners (record { places = others; next = base }) xs in
+    let more = plan_grows features owners (with_type features owners plan d) ys in
+    ap (λ (ps : Places). is_placed ps (length others + length xs)) (are ∙ ap (λ (p : Plan). p.places) (plan_append features owners (record { places = others; next = base }) xs (d ∷ ys)) ∙ more.1)
+    ∙ ap (λ (n : ℕ). is_placed ((with_place (type_stays features owners plan.places d) plan).places ++ more.0) n) (sym (plan_length features owners (record { places = others; next = base }) xs))
+    ∙ pushed_is (type_stays features owners plan.places d) plan more.0
 
 -- ---- one more each time
 
@@ -129,9 +140,6 @@ module _ (features : FeatureSet) (owners : OwnerPlaces) (others places : Places)
       whole_plan = placed.are ∙ ap (λ (ds : List TypeDef). (plan ds).places) (sym split) ∙ ap (λ (p : Plan). p.places) (plan_append features owners begun xs (d ∷ ys))
 
       -- where all of them stand is where these do, and more
-      all_places : (more : Places) × (places ≡ (with_place stays (plan xs)).places ++ more)
-      all_places = (let r = plan_grows features owners (with_type features owners (plan xs) d) ys in (r.0, whole_plan ∙ r.1))
-
       first_places : (more : Places) × (places ≡ (plan xs).places ++ more)
       first_places = (let r = plan_grows features owners (plan xs) (d ∷ ys) in (r.0, whole_plan ∙ r.1))
 
@@ -142,10 +150,7 @@ module _ (features : FeatureSet) (owners : OwnerPlaces) (others places : Places)
       front = subst (λ (ds : List TypeDef). take (length xs) ds ≡ xs) split (take_front xs (d ∷ ys))
 
       stays_is : is_placed places (length others + length xs) ≡ stays
-      stays_is =
-          ap (λ (ps : Places). is_placed ps (length others + length xs)) all_places.1
-          ∙ ap (λ (n : ℕ). is_placed ((with_place stays (plan xs)).places ++ all_places.0) n) (sym (plan_length features owners begun xs))
-          ∙ pushed_is stays (plan xs) all_places.0
+      stays_is = placed_where_stays features owners others places (length graph) xs ys d (placed.are ∙ ap (λ (ds : List TypeDef). (plan ds).places) (sym split))
 
       -- one that is left out
       leaves_out : is_placed places (length others + length xs) ≡ false → SoFar (xs ++ d ∷ []) fs

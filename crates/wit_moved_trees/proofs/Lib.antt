@@ -1,3 +1,3 @@
-mod Earlier
+pub mod Earlier
 mod Following
-mod Moving
+pub mod Moving

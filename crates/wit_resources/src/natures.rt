@@ -1,13 +1,14 @@
 //! What is known of types.
 
-ghost use Rattle.std.specs.Prelude.{◌≡◌, [], Some, take, OnOk};
+ghost use Rattle.std.specs.Prelude.{◌≡◌, ◌++◌, List, [], Some, take, OnOk};
+ghost use Rattle.wit_resources.specs.declared.natures.Nature.{Nature};
 ghost use Rattle.wit_types.specs.declared.kind.«Type».TheVariants.{Id};
 ghost use Rattle.wit_resources.specs.Natures as spec;
 
 use std::alloc::{AllocError, Global};
 use std::marker::Model;
 use wit_arena::Types;
-use wit_types::{Case, Field, Handle, Type, TypeDef, TypeDefKind, TypeId};
+use wit_types::{Arena, Case, Field, Handle, Type, TypeDef, TypeDefKind, TypeId};
 
 /// What is known of a type. A type of another package may be a resource, and is taken for one.
 #[derive(Clone, Copy, Debug, PartialEq, Eq)]
@@ -143,9 +144,10 @@ impl Natures {
         part_holds(self.known.as_slice(), part)
     }
 
-    /// Adds what is known of types that come behind those.
+    /// Adds what is known of types that come behind those. Where memory is wanting, some of them may be known.
     pub fn extend(&mut self, defs: &[TypeDef]) -> Result<(), AllocError>
-        ensures { OnOk result (self.new ≡ spec.natures_from self.old defs.now) }
+        ensures ok { OnOk result (self.new ≡ spec.natures_from self.old defs.now) }
+        ensures grown { (more : List Nature) × (self.new ≡ self.old ++ more) }
     {
         for def in defs {
             let nature = of_kind(self.known.as_slice(), &def.kind);
@@ -159,6 +161,21 @@ impl Natures {
         ensures { self.new ≡ take len self.old }
     {
         self.known.truncate(len);
+    }
+
+    /// Adds what is known of the types under those ids that came since. Where memory is wanting, some of them
+    /// may be known.
+    pub fn follow(&mut self, types: &Arena<TypeDef>) -> Result<(), AllocError>
+        requires { spec.AreOfFirst types.now self.old }
+        ensures ok { OnOk result (self.new ≡ spec.natures types.now) }
+        ensures grown { (more : List Nature) × (self.new ≡ self.old ++ more) }
+    {
+        for index in self.known.as_slice().len()..types.len() {
+            let def = types.get(TypeId::from_index(index));
+            let nature = of_kind(self.known.as_slice(), &def.kind);
+            self.known.push(nature)?;
+        }
+        Ok(())
     }
 
     /// Adds what is known of the types of the arena that came since.

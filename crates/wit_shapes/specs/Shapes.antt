@@ -42,4 +42,4 @@ ItemBreaks ns (item.Function f) at = FunctionBreaks ns f at
 ItemBreaks ns (item.TypeItem id span) at = ⊥
 
 abbrev pub SideBreaks : List Nature → List (WorldKey × WorldItem) → Breaks
-SideBreaks ns es = AnyOf (ItemBreaks ns) (map (λ (e : WorldKey × WorldItem). e.1) es)
+SideBreaks ns es = AnyOf (λ (e : WorldKey × WorldItem). ItemBreaks ns e.1) es

@@ -81,12 +81,12 @@ fn check_item(natures: &Natures, item: &WorldItem) -> Result<(), Span>
 }
 
 /// Refuses what a world imports or exports where it is a function whose result holds what is lent, at that function.
-pub fn check_side(natures: &Natures, side: &IndexMap<WorldKey, WorldItem>) -> Result<(), Span>
-    ensures ok { OnOk result (IsKept (spec.SideBreaks natures.now side.now.entries)) }
-    ensures cause { IfErr result (spec.SideBreaks natures.now side.now.entries) }
+pub fn check_side(natures: &Natures, side: &[(WorldKey, WorldItem)]) -> Result<(), Span>
+    ensures ok { OnOk result (IsKept (spec.SideBreaks natures.now side.now)) }
+    ensures cause { IfErr result (spec.SideBreaks natures.now side.now) }
 {
-    for item in side.values() {
-        check_item(natures, item)?;
+    for entry in side {
+        check_item(natures, &entry.1)?;
     }
     Ok(())
 }

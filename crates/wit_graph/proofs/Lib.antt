@@ -1,0 +1,7 @@
+mod Taking
+mod Rows
+mod Shaped
+mod Keeping
+mod Readying
+mod Refusing
+mod Finishing

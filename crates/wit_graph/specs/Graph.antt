@@ -1,0 +1,64 @@
+-- Graphs of packages (WIT, Packages).
+use Rattle.std.specs.Prelude.{◌≡◌, ℕ, ◌<◌, List, [], length}
+use Rattle.wit_order.specs.Order.{Has}
+use Rattle.wit_types.specs.declared.interface.Interface.{Interface}
+use Rattle.wit_types.specs.declared.interface.TypeDef.{TypeDef}
+use Rattle.wit_types.specs.declared.«package».PackageName.{PackageName}
+use Rattle.wit_plans.specs.declared.plans.Sizes.{Sizes}
+use Rattle.wit_placed.specs.Found.{ArePackagesThere}
+use Rattle.wit_placed.specs.Order.{AreInOrder}
+use Rattle.wit_placed.specs.There.{IsInterfaceThere}
+use Rattle.wit_resources.specs.Natures.{natures}
+use Rattle.wit_resources.specs.declared.natures.Nature.{Nature}
+use Rattle.wit_graph_worlds.specs.Sound.{AreSound}
+use Rattle.wit_graph_worlds.specs.Worlds.{Worlds}
+use Rattle.wit_graph.specs.Interfaces.{Interfaces, AreRows}
+use Rattle.wit_graph.specs.declared.tables.Tables.{Tables}
+
+abbrev pub nothing : Tables
+nothing = record {
+  types = [];
+  natures = [];
+  interfaces = record { all = []; uses = [] };
+  worlds = record { listed = []; elaborated = [] };
+  packages = [];
+}
+
+-- what packages are made of
+pub record Items : Type 0 where
+  pub types : List TypeDef
+  pub natures : List Nature
+  pub interfaces : Interfaces
+  pub worlds : Worlds
+
+abbrev pub items : List TypeDef → List Nature → Interfaces → Worlds → Items
+items types ns interfaces worlds = record { types = types; natures = ns; interfaces = interfaces; worlds = worlds }
+
+abbrev pub items_of : Tables → Items
+items_of t = items t.types t.natures t.interfaces t.worlds
+
+abbrev pub sizes : Items → Sizes
+sizes t = record { types = length t.types; interfaces = length t.interfaces.all; worlds = length t.worlds.listed }
+
+-- what is known of types is known of all of them; interfaces use types of those before them alone, and of which is known; all that
+-- interfaces and worlds name is there
+pub record AreItemsWhole (t : Items) : Type 0 where
+  pub natures_are : t.natures ≡ natures t.types
+  pub rows : AreRows t.types t.interfaces.all t.interfaces.uses
+  pub in_order : AreInOrder 0 t.types t.interfaces.all
+  pub sound : AreSound (length t.interfaces.all) t.types t.worlds
+  pub interfaces_are : (d : Interface) → Has t.interfaces.all d → IsInterfaceThere t.types d
+
+-- and all that packages name
+pub record AreWhole (t : Tables) : Type 0 where
+  pub whole : AreItemsWhole (items_of t)
+  pub packages_are : ArePackagesThere (length t.interfaces.all) (length t.worlds.listed) t.packages
+
+-- a graph: what its packages hold, and each package by its name
+pub record Graph : Type 0 where
+  pub tables : Tables
+  pub names : List (PackageName × ℕ)
+
+pub record IsGraph (g : Graph) : Type 0 where
+  pub whole : AreWhole g.tables
+  pub names_are : (e : PackageName × ℕ) → Has g.names e → e.1 < length g.tables.packages

@@ -1,0 +1,6 @@
+pub mod Faults
+pub mod Own
+pub mod Interfaces
+pub mod Parts
+pub mod Graph
+pub mod Push

@@ -1,0 +1,220 @@
+//! Graphs of packages.
+
+ghost use Rattle.std.specs.Prelude.{◌≡◌, [], true, false, length, IfOk, IfErr, OnErr, OnOk, is_some};
+ghost use Rattle.std.specs.Map.{lookup};
+ghost use Rattle.wit_types.specs.declared.«package».PackageName.{PackageName};
+ghost use Rattle.wit_features.specs.Gates.{of_package, AreOnTime};
+ghost use Rattle.wit_moves.specs.Plan.{OwnerPlaces as Owners};
+ghost use Rattle.wit_moves.specs.View.{owners};
+ghost use Rattle.wit_plans.specs.Plans.{IsPlanned, IsPlanCause};
+ghost use Rattle.wit_placed.specs.There.{AreBelow};
+ghost use Rattle.wit_graph.specs.Own.{IsWellFormed, parts};
+ghost use Rattle.wit_graph.specs.Graph.{nothing, items_of, sizes as sizes_of};
+ghost use Rattle.wit_graph.specs.Push as spec;
+
+use crate::fault::PushFault;
+use crate::own::{Own, OwnParts, own_of};
+use crate::push::{Outcome, pushed};
+use crate::tables::{Tables, no_tables, sizes};
+use crate::worlds::Move;
+use indexmap::IndexMap;
+use std::alloc::{AllocError, Global};
+use std::marker::Model;
+use std::mem;
+use wit_features::{Features, check_gates};
+use wit_finding::{Known, foreign_places};
+use wit_graph_worlds::copied_name;
+use wit_moves::{MoveFault, OwnerPlaces};
+use wit_placed::law_found_are_there;
+use wit_plans::{Parts, Plan, plan_of};
+use wit_types::{
+    Arena, Interface, InterfaceId, Package, PackageId, PackageName, TypeDef, UnresolvedPackage,
+    World,
+};
+
+/// Refuses a package of which the name is there, or in which an item is stable from a version on that it hasn't reached.
+fn check_package(
+    names: &IndexMap<PackageName, PackageId>,
+    package: &UnresolvedPackage,
+) -> Result<(), PushFault>
+    ensures fresh { OnOk result (is_some (lookup (⟦<PackageName as PartialEq>⟧.eq «package».now.name) names.now.entries) ≡ false) }
+    ensures on_time { OnOk result (AreOnTime «package».now.name.version (of_package «package».now)) }
+    ensures cause { IfErr result (spec.IsPackageCause ⟦<PackageName as PartialEq>⟧.eq names.now.entries «package».now) }
+{
+    if names.contains_key(&package.name) {
+        return Err(PushFault::DuplicatePackage);
+    }
+    match check_gates(package) {
+        Ok(()) => Ok(()),
+        Err(at) => Err(PushFault::GateVersion(at)),
+    }
+}
+
+/// Where all that a package holds stands behind what there is.
+fn plan_in(
+    alloc: Global,
+    features: &Features,
+    tables: &Tables,
+    foreign: OwnerPlaces,
+    own: &OwnParts,
+) -> Result<Plan, MoveFault>
+    requires { AreBelow (length tables.now.interfaces.all) foreign.interfaces }
+    ensures ok { IfOk result (λ plan. IsPlanned features.now tables.now.interfaces.all (sizes_of (items_of tables.now)) (owners foreign) (parts own.now) (owners plan.owners) plan.types) }
+    ensures cause { IfErr result (IsPlanCause features.now tables.now.interfaces.all (sizes_of (items_of tables.now)) (owners foreign) (parts own.now)) }
+{
+    let parts = Parts {
+        unknown: own.unknown.as_slice(),
+        types: own.types.as_slice(),
+        interfaces: own.interfaces.as_slice(),
+        worlds: own.worlds.as_slice(),
+    };
+    plan_of(
+        alloc,
+        features,
+        tables.interfaces.all(),
+        sizes(tables),
+        foreign,
+        &parts,
+    )
+}
+
+/// A graph of packages (WIT, Packages).
+#[derive(Drop)]
+pub struct Graph {
+    tables: Tables,
+    names: IndexMap<PackageName, PackageId>,
+}
+
+impl Model for Graph {
+    ghost use Rattle.std.specs.Coded.{codes};
+    ghost use Rattle.wit_graph.specs.contracts.tables.Tables as all;
+    ghost use Rattle.wit_graph.specs.Graph.{Graph, IsGraph};
+
+    ghost Value = { Graph };
+
+    ghost coded = { Prim.hlevel (codes, all.the_row.coded) };
+
+    ghost view = { λ g. record { tables = g.tables; names = g.names.entries } };
+
+    ghost invariant = { λ g. IsGraph (record { tables = g.tables; names = g.names.entries }) };
+}
+
+impl Graph {
+    /// No packages.
+    pub fn new(alloc: Global) -> Graph
+        ensures tables { result.tables ≡ nothing }
+        ensures names { result.names ≡ [] }
+    {
+        Graph {
+            tables: no_tables(alloc),
+            names: IndexMap::new(alloc),
+        }
+    }
+
+    /// The types, by their ids.
+    pub fn types(&self) -> &Arena<TypeDef>
+        ensures { result.now ≡ self.now.tables.types }
+    {
+        &self.tables.types
+    }
+
+    /// The interfaces, by their ids.
+    pub fn interfaces(&self) -> &Arena<Interface>
+        ensures { result.now ≡ self.now.tables.interfaces.all }
+    {
+        self.tables.interfaces.all()
+    }
+
+    /// The worlds, by their ids, each with all that it imports in the end.
+    pub fn worlds(&self) -> &Arena<World>
+        ensures { result.now ≡ self.now.tables.worlds.elaborated }
+    {
+        self.tables.worlds.elaborated()
+    }
+
+    /// What each world lists.
+    pub fn listed_worlds(&self) -> &Arena<World>
+        ensures { result.now ≡ self.now.tables.worlds.listed }
+    {
+        self.tables.worlds.listed()
+    }
+
+    /// The packages, by their ids.
+    pub fn packages(&self) -> &Arena<Package>
+        ensures { result.now ≡ self.now.tables.packages }
+    {
+        &self.tables.packages
+    }
+
+    /// The packages by their names.
+    pub fn package_names(&self) -> &IndexMap<PackageName, PackageId>
+        ensures { result.now.entries ≡ self.now.names }
+    {
+        &self.names
+    }
+
+    /// Puts a package behind the others, of which all has its place. Where it is refused nothing changes.
+    fn put(
+        &mut self,
+        alloc: Global,
+        features: &Features,
+        plan: &Plan,
+        own: Own,
+    ) -> Result<PackageId, PushFault>
+        requires fresh { is_some (lookup (⟦<PackageName as PartialEq>⟧.eq own.name) self.old.names) ≡ false }
+        requires ready { (foreign : Owners) × spec.IsReady features.now (items_of self.old.tables) foreign (parts own.parts) (owners plan.now.owners) plan.now.types }
+        ensures ok { IfOk result (spec.IsPut ⟦<PackageName as PartialEq>⟧.eq features.now own.name own.docs (owners plan.now.owners) plan.now.types (parts own.parts) self.old self.new) }
+        ensures cause { IfErr result (spec.IsPartsCause features.now (length self.old.tables.packages) (owners plan.now.owners) plan.now.types (parts own.parts) (items_of self.old.tables)) }
+        ensures err { OnErr result (self.new ≡ self.old) }
+    {
+        let mut own = own;
+        let copy = copied_name(&own.name)?;
+        let name = mem::replace(&mut own.name, copy);
+        self.names.reserve(1)?;
+        let owner = PackageId::from_index(self.tables.packages.len());
+        let by = Move {
+            features,
+            owner,
+            plan,
+        };
+        let tables = mem::replace(&mut self.tables, no_tables(alloc));
+        let Outcome { tables, done } = pushed(alloc, tables, &by, own);
+        self.tables = tables;
+        done?;
+        self.names.insert(name, owner).unwrap();
+        Ok(owner)
+    }
+
+    /// Adds a package, with all of it that stays: gates are those of the features. What it asks for is looked up in the packages that are
+    /// there. Answers its id. Refuses a package of which the name is there; gates of a version that it hasn't reached; a package that isn't
+    /// there; a statement that stays and names what isn't there, or is left out; plain names of a world that are too alike by what it
+    /// includes; an export that needs an interface from outside that depends on an export; and what turns out by types of others to be
+    /// what it may not be. A refused call leaves the graph as it was (WIT, Packages, Use, Feature Gates; Component Model, WIT, Worlds).
+    pub fn push(
+        &mut self,
+        alloc: Global,
+        features: &Features,
+        package: UnresolvedPackage,
+    ) -> Result<PackageId, PushFault>
+        requires { IsWellFormed «package» }
+        ensures ok { IfOk result (spec.IsPushed ⟦<PackageName as PartialEq>⟧.eq features.now self.old «package» self.new) }
+        ensures cause { IfErr result (spec.IsPushCause ⟦<PackageName as PartialEq>⟧.eq features.now self.old «package») }
+        ensures err { OnErr result (self.new ≡ self.old) }
+    {
+        law_found_are_there();
+        check_package(&self.names, &package)?;
+        let known = Known {
+            packages: &self.tables.packages,
+            names: &self.names,
+        };
+        let foreign = foreign_places(alloc, features, &known, &package)?;
+        let own = own_of(
+            alloc,
+            package,
+            foreign.interfaces.len(),
+            foreign.worlds.len(),
+        )?;
+        let plan = plan_in(alloc, features, &self.tables, foreign, &own.parts)?;
+        self.put(alloc, features, &plan, own)
+    }
+}

@@ -1,0 +1,50 @@
+//! What the packages of a graph hold.
+
+ghost use Rattle.std.specs.Prelude.{◌≡◌, [], length};
+ghost use Rattle.wit_graph.specs.Graph as spec;
+
+use crate::interfaces::Interfaces;
+use std::alloc::Global;
+use wit_graph_worlds::Worlds;
+use wit_plans::Sizes;
+use wit_resources::Natures;
+use wit_types::{Arena, Package, TypeDef};
+
+/// What the packages of a graph hold, by ids.
+#[derive(Drop)]
+pub struct Tables {
+    /// Types.
+    pub types: Arena<TypeDef>,
+    /// What is known of them.
+    pub natures: Natures,
+    /// Interfaces.
+    pub interfaces: Interfaces,
+    /// Worlds.
+    pub worlds: Worlds,
+    /// Packages.
+    pub packages: Arena<Package>,
+}
+
+/// Of no packages.
+pub fn no_tables(alloc: Global) -> Tables
+    ensures { result ≡ spec.nothing }
+{
+    Tables {
+        types: Arena::new(alloc),
+        natures: Natures::new(alloc),
+        interfaces: Interfaces::new(alloc),
+        worlds: Worlds::new(alloc),
+        packages: Arena::new(alloc),
+    }
+}
+
+/// How many types, interfaces and worlds there are.
+pub fn sizes(tables: &Tables) -> Sizes
+    ensures { result ≡ spec.sizes (spec.items_of tables.now) }
+{
+    Sizes {
+        types: tables.types.len(),
+        interfaces: tables.interfaces.all().len(),
+        worlds: tables.worlds.listed().len(),
+    }
+}

@@ -1,0 +1,5 @@
+pub mod Copies
+pub mod Worlds
+pub mod Sound
+pub mod Added
+pub mod Names

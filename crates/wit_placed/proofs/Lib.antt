@@ -1,0 +1,7 @@
+mod Members
+mod Sides
+mod Standing
+mod Sources
+mod Own
+mod Order
+mod Finding

@@ -1,0 +1,144 @@
+-- Interfaces that take places one behind the other.
+use Rattle.std.proofs.Common.{◌≡◌, ℕ, ◌+◌, ◌<◌, ◌≤◌, zero, suc, Bool, true, false, List, [], ◌∷◌, inl, inr, Some, None, refl, sym, subst, ap, ◌∙◌, arith, length, length-append, map}
+use Rattle.std.proofs.lemmas.Option.{same_Some}
+use Rattle.std.specs.Prelude.{slice_get}
+use Rattle.wit_types.specs.declared.interface.Interface.{Interface}
+use Rattle.wit_types.specs.declared.stability.Stability.{Stability}
+use Rattle.wit_features.specs.Features.{FeatureSet, stays}
+use Rattle.wit_moves.specs.Moved.{Places, place_of, flat}
+use Rattle.wit_moves.specs.Plan.{Plan, with_place}
+use Rattle.wit_finding.specs.Own.{with_own}
+use Rattle.wit_plans.specs.Checks.{Standing}
+use Rattle.wit_plans.specs.Moves.{AreMovedInterfaces, no_interfaces, interface_goes, interface_stays}
+use Rattle.wit_moves.specs.Interfaces.{IsMovedInterface}
+use Rattle.wit_moved_trees.proofs.Moving.{place_more, place_kept}
+use Rattle.wit_arena.proofs.Lists.{get_last}
+use Rattle.wit_placed.specs.There.{AreBelow}
+use Rattle.wit_placed.specs.Order.{interface_places, InterfacesTakePlaces}
+
+abbrev gates : List Interface → List Stability
+gates ds = map (λ (d : Interface). d.stability) ds
+
+-- of those from a number on, later ones stand behind all before them
+abbrev pub AreRisingFrom : ℕ → Places → Type 0
+AreRisingFrom c places = (i j a b : ℕ) → c ≤ j → i < j → place_of places i ≡ Some a → place_of places j ≡ Some b → a < b
+
+-- ---- one more
+
+below_place : (b : Bool) (p : Plan) → AreBelow p.next p.places → AreBelow (with_place b p).next (with_place b p).places
+below_place true p below i j h =
+    elim (place_more p.places (Some p.next) i j h) as (λ _. j < p.next + 1) [
+      | inl was ↦ (let l : j < p.next = below i j was in omega arith)
+      | inr last ↦ (let e : p.next ≡ j = same_Some p.next j last.1 in omega (arith, e))
+    ]
+below_place false p below i j h = elim (place_more p.places None i j h) as (λ _. j < p.next) [ inl was ↦ below i j was | inr last ↦ absurd (let e : None ≡ Some j = last.1 in cc) ]
+
+place_within : (ps : Places) (k n : ℕ) → place_of ps k ≡ Some n → k < length ps
+place_within [] k n h = absurd cc
+place_within (q ∷ ps) zero n h = omega arith
+place_within (q ∷ ps) (suc k) n h = (let l : k < length ps = place_within ps k n h in omega arith)
+
+rising_place : (b : Bool) (c : ℕ) (p : Plan) → AreBelow p.next p.places → AreRisingFrom c p.places → AreRisingFrom c (with_place b p).places
+rising_place true c p below rising i j a b l m at_i at_j =
+    elim (place_more p.places (Some p.next) j b at_j) as (λ _. a < b) [
+      | inl was_j ↦ elim (place_more p.places (Some p.next) i a at_i) as (λ _. a < b) [
+        | inl was_i ↦ rising i j a b l m was_i was_j
+        | inr last_i ↦ absurd (let e : i ≡ length p.places = last_i.0 in let k : j < length p.places = place_within p.places j b was_j in omega (arith, e))
+      ]
+      | inr last_j ↦ elim (place_more p.places (Some p.next) i a at_i) as (λ _. a < b) [
+        | inl was_i ↦ (let q : a < p.next = below i a was_i in let e : p.next ≡ b = same_Some p.next b last_j.1 in omega (arith, e))
+        | inr last_i ↦ absurd (let e : i ≡ length p.places = last_i.0 in let f : j ≡ length p.places = last_j.0 in omega (arith, e, f))
+      ]
+    ]
+rising_place false c p below rising i j a b l m at_i at_j =
+    elim (place_more p.places None j b at_j) as (λ _. a < b) [
+      | inl was_j ↦ elim (place_more p.places None i a at_i) as (λ _. a < b) [
+        | inl was_i ↦ rising i j a b l m was_i was_j
+        | inr last_i ↦ absurd (let e : None ≡ Some a = last_i.1 in cc)
+      ]
+      | inr last_j ↦ absurd (let e : None ≡ Some b = last_j.1 in cc)
+    ]
+
+kept_place : (b : Bool) (p : Plan) (i j : ℕ) → place_of p.places i ≡ Some j → place_of (with_place b p).places i ≡ Some j
+kept_place true p i j h = place_kept p.places (Some p.next ∷ []) i j h
+kept_place false p i j h = place_kept p.places (None ∷ []) i j h
+
+-- ---- all of them
+
+module _ (features : FeatureSet) where
+  below_all : (p : Plan) (ss : List Stability) → AreBelow p.next p.places → AreBelow (with_own features p ss).next (with_own features p ss).places
+  below_all p [] below = below
+  below_all p (x ∷ ss) below = below_all (with_place (stays features x) p) ss (below_place (stays features x) p below)
+
+  rising_all : (c : ℕ) (p : Plan) (ss : List Stability) → AreBelow p.next p.places → AreRisingFrom c p.places → AreRisingFrom c (with_own features p ss).places
+  rising_all c p [] below rising = rising
+  rising_all c p (x ∷ ss) below rising = rising_all c (with_place (stays features x) p) ss (below_place (stays features x) p below) (rising_place (stays features x) c p below rising)
+
+  kept_all : (p : Plan) (ss : List Stability) (i j : ℕ) → place_of p.places i ≡ Some j → place_of (with_own features p ss).places i ≡ Some j
+  kept_all p [] i j h = h
+  kept_all p (x ∷ ss) i j h = kept_all (with_place (stays features x) p) ss i j (kept_place (stays features x) p i j h)
+
+module _ (features : FeatureSet) (s : Standing) (owner : ℕ) where
+  next_is : (p : Plan) (ds es : List Interface) → AreMovedInterfaces features s owner ds es → (with_own features p (gates ds)).next ≡ p.next + length es
+  next_is p _ _ no_interfaces = omega arith
+  next_is p _ _ (interface_goes d ds es st rest) = ap (λ (b : Bool). (with_own features (with_place b p) (gates ds)).next) st ∙ next_is (with_place false p) ds es rest
+  next_is p _ _ (interface_stays d e ds es st m rest) =
+      ap (λ (b : Bool). (with_own features (with_place b p) (gates ds)).next) st ∙ next_is (with_place true p) ds es rest ∙ (let q : p.next + 1 + length es ≡ p.next + length (e ∷ es) = omega arith in q)
+
+  -- one that stays, and where it stands
+  pub record IsFrom (c base : ℕ) (places : Places) (ds : List Interface) (k : ℕ) (e : Interface) : Type 0 where
+    pub place : ℕ
+    pub old : Interface
+    pub was : slice_get ds place ≡ Some old
+    pub moved : IsMovedInterface features s.types owner old e
+    pub stands : place_of places (c + place) ≡ Some (base + k)
+
+  later : (c d base next : ℕ) (places : Places) (o : Interface) (ds : List Interface) (k l : ℕ) (e : Interface) → d ≡ c + 1 → next + k ≡ base + l → IsFrom d next places ds k e → IsFrom c base places (o ∷ ds) l e
+  later c d base next places o ds k l e de ne f = record {
+    place = suc f.place;
+    old = f.old;
+    was = f.was;
+    moved = f.moved;
+    stands =
+        subst (λ (i : ℕ). place_of places i ≡ Some (base + l)) (let q : d + f.place ≡ c + suc f.place = omega (arith, de) in q)
+        (subst (λ (n : ℕ). place_of places (d + f.place) ≡ Some n) ne f.stands);
+  }
+
+  put_last : (p : Plan) → place_of (with_place true p).places (length p.places) ≡ Some p.next
+  put_last p = ap flat (get_last p.places (Some p.next))
+
+  each_from : (p : Plan) (ds es : List Interface) → AreMovedInterfaces features s owner ds es → (k : ℕ) (e : Interface) → slice_get es k ≡ Some e → IsFrom (length p.places) p.next (with_own features p (gates ds)).places ds k e
+  each_from p _ _ no_interfaces k e h = absurd cc
+  each_from p _ _ (interface_goes d ds es st rest) k e h =
+      subst (λ (b : Bool). IsFrom (length p.places) p.next (with_own features (with_place b p) (gates ds)).places (d ∷ ds) k e) (sym st)
+      (later (length p.places) (length (with_place false p).places) p.next p.next (with_own features (with_place false p) (gates ds)).places d ds k k e (length-append p.places (None ∷ [])) refl
+      (each_from (with_place false p) ds es rest k e h))
+  each_from p _ _ (interface_stays d one ds es st m rest) zero e h =
+      subst (λ (b : Bool). IsFrom (length p.places) p.next (with_own features (with_place b p) (gates ds)).places (d ∷ ds) zero e) (sym st) (record {
+        place = zero;
+        old = d;
+        was = refl;
+        moved = subst (IsMovedInterface features s.types owner d) (same_Some one e h) m;
+        stands =
+            subst (λ (i : ℕ). place_of (with_own features (with_place true p) (gates ds)).places i ≡ Some (p.next + 0)) (let q : length p.places ≡ length p.places + 0 = omega arith in q)
+            (kept_all features (with_place true p) (gates ds) (length p.places) (p.next + 0) (put_last p ∙ ap (λ (n : ℕ). Some n) (let q : p.next ≡ p.next + 0 = omega arith in q)));
+      })
+  each_from p _ _ (interface_stays d one ds es st m rest) (suc k) e h =
+      subst (λ (b : Bool). IsFrom (length p.places) p.next (with_own features (with_place b p) (gates ds)).places (d ∷ ds) (suc k) e) (sym st)
+      (later (length p.places) (length (with_place true p).places) p.next (p.next + 1) (with_own features (with_place true p) (gates ds)).places d ds k (suc k) e (length-append p.places (Some p.next ∷ []))
+      (let q : p.next + 1 + k ≡ p.next + suc k = omega arith in q) (each_from (with_place true p) ds es rest k e h))
+
+-- ---- behind others
+
+pub interfaces_take_places : InterfacesTakePlaces
+interfaces_take_places features s owner others base own new below moved =
+    subst (λ (n : ℕ). AreBelow n (interface_places features others base own)) (next_is features s owner (record { places = others; next = base }) own new moved)
+    (below_all features (record { places = others; next = base }) (gates own) below)
+
+pub interfaces_rise : (features : FeatureSet) (others : Places) (base : ℕ) (own : List Interface) → AreBelow base others → AreRisingFrom (length others) (interface_places features others base own)
+interfaces_rise features others base own below =
+    rising_all features (length others) (record { places = others; next = base }) (gates own) below (λ i j a b l m at_i at_j. absurd (let k : j < length others = place_within others j b at_j in omega arith))
+
+pub interface_from : (features : FeatureSet) (s : Standing) (owner : ℕ) (others : Places) (base : ℕ) (own new : List Interface) → AreMovedInterfaces features s owner own new
+    → (k : ℕ) (e : Interface) → slice_get new k ≡ Some e → IsFrom features s owner (length others) base (interface_places features others base own) own k e
+interface_from features s owner others base own new moved k e h = each_from features s owner (record { places = others; next = base }) own new moved k e h

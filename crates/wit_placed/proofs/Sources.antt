@@ -1,0 +1,211 @@
+-- Where the types come from that stand in a graph.
+use Rattle.std.proofs.Common.{◌≡◌, ℕ, ◌+◌, ◌<◌, Bool, true, false, ◌&&◌, List, [], ◌∷◌, ◌++◌, ◌⊎◌, inl, inr, Option, Some, None, String, refl, sym, subst, ap, ◌∙◌, arith, length, take, length-append, append_assoc}
+use Rattle.std.proofs.lemmas.Bool.{and_parts}
+use Rattle.std.proofs.lemmas.List.{append-nil}
+use Rattle.std.proofs.lemmas.Option.{same_Some}
+use Rattle.std.specs.Prelude.{slice_get, is_some}
+use Rattle.std.specs.declared.alloc.Global.{Global}
+use Rattle.wit_types.specs.declared.kind.«Type».{«Type» as Ref}
+use Rattle.wit_types.specs.declared.kind.«Type».TheVariants as ref
+use Rattle.wit_types.specs.declared.kind.TypeDefKind.{TypeDefKind}
+use Rattle.wit_types.specs.declared.kind.TypeDefKind.TheVariants as kind
+use Rattle.wit_types.specs.declared.interface.TypeDef.{TypeDef}
+use Rattle.wit_types.specs.declared.interface.TypeOwner.{TypeOwner}
+use Rattle.wit_types.specs.declared.interface.TypeOwner.TheVariants as belongs
+use Rattle.wit_features.specs.Features.{FeatureSet, stays as gate_stays}
+use Rattle.wit_moves.specs.Moved.{Places, place_of, is_placed, is_ref_placed, is_kind_placed, to, IsMovedDef}
+use Rattle.wit_moves.specs.Plan.{OwnerPlaces, is_owner_placed, moved_owner, named_stays, type_stays, Plan, with_place, with_types, AreTypesPlaced, AreMovedDefs, no_defs, left_out, moved as moved_def}
+use Rattle.wit_reach.specs.Deps.{alias_target, ref_id, interface_of}
+use Rattle.wit_arena.proofs.Lists.{get_kept, get_last, get_more}
+use Rattle.wit_moved_trees.specs.There.{AreWithin}
+use Rattle.wit_moved_trees.proofs.Moving.{either, placed_some, place_kept, place_more, plan_grows, plan_append, plan_length, take_front, get_here}
+use Rattle.wit_moved_trees.proofs.Earlier.{placed_where_stays}
+use Rattle.wit_placed.specs.Order.{AreNamelessFree}
+
+-- what another name is of stands somewhere where the definition does
+target_placed : (places : Places) (k : TypeDefKind) (u : ℕ) → is_kind_placed places k ≡ true → alias_target k ≡ Some u → is_placed places u ≡ true
+target_placed places (kind.Alias r) u p t = of_ref r p t
+  where
+    of_ref : (r : Ref) → is_ref_placed places r ≡ true → ref_id r ≡ Some u → is_placed places u ≡ true
+    of_ref (ref.Id i) p t = subst (λ (j : ℕ). is_placed places j ≡ true) (same_Some i u t) p
+    of_ref _ p t = absurd cc
+target_placed places _ u p t = absurd cc
+
+-- what belongs to an interface belongs to one that stands somewhere
+pub owner_stands : (owners : OwnerPlaces) (o : TypeOwner) (j : ℕ) → is_owner_placed owners o ≡ true → interface_of (moved_owner owners o) ≡ Some j → (i : ℕ) × (o ≡ belongs.Interface i) × (place_of owners.interfaces i ≡ Some j)
+owner_stands owners (belongs.Interface i) j p e =
+    let s = placed_some (place_of owners.interfaces i) p in
+    let same : s.0 ≡ j = same_Some s.0 j (let q = s.1 in cc) in
+    (i, refl, subst (λ (k : ℕ). place_of owners.interfaces i ≡ Some k) same s.1)
+owner_stands owners (belongs.World w) j p e = absurd cc
+owner_stands owners belongs.None j p e = absurd cc
+
+module _ (features : FeatureSet) (owners : OwnerPlaces) (others places : Places) (graph own : List TypeDef) (others_within : AreWithin graph others) (nameless : AreNamelessFree own)
+    (placed : AreTypesPlaced features owners others (length graph) own places)
+  where
+    abbrev begun : Plan
+    begun = record { places = others; next = length graph }
+
+    abbrev plan : List TypeDef → Plan
+    plan xs = with_types features owners begun xs
+
+    -- a type of the package's own, and what it is there
+    pub record IsFrom (xs fs : List TypeDef) (i j : ℕ) : Type 0 where
+      pub place : ℕ
+      pub old : TypeDef
+      pub new : TypeDef
+      pub index : i ≡ length others + place
+      pub was : slice_get xs place ≡ Some old
+      pub is : slice_get (graph ++ fs) j ≡ Some new
+      pub moved : IsMovedDef (to places) (moved_owner owners old.owner) old new
+      pub owned : is_owner_placed owners old.owner ≡ true
+      pub target : (u : ℕ) → alias_target old.kind ≡ Some u → is_placed places u ≡ true
+
+    pub record AreSources (xs fs : List TypeDef) (stands : Places) : Type 0 where
+      pub sources : (i j : ℕ) → place_of stands i ≡ Some j → (j < length graph) ⊎ IsFrom xs fs i j
+      -- each that belongs to an interface belongs to one that stands somewhere
+      pub owned : (i j : ℕ) (d : TypeDef) → slice_get fs i ≡ Some d → interface_of d.owner ≡ Some j → (k : ℕ) × (place_of owners.interfaces k ≡ Some j)
+
+    record SoFar (xs fs : List TypeDef) : Type 0 where
+      next : (plan xs).next ≡ length graph + length fs
+      are : AreSources xs fs (plan xs).places
+
+    none_yet : SoFar [] []
+    none_yet = record {
+      next = omega arith;
+      are = record { sources = λ i j p. inl (others_within i j p); owned = λ i j d g e. absurd cc };
+    }
+
+    -- one more of the package's own, whether it stays or not
+    more_from : (xs fs es : List TypeDef) (d : TypeDef) (i j : ℕ) → (j < length graph) ⊎ IsFrom xs fs i j → (j < length graph) ⊎ IsFrom (xs ++ d ∷ []) (fs ++ es) i j
+    more_from xs fs es d i j s =
+        elim s as (λ _. (j < length graph) ⊎ IsFrom (xs ++ d ∷ []) (fs ++ es) i j) [
+          | inl l ↦ inl l
+          | inr f ↦ inr (record {
+            place = f.place;
+            old = f.old;
+            new = f.new;
+            index = f.index;
+            was = get_kept xs (d ∷ []) f.place f.old f.was;
+            is = subst (λ (b : List TypeDef). slice_get b j ≡ Some f.new) (append_assoc graph fs es) (get_kept (graph ++ fs) es j f.new f.is);
+            moved = f.moved;
+            owned = f.owned;
+            target = f.target;
+          })
+        ]
+
+    module _ (xs ys fs : List TypeDef) (d : TypeDef) (split : xs ++ d ∷ ys ≡ own) (so_far : SoFar xs fs) where
+      abbrev stays : Bool
+      stays = type_stays features owners (plan xs).places d
+
+      plan_next : plan (xs ++ d ∷ []) ≡ with_place stays (plan xs)
+      plan_next = plan_append features owners begun xs (d ∷ [])
+
+      first_places : (more : Places) × (places ≡ (plan xs).places ++ more)
+      first_places =
+          let r = plan_grows features owners (plan xs) (d ∷ ys) in
+          (r.0, placed.are ∙ ap (λ (ds : List TypeDef). (plan ds).places) (sym split) ∙ ap (λ (p : Plan). p.places) (plan_append features owners begun xs (d ∷ ys)) ∙ r.1)
+
+      here : slice_get own (length xs) ≡ Some d
+      here = subst (λ (ds : List TypeDef). slice_get ds (length xs) ≡ Some d) split (get_here xs ys d)
+
+      front : take (length xs) own ≡ xs
+      front = subst (λ (ds : List TypeDef). take (length xs) ds ≡ xs) split (take_front xs (d ∷ ys))
+
+      stays_is : is_placed places (length others + length xs) ≡ stays
+      stays_is = placed_where_stays features owners others places (length graph) xs ys d (placed.are ∙ ap (λ (ds : List TypeDef). (plan ds).places) (sym split))
+
+      leaves_out : is_placed places (length others + length xs) ≡ false → SoFar (xs ++ d ∷ []) fs
+      leaves_out out =
+          let now : plan (xs ++ d ∷ []) ≡ with_place false (plan xs) = plan_next ∙ ap (λ (b : Bool). with_place b (plan xs)) (sym stays_is ∙ out) in
+          record {
+            next = ap (λ (p : Plan). p.next) now ∙ so_far.next;
+            are = record {
+              sources = λ i j p. elim (place_more (plan xs).places None i j (subst (λ (q : Plan). place_of q.places i ≡ Some j) now p)) as (λ _. (j < length graph) ⊎ IsFrom (xs ++ d ∷ []) fs i j) [
+                | inl was ↦ subst (λ (gs : List TypeDef). (j < length graph) ⊎ IsFrom (xs ++ d ∷ []) gs i j) (append-nil fs) (more_from xs fs [] d i j (so_far.are.sources i j was))
+                | inr last ↦ absurd (let e : None ≡ Some j = last.1 in cc)
+              ];
+              owned = so_far.are.owned;
+            };
+          }
+
+      module _ (e : TypeDef) (there : is_placed places (length others + length xs) ≡ true) (is : IsMovedDef (to places) (moved_owner owners d.owner) d e) where
+        it_stays : stays ≡ true
+        it_stays = sym stays_is ∙ there
+
+        kind_there : is_kind_placed (plan xs).places d.kind ≡ true
+        kind_there =
+            elim (either (is_kind_placed (plan xs).places d.kind)) as (λ _. is_kind_placed (plan xs).places d.kind ≡ true) [
+              | inl is_there ↦ is_there
+              | inr isnt ↦ absurd (placed.kept d.span (record {
+                place = length xs;
+                one = d;
+                breaks = record {
+                  there = here;
+                  stays = subst (λ (ds : List TypeDef). type_stays features owners (plan ds).places d ≡ true) (sym front) it_stays;
+                  unplaced = subst (λ (ds : List TypeDef). is_kind_placed (plan ds).places d.kind ≡ false) (sym front) isnt;
+                };
+                stands = refl;
+              }))
+            ]
+
+        target : (u : ℕ) → alias_target d.kind ≡ Some u → is_placed places u ≡ true
+        target u t =
+            let s = placed_some (place_of (plan xs).places u) (target_placed (plan xs).places d.kind u kind_there t) in
+            let k : place_of places u ≡ Some s.0 = subst (λ (ps : Places). place_of ps u ≡ Some s.0) (sym first_places.1) (place_kept (plan xs).places first_places.0 u s.0 s.1) in
+            ap is_some k
+
+        owner_there : is_owner_placed owners d.owner ≡ true
+        owner_there = by_name d.name refl
+          where
+            by_name : (n : Option (String Global)) → d.name ≡ n → is_owner_placed owners d.owner ≡ true
+            by_name None e = ap (is_owner_placed owners) (nameless (length xs) d here e)
+            by_name (Some x) e =
+                let s : (gate_stays features d.stability && is_owner_placed owners d.owner) ≡ true = sym (ap (named_stays features owners (plan xs).places d) e) ∙ it_stays in
+                (and_parts (gate_stays features d.stability) (is_owner_placed owners d.owner) s).1
+
+        -- it stands there
+        last_from : (i j : ℕ) → i ≡ length (plan xs).places → (plan xs).next ≡ j → length (plan xs).places ≡ length others + length xs → IsFrom (xs ++ d ∷ []) (fs ++ e ∷ []) i j
+        last_from i j at is_next long = record {
+          place = length xs;
+          old = d;
+          new = e;
+          index = at ∙ long;
+          was = get_last xs d;
+          is = subst (λ (b : List TypeDef). slice_get b j ≡ Some e) (append_assoc graph fs (e ∷ []))
+              (subst (λ (k : ℕ). slice_get ((graph ++ fs) ++ e ∷ []) k ≡ Some e) (length-append graph fs ∙ sym so_far.next ∙ is_next) (get_last (graph ++ fs) e));
+          moved = is;
+          owned = owner_there;
+          target = target;
+        }
+
+        moves : length (plan xs).places ≡ length others + length xs → SoFar (xs ++ d ∷ []) (fs ++ e ∷ [])
+        moves long =
+            let now : plan (xs ++ d ∷ []) ≡ with_place true (plan xs) = plan_next ∙ ap (λ (b : Bool). with_place b (plan xs)) it_stays in
+            let last_length : length (fs ++ e ∷ []) ≡ length fs + 1 = length-append fs (e ∷ []) in
+            let before = so_far.next in
+            record {
+              next = ap (λ (p : Plan). p.next) now ∙ (let r : (plan xs).next + 1 ≡ length graph + length (fs ++ e ∷ []) = omega (arith, last_length, before) in r);
+              are = record {
+                sources = λ i j p. elim (place_more (plan xs).places (Some (plan xs).next) i j (subst (λ (q : Plan). place_of q.places i ≡ Some j) now p)) as (λ _. (j < length graph) ⊎ IsFrom (xs ++ d ∷ []) (fs ++ e ∷ []) i j) [
+                  | inl was ↦ more_from xs fs (e ∷ []) d i j (so_far.are.sources i j was)
+                  | inr last ↦ inr (last_from i j last.0 (same_Some (plan xs).next j last.1) long)
+                ];
+                owned = λ i j f at o. elim (get_more fs e f i at) as (λ _. (k : ℕ) × (place_of owners.interfaces k ≡ Some j)) [
+                  | inl was ↦ so_far.are.owned i j f was o
+                  | inr last ↦ (let r = owner_stands owners d.owner j owner_there (sym (ap interface_of is.owner_is) ∙ subst (λ (x : TypeDef). interface_of x.owner ≡ Some j) last.1 o) in (r.0, r.2))
+                ];
+              };
+            }
+
+    all_so_far : (xs fs : List TypeDef) → AreMovedDefs owners places (length others) xs fs → (ys : List TypeDef) → xs ++ ys ≡ own → SoFar xs fs
+    all_so_far _ _ no_defs ys split = none_yet
+    all_so_far _ _ (left_out xs fs d m out) ys split = (let s = sym (append_assoc xs (d ∷ []) ys) ∙ split in leaves_out xs ys fs d s (all_so_far xs fs m (d ∷ ys) s) out)
+    all_so_far _ _ (moved_def xs fs d e m there is) ys split =
+        (let s = sym (append_assoc xs (d ∷ []) ys) ∙ split in moves xs ys fs d s (all_so_far xs fs m (d ∷ ys) s) e there is (plan_length features owners begun xs))
+
+    -- each place is one of the graph's, or that of a type of the package's own
+    pub all_sources : (fs : List TypeDef) → AreMovedDefs owners places (length others) own fs → AreSources own fs places
+    all_sources fs m =
+        let s = (all_so_far own fs m [] (append-nil own)).are in
+        record { sources = λ i j p. s.sources i j (subst (λ (ps : Places). place_of ps i ≡ Some j) placed.are p); owned = s.owned }

@@ -1,0 +1,61 @@
+-- What stays of a package takes places one behind the other, and uses what stands before it (WIT, Packages, Use).
+use Rattle.std.specs.Prelude.{◌≡◌, ℕ, ◌+◌, ◌<◌, List, ◌++◌, None, Some, length, map, slice_get}
+use Rattle.wit_types.specs.declared.interface.Interface.{Interface}
+use Rattle.wit_types.specs.declared.interface.TypeDef.{TypeDef}
+use Rattle.wit_types.specs.declared.interface.TypeOwner.TheVariants as belongs
+use Rattle.wit_features.specs.Features.{FeatureSet}
+use Rattle.wit_moves.specs.Moved.{Places}
+use Rattle.wit_moves.specs.Plan.{OwnerPlaces, AreTypesPlaced, AreMovedDefs}
+use Rattle.wit_finding.specs.Own.{placed}
+use Rattle.wit_plans.specs.Checks.{Standing}
+use Rattle.wit_plans.specs.Moves.{AreMovedInterfaces}
+use Rattle.wit_reach.specs.Deps.{IsInterfaceDep}
+use Rattle.wit_reach.specs.Lists.{AreOwnersThere}
+use Rattle.wit_reach.specs.Types.{AreTypesBackward}
+use Rattle.wit_moved_trees.specs.There.{AreWithin}
+use Rattle.wit_placed.specs.There.{AreBelow}
+
+-- types without a name belong nowhere
+abbrev pub AreNamelessFree : List TypeDef → Type 0
+AreNamelessFree own = (k : ℕ) (d : TypeDef) → slice_get own k ≡ Some d → d.name ≡ None → d.owner ≡ belongs.None
+
+-- interfaces behind so many others use types of interfaces before them alone
+abbrev pub AreInOrder : ℕ → List TypeDef → List Interface → Type 0
+AreInOrder others types own = (k j : ℕ) (d : Interface) → slice_get own k ≡ Some d → IsInterfaceDep types d j → j < others + k
+
+-- where the interfaces of a package stand behind so many of a graph, some of others being among these
+abbrev pub interface_places : FeatureSet → Places → ℕ → List Interface → Places
+interface_places features others base own = placed features others base (map (λ (d : Interface). d.stability) own)
+
+abbrev pub InterfacesTakePlaces : Type 0
+InterfacesTakePlaces =
+    (features : FeatureSet) (s : Standing) (owner : ℕ) (others : Places) (base : ℕ) (own new : List Interface)
+    → AreBelow base others → AreMovedInterfaces features s owner own new → AreBelow (base + length new) (interface_places features others base own)
+
+-- a package's types and interfaces are put behind those of a graph
+pub record AreBehind (features : FeatureSet) (owners : OwnerPlaces) (s : Standing) (owner : ℕ) (foreign own graph moved : List TypeDef) (others : Places) (own_interfaces new_interfaces : List Interface) (others_interfaces : Places) (base : ℕ) : Type 0 where
+  pub so_many : length others ≡ length foreign
+  pub others_within : AreWithin graph others
+  pub placed : AreTypesPlaced features owners others (length graph) own s.types
+  pub are_moved : AreMovedDefs owners s.types (length others) own moved
+  pub below : AreBelow base others_interfaces
+  pub places : owners.interfaces ≡ interface_places features others_interfaces base own_interfaces
+  pub interfaces_moved : AreMovedInterfaces features s owner own_interfaces new_interfaces
+  pub backward : AreTypesBackward (graph ++ moved)
+  pub graph_owners : AreOwnersThere base graph
+  pub nameless : AreNamelessFree own
+
+-- then types belong to interfaces that are there
+abbrev pub MovedTypesBelong : Type 0
+MovedTypesBelong =
+    (features : FeatureSet) (owners : OwnerPlaces) (s : Standing) (owner : ℕ) (foreign own graph moved : List TypeDef) (others : Places) (own_interfaces new_interfaces : List Interface) (others_interfaces : Places) (base : ℕ)
+    → AreBehind features owners s owner foreign own graph moved others own_interfaces new_interfaces others_interfaces base
+    → AreOwnersThere (base + length new_interfaces) (graph ++ moved)
+
+-- and, where the package's interfaces are in order, each uses types of interfaces before it alone
+abbrev pub MovedInterfacesAreInOrder : Type 0
+MovedInterfacesAreInOrder =
+    (features : FeatureSet) (owners : OwnerPlaces) (s : Standing) (owner : ℕ) (foreign own graph moved : List TypeDef) (others : Places) (own_interfaces new_interfaces : List Interface) (others_interfaces : Places) (base : ℕ)
+    → AreBehind features owners s owner foreign own graph moved others own_interfaces new_interfaces others_interfaces base
+    → AreInOrder (length others_interfaces) (foreign ++ own) own_interfaces
+    → AreInOrder base (graph ++ moved) new_interfaces

@@ -1,0 +1,18 @@
+//! Laws of the places that a package takes in a graph.
+
+ghost use Rattle.wit_placed.specs.Order.{InterfacesTakePlaces, MovedInterfacesAreInOrder, MovedTypesBelong};
+
+/// Interfaces that stay take so many places behind those of a graph as they are.
+pub fn law_interfaces_take_places()
+    ensures { InterfacesTakePlaces }
+{}
+
+/// With a package behind them, the types of a graph belong to interfaces that are there.
+pub fn law_moved_types_belong()
+    ensures { MovedTypesBelong }
+{}
+
+/// Where the interfaces of a package use types of those before them alone, so they do in a graph.
+pub fn law_moved_interfaces_are_in_order()
+    ensures { MovedInterfacesAreInOrder }
+{}
