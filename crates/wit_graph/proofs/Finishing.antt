@@ -1,7 +1,8 @@
 -- A package behind all that was there.
-use Rattle.std.proofs.Common.{◌≡◌, ℕ, suc, ◌+◌, ◌<◌, ◌≤◌, Bool, true, false, List, [], ◌∷◌, ◌++◌, ◌⊎◌, inl, inr, Option, Some, None, String, Ok, Err, OnOk, OnErr, IfOk, IfErr, refl, sym, subst, ap, ◌∙◌, arith, length, length-append, map, take, bytes_eq}
+use Rattle.std.proofs.Common.{◌≡◌, ℕ, zero, suc, ◌+◌, ◌<◌, ◌≤◌, Bool, true, false, List, [], ◌∷◌, ◌++◌, ◌⊎◌, inl, inr, Option, Some, None, String, Ok, Err, OnOk, OnErr, IfOk, IfErr, refl, sym, subst, ap, ◌∙◌, arith, length, length-append, map, take, bytes_eq}
 use Rattle.std.proofs.lemmas.List.{take-append-drop}
-use Rattle.std.specs.Prelude.{if◌then◌else◌}
+use Rattle.std.proofs.lemmas.Option.{same_Some}
+use Rattle.std.specs.Prelude.{slice_get, if◌then◌else◌}
 use Rattle.std.specs.declared.alloc.Global.{Global}
 use Rattle.std.specs.declared.result.Result.{Result}
 use Rattle.indexmap.specs.IndexMap.{insert_entry, insert_all}
@@ -19,7 +20,9 @@ use Rattle.wit_moves.specs.Plan.{OwnerPlaces}
 use Rattle.wit_moves.specs.declared.plan.MoveFault.{MoveFault}
 use Rattle.wit_moves.specs.declared.plan.MoveFault.TheVariants as moved
 use Rattle.wit_finding.specs.Foreign.{AreForeignPlaces}
-use Rattle.wit_plans.specs.Plans.{Parts, IsPlanned, IsPlanCause}
+use Rattle.wit_names.specs.Names.{ArePackagesKnown}
+use Rattle.wit_plans.specs.Moves.{AreMovedInterfaces, no_interfaces, interface_goes, interface_stays}
+use Rattle.wit_plans.specs.Plans.{Parts, standing, IsPlanned, IsPlanCause}
 use Rattle.wit_plans.specs.declared.moves.MovedWorld.{MovedWorld}
 use Rattle.wit_placed.specs.Found.{IsPackageThere, ArePackagesThere, FoundAreThere}
 use Rattle.wit_placed.specs.Order.{AreInOrder}
@@ -28,17 +31,17 @@ use Rattle.wit_resources.specs.Natures.{kind_nature, natures_from}
 use Rattle.wit_resources.specs.declared.natures.Nature.{Nature}
 use Rattle.wit_graph_worlds.specs.Added as worlds
 use Rattle.wit_graph_worlds.specs.Worlds.{State}
-use Rattle.wit_graph.specs.Faults.{of_moved}
+use Rattle.wit_graph_parts.specs.Faults.{of_moved}
 use Rattle.wit_graph.specs.Graph.{Graph, IsGraph, Items, items_of, AreItemsWhole, AreWhole, nothing, sizes}
-use Rattle.wit_graph.specs.Interfaces.{no_rows}
+use Rattle.wit_graph_parts.specs.Interfaces.{no_rows}
 use Rattle.wit_graph_worlds.specs.Names.{Pair, by_bytes, name_at, interface_names, world_names, AreNames}
-use Rattle.wit_graph.specs.Own.{asked, own_parts, parts_behind, IsWellFormed}
+use Rattle.wit_graph_parts.specs.Own.{asked, own_parts, parts_behind, IsWellFormed}
 use Rattle.wit_graph.specs.Push.{IsReady, ArePartsAdded, HaveGrown, cut, IsPartsCause, ArePlaces, IsPushCause, left_out, not_included}
-use Rattle.wit_graph.specs.declared.fault.PushFault.{PushFault}
-use Rattle.wit_graph.specs.declared.fault.PushFault.TheVariants.{GateVersion, DuplicatePackage, PackageNotFound, ItemNotFound, IncludeClash, ExportConflict, ForeignShape, OutOfMemory}
+use Rattle.wit_graph_parts.specs.declared.fault.PushFault.{PushFault}
+use Rattle.wit_graph_parts.specs.declared.fault.PushFault.TheVariants.{GateVersion, DuplicatePackage, PackageNotFound, ItemNotFound, IncludeClash, ExportConflict, ForeignShape, OutOfMemory}
 use Rattle.wit_graph.specs.declared.tables.Tables.{Tables}
-use Rattle.wit_graph.proofs.Keeping.{has_or, rows_long}
-use Rattle.wit_graph.proofs.Taking.{take_grown}
+use Rattle.wit_graph.proofs.Keeping.{get_parts, has_or, rows_long}
+use Rattle.wit_graph_parts.proofs.Taking.{take_grown}
 
 -- ---- results
 
@@ -80,6 +83,7 @@ nothing_is_graph t names te ne =
           };
           interfaces_are = λ d h. absurd h;
         };
+        owners_are = λ i p d h o. absurd cc;
         packages_are = λ p h. absurd h;
       };
       names_are = λ e h. absurd h;
@@ -171,6 +175,20 @@ module _ (features : FeatureSet) (owner : ℕ) (owners : OwnerPlaces) (places : 
             | inl here ↦ subst (IsPackageThere (length new.interfaces.all) (length new.worlds.listed)) (sym here) (package_there q i w)
             | inr none ↦ absurd none
           ]
+        ]
+
+    moved_owned : (ds es : List Interface) → AreMovedInterfaces features (standing owners places) owner ds es → (k q : ℕ) (d : Interface) → slice_get es k ≡ Some d → d.«package» ≡ Some q → q ≡ owner
+    moved_owned _ _ no_interfaces k q d h o = absurd cc
+    moved_owned _ _ (interface_goes x ds es st rest) k q d h o = moved_owned ds es rest k q d h o
+    moved_owned _ _ (interface_stays x one ds es st m rest) zero q d h o = same_Some q owner (sym o ∙ ap (λ (i : Interface). i.«package») (sym (same_Some one d h)) ∙ m.owner_is)
+    moved_owned _ _ (interface_stays x one ds es st m rest) (suc k) q d h o = moved_owned ds es rest k q d h o
+
+    pub owners_known : (packages : List Package) (q : Package) → owner ≡ length packages → ArePackagesKnown packages old.interfaces.all → ArePackagesKnown (packages ++ q ∷ []) new.interfaces.all
+    owners_known packages q next known i n d at o =
+        let long : length (packages ++ q ∷ []) ≡ length packages + 1 = length-append packages (q ∷ []) in
+        elim (get_parts old.interfaces.all added.own_interfaces.moved i d (subst (λ (ds : List Interface). slice_get ds i ≡ Some d) added.own_interfaces.added.all_are at)) as (λ _. n < length (packages ++ q ∷ [])) [
+          | inl was ↦ (let l : n < length packages = known i n d was o in omega (arith, long, l))
+          | inr new ↦ (let e : n ≡ owner = moved_owned p.interfaces added.own_interfaces.moved added.own_interfaces.are_moved new.0 n d new.2 o in omega (arith, long, e, next))
         ]
 
 -- ---- taken back

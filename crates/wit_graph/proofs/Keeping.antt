@@ -1,5 +1,5 @@
 -- What is there stays there with more types.
-use Rattle.std.proofs.Common.{◌≡◌, ℕ, zero, suc, ◌+◌, ◌<◌, List, [], ◌∷◌, ◌++◌, ◌⊎◌, inl, inr, Option, Some, None, String, Vec, refl, sym, ap, ◌∙◌, arith, length, length-append, map}
+use Rattle.std.proofs.Common.{◌≡◌, ℕ, zero, suc, ◌+◌, ◌<◌, List, [], ◌∷◌, ◌++◌, ◌⊎◌, inl, inr, Option, Some, None, String, Vec, refl, sym, subst, ap, ◌∙◌, arith, length, length-append, get_or, map}
 use Rattle.std.proofs.lemmas.Option.{same_Some, slice_get_within}
 use Rattle.std.specs.Prelude.{slice_get}
 use Rattle.std.specs.declared.alloc.Global.{Global}
@@ -20,7 +20,7 @@ use Rattle.wit_reach.specs.Reach.{Uses}
 use Rattle.wit_reach.specs.Types.{AreTypesBackward, AreTypesThere, AreSidesThere}
 use Rattle.wit_placed.specs.Order.{AreInOrder}
 use Rattle.wit_placed.specs.There.{IsInterfaceThere}
-use Rattle.wit_graph.specs.Interfaces.{IsRow, AreRows, no_rows, rows_and}
+use Rattle.wit_graph_parts.specs.Interfaces.{IsRow, AreRows, no_rows, rows_and}
 
 -- ---- lists
 
@@ -42,7 +42,7 @@ get_same [] more u l = absurd (omega arith)
 get_same (d ∷ ds) more zero l = refl
 get_same (d ∷ ds) more (suc u) l = get_same ds more u (omega arith)
 
-get_parts : (xs ys : List Interface) (i : ℕ) (d : Interface) → slice_get (xs ++ ys) i ≡ Some d → (slice_get xs i ≡ Some d) ⊎ ((k : ℕ) × (i ≡ length xs + k) × (slice_get ys k ≡ Some d))
+pub get_parts : (xs ys : List Interface) (i : ℕ) (d : Interface) → slice_get (xs ++ ys) i ≡ Some d → (slice_get xs i ≡ Some d) ⊎ ((k : ℕ) × (i ≡ length xs + k) × (slice_get ys k ≡ Some d))
 get_parts [] ys i d h = inr (i, omega arith, h)
 get_parts (x ∷ xs) ys zero d h = inl h
 get_parts (x ∷ xs) ys (suc i) d h =
@@ -119,6 +119,12 @@ order_append types is more first later k j d at dep =
 pub rows_long : (types : List TypeDef) (is : List Interface) (rs : Rows) → AreRows types is rs → length rs ≡ length is
 rows_long types _ _ no_rows = refl
 rows_long types _ _ (rows_and d r is rs row rest) = (let e : length rs ≡ length is = rows_long types is rs rest in omega (arith, e))
+
+-- the row of an interface
+pub row_at : (types : List TypeDef) (is : List Interface) (rs : Rows) → AreRows types is rs → (i : ℕ) (r : Vec ℕ Global) → i < length rs → r ≡ get_or rs i r → (d : Interface) × (slice_get is i ≡ Some d) × IsRow types d r
+row_at types _ _ no_rows i r l e = absurd (omega arith)
+row_at types _ _ (rows_and d x is rs one rest) zero r l e = (d, refl, subst (IsRow types d) (sym e) one)
+row_at types _ _ (rows_and d x is rs one rest) (suc i) r l e = row_at types is rs rest i r (omega arith) e
 
 row_of : (types : List TypeDef) (is : List Interface) (rs : Rows) → AreRows types is rs → (i j : ℕ) → Has (row rs i) j → (d : Interface) × (slice_get is i ≡ Some d) × IsInterfaceDep types d j
 row_of types _ _ no_rows i j h = absurd h

@@ -1,6 +1,3 @@
-mod Taking
-mod Rows
-mod Shaped
 mod Keeping
 mod Readying
 mod Refusing

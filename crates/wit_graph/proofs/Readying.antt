@@ -22,11 +22,11 @@ use Rattle.wit_graph_worlds.specs.Sound.{AreSound}
 use Rattle.wit_graph_worlds.specs.Worlds.{Worlds}
 use Rattle.wit_resources.specs.Natures.{natures}
 use Rattle.wit_resources.specs.declared.natures.Nature.{Nature}
-use Rattle.wit_graph.specs.Interfaces.{Interfaces, AreRows}
+use Rattle.wit_graph_parts.specs.Interfaces.{Interfaces, AreRows}
 use Rattle.wit_graph.specs.Graph.{Items, items, AreItemsWhole}
-use Rattle.wit_graph.specs.Parts.{AreTypesAdded, AreInterfacesAdded}
+use Rattle.wit_graph_parts.specs.Parts.{AreTypesAdded, AreInterfacesAdded}
 use Rattle.wit_graph.specs.Push.{IsReady}
-use Rattle.wit_graph.proofs.Rows.{rows_append}
+use Rattle.wit_graph_parts.proofs.Rows.{rows_append}
 use Rattle.wit_graph.proofs.Keeping.{has_or, interface_kept, sides_kept, among_more, rows_kept, order_kept, order_append, rows_long, uses_backward}
 
 map_long : {X Y : Type 0} (f : X → Y) (xs : List X) → length (map f xs) ≡ length xs

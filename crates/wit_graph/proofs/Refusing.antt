@@ -9,12 +9,12 @@ use Rattle.wit_plans.specs.Plans.{Parts, standing}
 use Rattle.wit_resources.specs.Natures.{natures, AreOfFirst}
 use Rattle.wit_resources.specs.declared.natures.Nature.{Nature}
 use Rattle.wit_graph.specs.Graph.{Items}
-use Rattle.wit_graph.specs.Interfaces.{Interfaces}
-use Rattle.wit_graph.specs.Parts.{AreTypesAdded, AreInterfacesAdded, InterfacesBreak, IsShapeCause, IsWorldsCause}
+use Rattle.wit_graph_parts.specs.Interfaces.{Interfaces}
+use Rattle.wit_graph_parts.specs.Parts.{AreTypesAdded, AreInterfacesAdded, InterfacesBreak, IsShapeCause, IsWorldsCause}
 use Rattle.wit_graph.specs.Push.{IsPartsCause, of_interfaces, of_worlds}
-use Rattle.wit_graph.specs.declared.fault.PushFault.{PushFault}
-use Rattle.wit_graph.specs.declared.fault.PushFault.TheVariants.{GateVersion, DuplicatePackage, PackageNotFound, ItemNotFound, IncludeClash, ExportConflict, ForeignShape, OutOfMemory}
-use Rattle.wit_graph.proofs.Taking.{take_grown}
+use Rattle.wit_graph_parts.specs.declared.fault.PushFault.{PushFault}
+use Rattle.wit_graph_parts.specs.declared.fault.PushFault.TheVariants.{GateVersion, DuplicatePackage, PackageNotFound, ItemNotFound, IncludeClash, ExportConflict, ForeignShape, OutOfMemory}
+use Rattle.wit_graph_parts.proofs.Taking.{take_grown}
 
 module _ (features : FeatureSet) (owner : ℕ) (owners : OwnerPlaces) (places : Places) (p : Parts) (t : Items) (types : List TypeDef) (a : AreTypesAdded owners places (length p.unknown) p.types t.types types) where
   pub interfaces_refused : (ns : List Nature) (fault : PushFault) → ns ≡ natures types → IsShapeCause (InterfacesBreak features (standing owners places) owner ns p.interfaces) fault → IsPartsCause features owner owners places p t fault

@@ -1,9 +1,11 @@
 -- Graphs of packages (WIT, Packages).
-use Rattle.std.specs.Prelude.{◌≡◌, ℕ, ◌<◌, List, [], length}
+use Rattle.std.specs.Prelude.{◌≡◌, ◌↔◌, ℕ, ◌<◌, List, [], Some, length, slice_get}
+use Rattle.wit_reach.specs.Deps.{IsInterfaceDep}
 use Rattle.wit_order.specs.Order.{Has}
 use Rattle.wit_types.specs.declared.interface.Interface.{Interface}
 use Rattle.wit_types.specs.declared.interface.TypeDef.{TypeDef}
 use Rattle.wit_types.specs.declared.«package».PackageName.{PackageName}
+use Rattle.wit_names.specs.Names.{ArePackagesKnown}
 use Rattle.wit_plans.specs.declared.plans.Sizes.{Sizes}
 use Rattle.wit_placed.specs.Found.{ArePackagesThere}
 use Rattle.wit_placed.specs.Order.{AreInOrder}
@@ -12,7 +14,7 @@ use Rattle.wit_resources.specs.Natures.{natures}
 use Rattle.wit_resources.specs.declared.natures.Nature.{Nature}
 use Rattle.wit_graph_worlds.specs.Sound.{AreSound}
 use Rattle.wit_graph_worlds.specs.Worlds.{Worlds}
-use Rattle.wit_graph.specs.Interfaces.{Interfaces, AreRows}
+use Rattle.wit_graph_parts.specs.Interfaces.{Interfaces, AreRows}
 use Rattle.wit_graph.specs.declared.tables.Tables.{Tables}
 
 abbrev pub nothing : Tables
@@ -49,9 +51,10 @@ pub record AreItemsWhole (t : Items) : Type 0 where
   pub sound : AreSound (length t.interfaces.all) t.types t.worlds
   pub interfaces_are : (d : Interface) → Has t.interfaces.all d → IsInterfaceThere t.types d
 
--- and all that packages name
+-- and all that packages name; interfaces are of packages that are there
 pub record AreWhole (t : Tables) : Type 0 where
   pub whole : AreItemsWhole (items_of t)
+  pub owners_are : ArePackagesKnown t.packages t.interfaces.all
   pub packages_are : ArePackagesThere (length t.interfaces.all) (length t.worlds.listed) t.packages
 
 -- a graph: what its packages hold, and each package by its name
@@ -62,3 +65,7 @@ pub record Graph : Type 0 where
 pub record IsGraph (g : Graph) : Type 0 where
   pub whole : AreWhole g.tables
   pub names_are : (e : PackageName × ℕ) → Has g.names e → e.1 < length g.tables.packages
+
+-- the interfaces of which the one with that id uses types
+abbrev pub IsDepsOf : Tables → ℕ → List ℕ → Type 0
+IsDepsOf t i deps = (d : Interface) × (slice_get t.interfaces.all i ≡ Some d) × ((j : ℕ) → Has deps j ↔ IsInterfaceDep t.types d j)

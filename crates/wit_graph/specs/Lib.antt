@@ -1,6 +1,2 @@
-pub mod Faults
-pub mod Own
-pub mod Interfaces
-pub mod Parts
 pub mod Graph
 pub mod Push

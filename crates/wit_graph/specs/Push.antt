@@ -6,6 +6,7 @@ use Rattle.indexmap.specs.IndexMap.{insert_entry}
 use Rattle.wit_words.specs.declared.source_map.Span.{Span}
 use Rattle.wit_order.specs.Order.{Has}
 use Rattle.wit_types.specs.declared.docs.Docs.{Docs}
+use Rattle.wit_types.specs.declared.interface.Interface.{Interface}
 use Rattle.wit_types.specs.declared.interface.TypeDef.{TypeDef}
 use Rattle.wit_types.specs.declared.world.World.{World}
 use Rattle.wit_types.specs.declared.«package».Package.{Package}
@@ -26,14 +27,14 @@ use Rattle.wit_resources.specs.declared.natures.Nature.{Nature}
 use Rattle.wit_plans.specs.declared.plans.Sizes.{Sizes}
 use Rattle.wit_graph_worlds.specs.declared.worlds.WorldFault.{WorldFault}
 use Rattle.wit_graph_worlds.specs.declared.worlds.WorldFault.TheVariants as world
-use Rattle.wit_graph.specs.Own.{own_parts}
-use Rattle.wit_graph.specs.Interfaces.{Interfaces, HasGrown}
+use Rattle.wit_graph_parts.specs.Own.{own_parts}
+use Rattle.wit_graph_parts.specs.Interfaces.{Interfaces, HasGrown}
 use Rattle.wit_graph_worlds.specs.Names.{IsSameName}
-use Rattle.wit_graph.specs.Parts.{AreTypesAdded, TypesBreak, AreInterfacesAdded, InterfacesBreak, AreWorldsAdded, WorldsBreak, AreWorldsRefused}
+use Rattle.wit_graph_parts.specs.Parts.{AreTypesAdded, TypesBreak, AreInterfacesAdded, InterfacesBreak, AreWorldsAdded, WorldsBreak, AreWorldsRefused}
 use Rattle.wit_graph.specs.Graph.{Graph, Items, items_of, AreItemsWhole, sizes}
 use Rattle.wit_graph.specs.declared.tables.Tables.{Tables}
-use Rattle.wit_graph.specs.declared.fault.PushFault.{PushFault}
-use Rattle.wit_graph.specs.declared.fault.PushFault.TheVariants.{GateVersion, DuplicatePackage, PackageNotFound, ItemNotFound, IncludeClash, ExportConflict, ForeignShape, OutOfMemory}
+use Rattle.wit_graph_parts.specs.declared.fault.PushFault.{PushFault}
+use Rattle.wit_graph_parts.specs.declared.fault.PushFault.TheVariants.{GateVersion, DuplicatePackage, PackageNotFound, ItemNotFound, IncludeClash, ExportConflict, ForeignShape, OutOfMemory}
 
 -- ---- all that it holds
 
@@ -83,6 +84,19 @@ pub record HaveGrown (old new : Tables) : Type 0 where
   pub elaborated : List World
   pub elaborated_are : new.worlds.elaborated ≡ old.worlds.elaborated ++ elaborated
   pub packages_are : new.packages ≡ old.packages
+
+-- what was there is there under its ids, with more behind
+pub record HasMore (old new : Tables) : Type 0 where
+  pub types : List TypeDef
+  pub types_are : new.types ≡ old.types ++ types
+  pub interfaces : List Interface
+  pub interfaces_are : new.interfaces.all ≡ old.interfaces.all ++ interfaces
+  pub listed : List World
+  pub listed_are : new.worlds.listed ≡ old.worlds.listed ++ listed
+  pub elaborated : List World
+  pub elaborated_are : new.worlds.elaborated ≡ old.worlds.elaborated ++ elaborated
+  pub packages : List Package
+  pub packages_are : new.packages ≡ old.packages ++ packages
 
 -- the first so many alone
 abbrev pub cut : Sizes → Tables → Tables

@@ -1,6 +1,8 @@
 //! Graphs of packages.
 
-ghost use Rattle.std.specs.Prelude.{◌≡◌, [], true, false, length, IfOk, IfErr, OnErr, OnOk, is_some};
+ghost use Rattle.std.specs.declared.alloc.Global.{Global};
+ghost use Rattle.std.specs.Prelude.{◌≡◌, ◌<◌, ℕ, [], Vec, get_or, true, false, Some, length, IfOk, IfErr, IfSome, OnErr, OnOk, is_some};
+ghost use Rattle.wit_reach.specs.Deps.{IsDepOf};
 ghost use Rattle.std.specs.Map.{lookup};
 ghost use Rattle.wit_types.specs.declared.«package».PackageName.{PackageName};
 ghost use Rattle.wit_features.specs.Gates.{of_package, AreOnTime};
@@ -8,28 +10,27 @@ ghost use Rattle.wit_moves.specs.Plan.{OwnerPlaces as Owners};
 ghost use Rattle.wit_moves.specs.View.{owners};
 ghost use Rattle.wit_plans.specs.Plans.{IsPlanned, IsPlanCause};
 ghost use Rattle.wit_placed.specs.There.{AreBelow};
-ghost use Rattle.wit_graph.specs.Own.{IsWellFormed, parts};
-ghost use Rattle.wit_graph.specs.Graph.{nothing, items_of, sizes as sizes_of};
+ghost use Rattle.wit_graph_parts.specs.Own.{IsWellFormed, parts};
+ghost use Rattle.wit_graph.specs.Graph.{IsDepsOf, IsGraph, nothing, items_of, sizes as sizes_of};
 ghost use Rattle.wit_graph.specs.Push as spec;
 
-use crate::fault::PushFault;
-use crate::own::{Own, OwnParts, own_of};
 use crate::push::{Outcome, pushed};
 use crate::tables::{Tables, no_tables, sizes};
-use crate::worlds::Move;
 use indexmap::IndexMap;
 use std::alloc::{AllocError, Global};
 use std::marker::Model;
 use std::mem;
 use wit_features::{Features, check_gates};
 use wit_finding::{Known, foreign_places};
+use wit_graph_parts::{Move, Own, OwnParts, PushFault, own_of};
 use wit_graph_worlds::copied_name;
 use wit_moves::{MoveFault, OwnerPlaces};
 use wit_placed::law_found_are_there;
 use wit_plans::{Parts, Plan, plan_of};
+use wit_reach::type_interface_dep;
 use wit_types::{
-    Arena, Interface, InterfaceId, Package, PackageId, PackageName, TypeDef, UnresolvedPackage,
-    World,
+    Arena, Interface, InterfaceId, Package, PackageId, PackageName, TypeDef, TypeId,
+    UnresolvedPackage, World,
 };
 
 /// Refuses a package of which the name is there, or in which an item is stable from a version on that it hasn't reached.
@@ -76,6 +77,14 @@ fn plan_in(
         foreign,
         &parts,
     )
+}
+
+/// The row at a place.
+fn row_at(rows: &[Vec<InterfaceId>], place: usize) -> &[InterfaceId]
+    requires { place < length rows.now }
+    ensures { (r : Vec ℕ Global) × (r ≡ get_or rows.now place r) × (result.now ≡ r.items) }
+{
+    rows[place].as_slice()
 }
 
 /// A graph of packages (WIT, Packages).
@@ -153,6 +162,31 @@ impl Graph {
         &self.names
     }
 
+    /// What holds of each graph: all that it names is there, types are made of earlier ones, and interfaces use types of those before
+    /// them alone.
+    pub fn law_is_graph(&self)
+        ensures { IsGraph self.now }
+    {
+        let _ = &self.tables;
+    }
+
+    /// The interfaces of which an interface uses types, by rising ids, which are lower than its own (WIT, Use).
+    pub fn interface_direct_deps(&self, id: InterfaceId) -> &[InterfaceId]
+        requires { id < length self.now.tables.interfaces.all }
+        ensures { IsDepsOf self.now.tables id result.now }
+    {
+        row_at(self.tables.interfaces.uses(), id.index())
+    }
+
+    /// The interface of which a type is used under another name by the one with that id, if it is one's (WIT, Use).
+    pub fn type_interface_dep(&self, id: TypeId) -> Option<InterfaceId>
+        requires { id < length self.now.tables.types }
+        ensures some { IfSome result (IsDepOf self.now.tables.types id) }
+        ensures all { (j : ℕ) → IsDepOf self.now.tables.types id j → result ≡ Some j }
+    {
+        type_interface_dep(&self.tables.types, id)
+    }
+
     /// Puts a package behind the others, of which all has its place. Where it is refused nothing changes.
     fn put(
         &mut self,
@@ -164,6 +198,7 @@ impl Graph {
         requires fresh { is_some (lookup (⟦<PackageName as PartialEq>⟧.eq own.name) self.old.names) ≡ false }
         requires ready { (foreign : Owners) × spec.IsReady features.now (items_of self.old.tables) foreign (parts own.parts) (owners plan.now.owners) plan.now.types }
         ensures ok { IfOk result (spec.IsPut ⟦<PackageName as PartialEq>⟧.eq features.now own.name own.docs (owners plan.now.owners) plan.now.types (parts own.parts) self.old self.new) }
+        ensures more { OnOk result (spec.HasMore self.old.tables self.new.tables) }
         ensures cause { IfErr result (spec.IsPartsCause features.now (length self.old.tables.packages) (owners plan.now.owners) plan.now.types (parts own.parts) (items_of self.old.tables)) }
         ensures err { OnErr result (self.new ≡ self.old) }
     {
@@ -198,6 +233,7 @@ impl Graph {
     ) -> Result<PackageId, PushFault>
         requires { IsWellFormed «package» }
         ensures ok { IfOk result (spec.IsPushed ⟦<PackageName as PartialEq>⟧.eq features.now self.old «package» self.new) }
+        ensures more { OnOk result (spec.HasMore self.old.tables self.new.tables) }
         ensures cause { IfErr result (spec.IsPushCause ⟦<PackageName as PartialEq>⟧.eq features.now self.old «package») }
         ensures err { OnErr result (self.new ≡ self.old) }
     {

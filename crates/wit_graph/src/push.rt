@@ -8,21 +8,18 @@ ghost use Rattle.wit_types.specs.declared.world.World.{World};
 ghost use Rattle.wit_moves.specs.Plan.{OwnerPlaces};
 ghost use Rattle.wit_moves.specs.View.{owners};
 ghost use Rattle.wit_resources.specs.declared.natures.Nature.{Nature};
-ghost use Rattle.wit_graph.specs.Own.{parts};
-ghost use Rattle.wit_graph.specs.Interfaces.{HasGrown};
+ghost use Rattle.wit_graph_parts.specs.Own.{parts};
+ghost use Rattle.wit_graph_parts.specs.Interfaces.{HasGrown};
 ghost use Rattle.wit_graph.specs.Graph.{AreItemsWhole, AreWhole, items, items_of};
-ghost use Rattle.wit_graph.specs.declared.fault.PushFault.TheVariants.{OutOfMemory};
-ghost use Rattle.wit_placed.specs.Found.{ArePackagesThere};
+ghost use Rattle.wit_graph_parts.specs.declared.fault.PushFault.TheVariants.{OutOfMemory};
 ghost use Rattle.wit_graph.specs.Push as spec;
 
-use crate::fault::PushFault;
-use crate::interfaces::Interfaces;
-use crate::own::{Own, OwnParts};
 use crate::tables::{Tables, sizes};
-use crate::types::add_types;
-use crate::worlds::{Move, add_interfaces, add_own_worlds};
 use indexmap::IndexMap;
 use std::alloc::Global;
+use wit_graph_parts::{
+    Interfaces, Move, Own, OwnParts, PushFault, add_interfaces, add_own_worlds, add_types,
+};
 use wit_graph_worlds::Worlds;
 use wit_moved_trees::law_moved_types_are_backward;
 use wit_placed::{
@@ -151,9 +148,10 @@ fn cut(tables: Tables, so_many: Sizes) -> Tables
 fn added(alloc: Global, tables: Tables, by: &Move, own: Own) -> Outcome
     requires ready { (foreign : OwnerPlaces) × spec.IsReady by.now.features.now (items_of tables) foreign (parts own.parts) (owners by.now.plan.now.owners) by.now.plan.now.types }
     requires owner { by.now.owner ≡ length tables.packages }
-    requires packages { ArePackagesThere (length tables.interfaces.all) (length tables.worlds.listed) tables.packages }
+    requires whole { AreWhole tables }
     ensures ok { OnOk result.done (spec.IsAdded by.now.features.now own.name own.docs (owners by.now.plan.now.owners) by.now.plan.now.types (parts own.parts) tables result.tables) }
     ensures whole { OnOk result.done (AreWhole result.tables) }
+    ensures more { OnOk result.done (spec.HasMore tables result.tables) }
     ensures cause { IfErr result.done (spec.IsPartsCause by.now.features.now by.now.owner (owners by.now.plan.now.owners) by.now.plan.now.types (parts own.parts) (items_of tables)) }
     ensures err { OnErr result.done (spec.HaveGrown tables result.tables) }
 {
@@ -189,9 +187,10 @@ fn added(alloc: Global, tables: Tables, by: &Move, own: Own) -> Outcome
 pub fn pushed(alloc: Global, tables: Tables, by: &Move, own: Own) -> Outcome
     requires ready { (foreign : OwnerPlaces) × spec.IsReady by.now.features.now (items_of tables) foreign (parts own.parts) (owners by.now.plan.now.owners) by.now.plan.now.types }
     requires owner { by.now.owner ≡ length tables.packages }
-    requires packages { ArePackagesThere (length tables.interfaces.all) (length tables.worlds.listed) tables.packages }
+    requires whole { AreWhole tables }
     ensures ok { OnOk result.done (spec.IsAdded by.now.features.now own.name own.docs (owners by.now.plan.now.owners) by.now.plan.now.types (parts own.parts) tables result.tables) }
     ensures whole { OnOk result.done (AreWhole result.tables) }
+    ensures more { OnOk result.done (spec.HasMore tables result.tables) }
     ensures cause { IfErr result.done (spec.IsPartsCause by.now.features.now by.now.owner (owners by.now.plan.now.owners) by.now.plan.now.types (parts own.parts) (items_of tables)) }
     ensures err { OnErr result.done (result.tables ≡ tables) }
 {

@@ -3,8 +3,8 @@
 ghost use Rattle.std.specs.Prelude.{◌≡◌, [], length};
 ghost use Rattle.wit_graph.specs.Graph as spec;
 
-use crate::interfaces::Interfaces;
 use std::alloc::Global;
+use wit_graph_parts::Interfaces;
 use wit_graph_worlds::Worlds;
 use wit_plans::Sizes;
 use wit_resources::Natures;

@@ -2,8 +2,8 @@ use Rattle.std.proofs.Common.{◌≡◌, ℕ, inl, subst, ◌∙◌, arith, leng
 use Rattle.std.proofs.lemmas.Result.{err_from_is_err_and}
 use Rattle.wit_moves.specs.View.{owners}
 use Rattle.wit_graph.specs.Graph.{items}
-use Rattle.wit_graph.specs.Own.{parts}
-use Rattle.wit_graph.specs.Parts.{AreTypesAdded}
+use Rattle.wit_graph_parts.specs.Own.{parts}
+use Rattle.wit_graph_parts.specs.Parts.{AreTypesAdded}
 use Rattle.wit_graph.proofs.Readying.{types_backward, types_below, uses_long, backward_uses, sound, among, whole}
 use Rattle.wit_graph.proofs.Refusing.{interfaces_refused, worlds_refused, grown_twice, known_first}
 use Rattle.wit_graph.proofs.push.add_parts.Goals as goal

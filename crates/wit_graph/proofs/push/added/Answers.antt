@@ -1,12 +1,14 @@
-use Rattle.std.proofs.Common.{◌≡◌, ◌⊎◌, ℕ, inl, inr, Err, length, sym, subst}
+use Rattle.std.proofs.Common.{◌≡◌, ◌⊎◌, ℕ, List, [], ◌∷◌, inl, inr, Err, length, sym, subst}
 use Rattle.std.proofs.lemmas.Result.{on_ok_weaker, IfErr-weaker}
 use Rattle.wit_moves.specs.View.{owners}
+use Rattle.wit_types.specs.declared.«package».Package.{Package}
+use Rattle.wit_names.specs.Names.{ArePackagesKnown}
 use Rattle.wit_placed.specs.Found.{ArePackagesThere}
 use Rattle.wit_graph.specs.Graph.{items, items_of, AreItemsWhole}
-use Rattle.wit_graph.specs.Own.{parts}
+use Rattle.wit_graph_parts.specs.Own.{parts}
 use Rattle.wit_graph.specs.Push.{ArePartsAdded, IsPartsCause}
-use Rattle.wit_graph.specs.declared.fault.PushFault.TheVariants.{OutOfMemory}
-use Rattle.wit_graph.proofs.Finishing.{if_ok_at, if_err_at, on_ok_at, on_err_map, packages_there}
+use Rattle.wit_graph_parts.specs.declared.fault.PushFault.TheVariants.{OutOfMemory}
+use Rattle.wit_graph.proofs.Finishing.{if_ok_at, if_err_at, on_ok_at, on_err_map, packages_there, owners_known}
 use Rattle.wit_graph.proofs.push.added.Goals as goal
 
 pub returns-clause-ok : goal.returns-clause-ok
@@ -23,10 +25,15 @@ returns-clause-ok c = on_ok_weaker c.put_named-done.result (λ h. record {
 pub returns-clause-whole : goal.returns-clause-whole
 returns-clause-whole c = on_ok_weaker c.put_named-done.result (λ h. record {
   whole = on_ok_at c.add_parts-names.result h.0 (AreItemsWhole (items c.add_parts-names.new.types c.add_parts-names.new.natures c.add_parts-names.new.interfaces c.add_parts-names.new.worlds)) h.1 c.add_parts-names.ensures.whole;
+  owners_are =
+      subst (λ (ps : List Package). ArePackagesKnown ps c.add_parts-names.new.interfaces.all) (sym h.2.2)
+      (owners_known c.args.by.now.features.now c.args.by.now.owner (owners c.args.by.now.plan.now.owners) c.args.by.now.plan.now.types (parts c.args.own.parts) (items_of c.args.tables) (items c.add_parts-names.new.types c.add_parts-names.new.natures c.add_parts-names.new.interfaces c.add_parts-names.new.worlds) h.0.interfaces.entries h.0.worlds.entries
+      (if_ok_at c.add_parts-names.result h.0 (λ names. ArePartsAdded c.args.by.now.features.now c.args.by.now.owner (owners c.args.by.now.plan.now.owners) c.args.by.now.plan.now.types (parts c.args.own.parts) (items_of c.args.tables) (items c.add_parts-names.new.types c.add_parts-names.new.natures c.add_parts-names.new.interfaces c.add_parts-names.new.worlds) names.interfaces.entries names.worlds.entries) h.1 c.add_parts-names.ensures.ok)
+      c.args.tables.packages h.2.0 c.requires.owner c.requires.whole.owners_are);
   packages_are = subst (ArePackagesThere (length c.add_parts-names.new.interfaces.all) (length c.add_parts-names.new.worlds.listed)) (sym h.2.2)
       (packages_there c.args.by.now.features.now c.args.by.now.owner (owners c.args.by.now.plan.now.owners) c.args.by.now.plan.now.types (parts c.args.own.parts) (items_of c.args.tables) (items c.add_parts-names.new.types c.add_parts-names.new.natures c.add_parts-names.new.interfaces c.add_parts-names.new.worlds) h.0.interfaces.entries h.0.worlds.entries
       (if_ok_at c.add_parts-names.result h.0 (λ names. ArePartsAdded c.args.by.now.features.now c.args.by.now.owner (owners c.args.by.now.plan.now.owners) c.args.by.now.plan.now.types (parts c.args.own.parts) (items_of c.args.tables) (items c.add_parts-names.new.types c.add_parts-names.new.natures c.add_parts-names.new.interfaces c.add_parts-names.new.worlds) names.interfaces.entries names.worlds.entries) h.1 c.add_parts-names.ensures.ok)
-      c.args.tables.packages h.2.0 c.requires.packages h.2.1.interfaces_are h.2.1.worlds_are);
+      c.args.tables.packages h.2.0 c.requires.whole.packages_are h.2.1.interfaces_are h.2.1.worlds_are);
 }) c.put_named-done.ensures.ok
 
 pub returns-clause-cause : goal.returns-clause-cause
@@ -49,3 +56,17 @@ returns-clause-err c = on_err_map c.put_named-done.result (c.put_named-done.new.
   elaborated_are = c.add_parts-names.ensures.elaborated_grown.1;
   packages_are = same;
 })
+
+pub returns-clause-more : goal.returns-clause-more
+returns-clause-more c = on_ok_weaker c.put_named-done.result (λ h. record {
+  types = c.add_parts-names.ensures.types_grown.0;
+  types_are = c.add_parts-names.ensures.types_grown.1;
+  interfaces = c.add_parts-names.ensures.interfaces_grown.all;
+  interfaces_are = c.add_parts-names.ensures.interfaces_grown.all_are;
+  listed = c.add_parts-names.ensures.listed_grown.0;
+  listed_are = c.add_parts-names.ensures.listed_grown.1;
+  elaborated = c.add_parts-names.ensures.elaborated_grown.0;
+  elaborated_are = c.add_parts-names.ensures.elaborated_grown.1;
+  packages = h.2.0 ∷ [];
+  packages_are = h.2.2;
+}) c.put_named-done.ensures.ok

@@ -5,7 +5,7 @@ use Rattle.wit_moves.specs.View.{owners}
 use Rattle.wit_finding.specs.Foreign.{AreForeignPlaces}
 use Rattle.wit_plans.specs.Plans.{IsPlanned, IsPlanCause}
 use Rattle.wit_graph.specs.Graph.{Graph, AreWhole, items_of, sizes}
-use Rattle.wit_graph.specs.Own.{parts}
+use Rattle.wit_graph_parts.specs.Own.{parts}
 use Rattle.wit_graph.specs.Push.{IsPartsCause, IsPushCause}
 use Rattle.wit_graph.proofs.Finishing.{found_below, parts_are, ready, plan_refused, put_refused}
 use Rattle.wit_graph.proofs.graph.Graph.push.Goals as goal

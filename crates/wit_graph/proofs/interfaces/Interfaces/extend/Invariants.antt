@@ -1,8 +1,0 @@
-use Rattle.std.proofs.Common.{◌≡◌, ◌++◌, List}
-use Rattle.wit_types.specs.declared.interface.Interface.{Interface}
-use Rattle.wit_graph.specs.Interfaces as spec
-use Rattle.wit_graph.proofs.interfaces.Interfaces.extend.Given as goal
-
-abbrev pub invariant-loop-interface : goal.invariant-loop-interface
-invariant-loop-interface l =
-    (done : List Interface) × (l.fn.interfaces.items ≡ done ++ l.interface-iterator.rest.items) × spec.AreAdded l.types done l.initial.self l.self

@@ -1,0 +1,4 @@
+pub mod Faults
+pub mod Own
+pub mod Interfaces
+pub mod Parts
