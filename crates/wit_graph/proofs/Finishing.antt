@@ -32,7 +32,7 @@ use Rattle.wit_resources.specs.declared.natures.Nature.{Nature}
 use Rattle.wit_graph_worlds.specs.Added as worlds
 use Rattle.wit_graph_worlds.specs.Worlds.{State}
 use Rattle.wit_graph_parts.specs.Faults.{of_moved}
-use Rattle.wit_graph.specs.Graph.{Graph, IsGraph, Items, items_of, AreItemsWhole, AreWhole, nothing, sizes}
+use Rattle.wit_graph.specs.Graph.{Graph, IsGraph, Items, items_of, AreWhole, nothing, sizes}
 use Rattle.wit_graph_parts.specs.Interfaces.{no_rows}
 use Rattle.wit_graph_worlds.specs.Names.{Pair, by_bytes, name_at, interface_names, world_names, AreNames}
 use Rattle.wit_graph_parts.specs.Own.{asked, own_parts, parts_behind, IsWellFormed}
@@ -83,6 +83,8 @@ nothing_is_graph t names te ne =
           };
           interfaces_are = λ d h. absurd h;
         };
+        closures_are = refl;
+        reached = λ i x at. absurd cc;
         owners_are = λ i p d h o. absurd cc;
         packages_are = λ p h. absurd h;
       };
@@ -203,27 +205,29 @@ from_long done (d ∷ ds) =
 back : {X : Type 0} (n : ℕ) (xs ys more : List X) → length xs ≡ n → ys ≡ xs ++ more → take n ys ≡ xs
 back {X} n xs ys more l e = ap (λ (k : ℕ). take k ys) (sym l) ∙ ap (take (length xs)) e ∙ take_grown xs more
 
-tables_same : (a : Tables) (types : List TypeDef) (ns : List Nature) (all : List Interface) (uses : Rows) (listed elaborated : List World) (packages : List Package)
-    → types ≡ a.types → ns ≡ a.natures → all ≡ a.interfaces.all → uses ≡ a.interfaces.uses → listed ≡ a.worlds.listed → elaborated ≡ a.worlds.elaborated → packages ≡ a.packages
-    → record { types = types; natures = ns; interfaces = record { all = all; uses = uses }; worlds = record { listed = listed; elaborated = elaborated }; packages = packages } ≡ a
-tables_same a types ns all uses listed elaborated packages e1 e2 e3 e4 e5 e6 e7 =
-    ap (λ (x : List TypeDef). make x ns all uses listed elaborated packages) e1 ∙ ap (λ (x : List Nature). make a.types x all uses listed elaborated packages) e2
-    ∙ ap (λ (x : List Interface). make a.types a.natures x uses listed elaborated packages) e3 ∙ ap (λ (x : Rows). make a.types a.natures a.interfaces.all x listed elaborated packages) e4
-    ∙ ap (λ (x : List World). make a.types a.natures a.interfaces.all a.interfaces.uses x elaborated packages) e5 ∙ ap (λ (x : List World). make a.types a.natures a.interfaces.all a.interfaces.uses a.worlds.listed x packages) e6
-    ∙ ap (λ (x : List Package). make a.types a.natures a.interfaces.all a.interfaces.uses a.worlds.listed a.worlds.elaborated x) e7
+tables_same : (a : Tables) (types : List TypeDef) (ns : List Nature) (all : List Interface) (uses : Rows) (closures : List (List ℕ)) (listed elaborated : List World) (packages : List Package)
+    → types ≡ a.types → ns ≡ a.natures → all ≡ a.interfaces.all → uses ≡ a.interfaces.uses → closures ≡ a.closures → listed ≡ a.worlds.listed → elaborated ≡ a.worlds.elaborated → packages ≡ a.packages
+    → record { types = types; natures = ns; interfaces = record { all = all; uses = uses }; closures = closures; worlds = record { listed = listed; elaborated = elaborated }; packages = packages } ≡ a
+tables_same a types ns all uses closures listed elaborated packages e1 e2 e3 e4 e5 e6 e7 e8 =
+    ap (λ (x : List TypeDef). make x ns all uses closures listed elaborated packages) e1 ∙ ap (λ (x : List Nature). make a.types x all uses closures listed elaborated packages) e2
+    ∙ ap (λ (x : List Interface). make a.types a.natures x uses closures listed elaborated packages) e3 ∙ ap (λ (x : Rows). make a.types a.natures a.interfaces.all x closures listed elaborated packages) e4
+    ∙ ap (λ (x : List (List ℕ)). make a.types a.natures a.interfaces.all a.interfaces.uses x listed elaborated packages) e5
+    ∙ ap (λ (x : List World). make a.types a.natures a.interfaces.all a.interfaces.uses a.closures x elaborated packages) e6 ∙ ap (λ (x : List World). make a.types a.natures a.interfaces.all a.interfaces.uses a.closures a.worlds.listed x packages) e7
+    ∙ ap (λ (x : List Package). make a.types a.natures a.interfaces.all a.interfaces.uses a.closures a.worlds.listed a.worlds.elaborated x) e8
   where
-    make : List TypeDef → List Nature → List Interface → Rows → List World → List World → List Package → Tables
-    make x y z u v w q = record { types = x; natures = y; interfaces = record { all = z; uses = u }; worlds = record { listed = v; elaborated = w }; packages = q }
+    make : List TypeDef → List Nature → List Interface → Rows → List (List ℕ) → List World → List World → List Package → Tables
+    make x y z u k v w q = record { types = x; natures = y; interfaces = record { all = z; uses = u }; closures = k; worlds = record { listed = v; elaborated = w }; packages = q }
 
-pub taken_back : (old new : Tables) → AreItemsWhole (items_of old) → HaveGrown old new → cut (sizes (items_of old)) new ≡ old
+pub taken_back : (old new : Tables) → AreWhole old → HaveGrown old new → cut (sizes (items_of old)) new ≡ old
 taken_back old new whole grown =
-    tables_same old _ _ _ _ _ _ _
+    tables_same old _ _ _ _ _ _ _ _
     (back (length old.types) old.types new.types grown.types refl grown.types_are)
-    (back (length old.types) old.natures new.natures grown.known (ap (λ (ns : List Nature). length ns) whole.natures_are ∙ from_long [] old.types ∙ (let e : 0 + length old.types ≡ length old.types = omega arith in e)) grown.natures_are)
+    (back (length old.types) old.natures new.natures grown.known (ap (λ (ns : List Nature). length ns) whole.whole.natures_are ∙ from_long [] old.types ∙ (let e : 0 + length old.types ≡ length old.types = omega arith in e)) grown.natures_are)
     (back (length old.interfaces.all) old.interfaces.all new.interfaces.all grown.interfaces_are.all refl grown.interfaces_are.all_are)
-    (back (length old.interfaces.all) old.interfaces.uses new.interfaces.uses grown.interfaces_are.uses (rows_long old.types old.interfaces.all old.interfaces.uses whole.rows) grown.interfaces_are.uses_are)
+    (back (length old.interfaces.all) old.interfaces.uses new.interfaces.uses grown.interfaces_are.uses (rows_long old.types old.interfaces.all old.interfaces.uses whole.whole.rows) grown.interfaces_are.uses_are)
+    (back (length old.interfaces.all) old.closures new.closures grown.closures (whole.closures_are ∙ rows_long old.types old.interfaces.all old.interfaces.uses whole.whole.rows) grown.closures_are)
     (back (length old.worlds.listed) old.worlds.listed new.worlds.listed grown.listed refl grown.listed_are)
-    (back (length old.worlds.listed) old.worlds.elaborated new.worlds.elaborated grown.elaborated whole.sound.so_many grown.elaborated_are)
+    (back (length old.worlds.listed) old.worlds.elaborated new.worlds.elaborated grown.elaborated whole.whole.sound.so_many grown.elaborated_are)
     grown.packages_are
 
 -- ---- names of packages

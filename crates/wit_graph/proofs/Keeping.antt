@@ -126,7 +126,7 @@ row_at types _ _ no_rows i r l e = absurd (omega arith)
 row_at types _ _ (rows_and d x is rs one rest) zero r l e = (d, refl, subst (IsRow types d) (sym e) one)
 row_at types _ _ (rows_and d x is rs one rest) (suc i) r l e = row_at types is rs rest i r (omega arith) e
 
-row_of : (types : List TypeDef) (is : List Interface) (rs : Rows) → AreRows types is rs → (i j : ℕ) → Has (row rs i) j → (d : Interface) × (slice_get is i ≡ Some d) × IsInterfaceDep types d j
+pub row_of : (types : List TypeDef) (is : List Interface) (rs : Rows) → AreRows types is rs → (i j : ℕ) → Has (row rs i) j → (d : Interface) × (slice_get is i ≡ Some d) × IsInterfaceDep types d j
 row_of types _ _ no_rows i j h = absurd h
 row_of types _ _ (rows_and d r is rs row rest) zero j h = (d, refl, (row j).0 h)
 row_of types _ _ (rows_and d r is rs row rest) (suc i) j h = row_of types is rs rest i j h

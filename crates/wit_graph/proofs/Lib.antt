@@ -2,3 +2,4 @@ mod Keeping
 mod Readying
 mod Refusing
 mod Finishing
+mod Closing

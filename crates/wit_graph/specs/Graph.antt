@@ -1,7 +1,9 @@
 -- Graphs of packages (WIT, Packages).
-use Rattle.std.specs.Prelude.{◌≡◌, ◌↔◌, ℕ, ◌<◌, List, [], Some, length, slice_get}
+use Rattle.std.specs.Prelude.{◌≡◌, ◌↔◌, ℕ, ◌<◌, ◌≤◌, List, [], Some, length, slice_get}
 use Rattle.wit_reach.specs.Deps.{IsInterfaceDep}
+use Rattle.wit_reach.specs.Paths.{AreEnds}
 use Rattle.wit_order.specs.Order.{Has}
+use Rattle.wit_closures.specs.Closures.{AreReached}
 use Rattle.wit_types.specs.declared.interface.Interface.{Interface}
 use Rattle.wit_types.specs.declared.interface.TypeDef.{TypeDef}
 use Rattle.wit_types.specs.declared.«package».PackageName.{PackageName}
@@ -22,6 +24,7 @@ nothing = record {
   types = [];
   natures = [];
   interfaces = record { all = []; uses = [] };
+  closures = [];
   worlds = record { listed = []; elaborated = [] };
   packages = [];
 }
@@ -51,9 +54,11 @@ pub record AreItemsWhole (t : Items) : Type 0 where
   pub sound : AreSound (length t.interfaces.all) t.types t.worlds
   pub interfaces_are : (d : Interface) → Has t.interfaces.all d → IsInterfaceThere t.types d
 
--- and all that packages name; interfaces are of packages that are there
+-- what each interface depends on is kept, and so is all that packages name; interfaces are of packages that are there
 pub record AreWhole (t : Tables) : Type 0 where
   pub whole : AreItemsWhole (items_of t)
+  pub closures_are : length t.closures ≡ length t.interfaces.uses
+  pub reached : AreReached t.interfaces.uses t.closures
   pub owners_are : ArePackagesKnown t.packages t.interfaces.all
   pub packages_are : ArePackagesThere (length t.interfaces.all) (length t.worlds.listed) t.packages
 
@@ -69,3 +74,12 @@ pub record IsGraph (g : Graph) : Type 0 where
 -- the interfaces of which the one with that id uses types
 abbrev pub IsDepsOf : Tables → ℕ → List ℕ → Type 0
 IsDepsOf t i deps = (d : Interface) × (slice_get t.interfaces.all i ≡ Some d) × ((j : ℕ) → Has deps j ↔ IsInterfaceDep t.types d j)
+
+-- the one with that id uses a type of the other
+abbrev pub UsesTypesOf : Tables → ℕ → ℕ → Type 0
+UsesTypesOf t i j = (d : Interface) × (slice_get t.interfaces.all i ≡ Some d) × IsInterfaceDep t.types d j
+
+-- what paths of uses from it reach, dependencies first, itself last
+pub record IsClosureOf (t : Tables) (i : ℕ) (closure : List ℕ) : Type 0 where
+  pub ends : AreEnds (UsesTypesOf t) (λ s. s ≡ i) closure
+  pub last : (j : ℕ) → Has closure j → j ≤ i

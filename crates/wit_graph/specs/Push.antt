@@ -79,6 +79,8 @@ pub record HaveGrown (old new : Tables) : Type 0 where
   pub known : List Nature
   pub natures_are : new.natures ≡ old.natures ++ known
   pub interfaces_are : HasGrown old.interfaces new.interfaces
+  pub closures : List (List ℕ)
+  pub closures_are : new.closures ≡ old.closures ++ closures
   pub listed : List World
   pub listed_are : new.worlds.listed ≡ old.worlds.listed ++ listed
   pub elaborated : List World
@@ -104,6 +106,7 @@ cut so_many t = record {
   types = take so_many.types t.types;
   natures = take so_many.types t.natures;
   interfaces = record { all = take so_many.interfaces t.interfaces.all; uses = take so_many.interfaces t.interfaces.uses };
+  closures = take so_many.interfaces t.closures;
   worlds = record { listed = take so_many.worlds t.worlds.listed; elaborated = take so_many.worlds t.worlds.elaborated };
   packages = t.packages;
 }

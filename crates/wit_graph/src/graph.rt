@@ -11,7 +11,7 @@ ghost use Rattle.wit_moves.specs.View.{owners};
 ghost use Rattle.wit_plans.specs.Plans.{IsPlanned, IsPlanCause};
 ghost use Rattle.wit_placed.specs.There.{AreBelow};
 ghost use Rattle.wit_graph_parts.specs.Own.{IsWellFormed, parts};
-ghost use Rattle.wit_graph.specs.Graph.{IsDepsOf, IsGraph, nothing, items_of, sizes as sizes_of};
+ghost use Rattle.wit_graph.specs.Graph.{IsClosureOf, IsDepsOf, IsGraph, nothing, items_of, sizes as sizes_of};
 ghost use Rattle.wit_graph.specs.Push as spec;
 
 use crate::push::{Outcome, pushed};
@@ -170,12 +170,21 @@ impl Graph {
         let _ = &self.tables;
     }
 
-    /// The interfaces of which an interface uses types, by rising ids, which are lower than its own (WIT, Use).
+    /// The interfaces of which an interface uses types, each with a lower id than its own (WIT, Use).
     pub fn interface_direct_deps(&self, id: InterfaceId) -> &[InterfaceId]
         requires { id < length self.now.tables.interfaces.all }
         ensures { IsDepsOf self.now.tables id result.now }
     {
         row_at(self.tables.interfaces.uses(), id.index())
+    }
+
+    /// All on which an interface depends over any number of steps, and itself, by rising ids: each once, dependencies first, itself last
+    /// (WIT, Use).
+    pub fn interface_closure(&self, id: InterfaceId) -> &[InterfaceId]
+        requires { id < length self.now.tables.interfaces.all }
+        ensures { IsClosureOf self.now.tables id result.now }
+    {
+        self.tables.closures.get(id)
     }
 
     /// The interface of which a type is used under another name by the one with that id, if it is one's (WIT, Use).

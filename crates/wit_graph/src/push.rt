@@ -1,6 +1,9 @@
 //! Packages that come to a graph.
 
-ghost use Rattle.std.specs.Prelude.{◌≡◌, ◌⊎◌, ◌++◌, ◌∷◌, [], List, Ok, Err, length, IfOk, IfErr, OnErr, OnOk};
+ghost use Rattle.std.specs.Prelude.{◌≡◌, ◌⊎◌, ◌++◌, ◌∷◌, [], List, ℕ, ◌≤◌, Ok, Err, length, IfOk, IfErr, OnErr, OnOk};
+ghost use Rattle.wit_closures.specs.Closures.{AreReached};
+ghost use Rattle.wit_order.specs.Places.{Needs};
+ghost use Rattle.wit_reach.specs.Paths.{AreBackward};
 ghost use Rattle.wit_types.specs.declared.«package».Package.{Package};
 ghost use Rattle.wit_graph.specs.declared.push.Names.{Names};
 ghost use Rattle.wit_types.specs.declared.interface.TypeDef.{TypeDef};
@@ -17,6 +20,7 @@ ghost use Rattle.wit_graph.specs.Push as spec;
 use crate::tables::{Tables, sizes};
 use indexmap::IndexMap;
 use std::alloc::Global;
+use wit_closures::{Closures, law_reached_stay};
 use wit_graph_parts::{
     Interfaces, Move, Own, OwnParts, PushFault, add_interfaces, add_own_worlds, add_types,
 };
@@ -120,6 +124,27 @@ fn put_named(
     put_package(packages, package_of(name, docs, names))
 }
 
+/// Keeps what the interfaces of a package depend on too, where they are there.
+fn reach(
+    alloc: Global,
+    closures: &mut Closures,
+    uses: &[Vec<InterfaceId>],
+    names: Result<Names, PushFault>,
+) -> Result<Names, PushFault>
+    requires fewer { OnOk names (length closures.old ≤ length uses.now) }
+    requires backward { OnOk names (AreBackward (Needs uses.now)) }
+    requires reached { OnOk names (AreReached uses.now closures.old) }
+    ensures ok { IfOk result (λ n. names ≡ Ok n) }
+    ensures all { OnOk result (length closures.new ≡ length uses.now) }
+    ensures reached { OnOk result (AreReached uses.now closures.new) }
+    ensures cause { IfErr result (λ fault. (names ≡ Err fault) ⊎ (fault ≡ OutOfMemory)) }
+    ensures grown { (more : List (List ℕ)) × (closures.new ≡ closures.old ++ more) }
+{
+    let names = names?;
+    closures.extend(alloc, uses)?;
+    Ok(names)
+}
+
 /// Tables with the first so many of what they hold alone; packages stay.
 fn cut(tables: Tables, so_many: Sizes) -> Tables
     ensures { result ≡ spec.cut so_many tables }
@@ -128,17 +153,20 @@ fn cut(tables: Tables, so_many: Sizes) -> Tables
         mut types,
         mut natures,
         mut interfaces,
+        mut closures,
         mut worlds,
         packages,
     } = tables;
     types.truncate(so_many.types);
     natures.truncate(so_many.types);
     interfaces.truncate(so_many.interfaces);
+    closures.truncate(so_many.interfaces);
     worlds.truncate(so_many.worlds);
     Tables {
         types,
         natures,
         interfaces,
+        closures,
         worlds,
         packages,
     }
@@ -155,10 +183,12 @@ fn added(alloc: Global, tables: Tables, by: &Move, own: Own) -> Outcome
     ensures cause { IfErr result.done (spec.IsPartsCause by.now.features.now by.now.owner (owners by.now.plan.now.owners) by.now.plan.now.types (parts own.parts) (items_of tables)) }
     ensures err { OnErr result.done (spec.HaveGrown tables result.tables) }
 {
+    law_reached_stay();
     let Tables {
         mut types,
         mut natures,
         mut interfaces,
+        mut closures,
         mut worlds,
         mut packages,
     } = tables;
@@ -172,11 +202,13 @@ fn added(alloc: Global, tables: Tables, by: &Move, own: Own) -> Outcome
         by,
         parts,
     );
+    let names = reach(alloc, &mut closures, interfaces.uses(), names);
     let done = put_named(&mut packages, name, docs, names);
     let tables = Tables {
         types,
         natures,
         interfaces,
+        closures,
         worlds,
         packages,
     };

@@ -4,6 +4,7 @@ ghost use Rattle.std.specs.Prelude.{◌≡◌, [], length};
 ghost use Rattle.wit_graph.specs.Graph as spec;
 
 use std::alloc::Global;
+use wit_closures::Closures;
 use wit_graph_parts::Interfaces;
 use wit_graph_worlds::Worlds;
 use wit_plans::Sizes;
@@ -19,6 +20,8 @@ pub struct Tables {
     pub natures: Natures,
     /// Interfaces.
     pub interfaces: Interfaces,
+    /// What each of them depends on.
+    pub closures: Closures,
     /// Worlds.
     pub worlds: Worlds,
     /// Packages.
@@ -33,6 +36,7 @@ pub fn no_tables(alloc: Global) -> Tables
         types: Arena::new(alloc),
         natures: Natures::new(alloc),
         interfaces: Interfaces::new(alloc),
+        closures: Closures::new(alloc),
         worlds: Worlds::new(alloc),
         packages: Arena::new(alloc),
     }

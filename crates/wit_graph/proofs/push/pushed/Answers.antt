@@ -7,4 +7,4 @@ use Rattle.wit_graph.proofs.push.pushed.Goals as goal
 pub returns-in-Err-clause-err : goal.returns-in-Err-clause-err
 returns-in-Err-clause-err c =
     c.cut.ensures ∙ ap (λ (n : Sizes). cut n c.added-tables.result.tables) c.sizes-before.ensures
-    ∙ taken_back c.args.tables c.added-tables.result.tables c.requires.ready.1.whole (on_err_at c.added-tables.result.done c.in-Err.fault (HaveGrown c.args.tables c.added-tables.result.tables) c.in-Err.is c.added-tables.ensures.err)
+    ∙ taken_back c.args.tables c.added-tables.result.tables c.requires.whole (on_err_at c.added-tables.result.done c.in-Err.fault (HaveGrown c.args.tables c.added-tables.result.tables) c.in-Err.is c.added-tables.ensures.err)

@@ -1,0 +1,3 @@
+mod Parting
+mod Next
+mod Reached

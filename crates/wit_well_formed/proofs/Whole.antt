@@ -1,0 +1,139 @@
+-- What is resolved is well formed.
+use Rattle.std.proofs.Common.{◌≡◌, ℕ, ◌+◌, ◌<◌, List, inl, inr, length, length-append, Some, map, refl, sym, subst, ap, ◌∙◌, arith}
+use Rattle.std.proofs.lemmas.Option.{slice_get_within}
+use Rattle.std.specs.Prelude.{slice_get}
+use Rattle.wit_order.specs.Order as order
+use Rattle.wit_types.specs.declared.interface.Interface.{Interface}
+use Rattle.wit_types.specs.declared.world.World.{World}
+use Rattle.wit_types.specs.declared.«package».UnresolvedPackage.{UnresolvedPackage}
+use Rattle.wit_syntax.specs.Ast.{FileTree}
+use Rattle.wit_scopes.specs.Paths.{file_uses}
+use Rattle.wit_scopes.specs.Scopes.{WorldScope, package_scopes}
+use Rattle.wit_rules.specs.Breaks.{IsKept}
+use Rattle.wit_rules.specs.Facts.{IsDeclared, WorldBreaks}
+use Rattle.wit_lookups.specs.Lookups.{LookupsBreak}
+use Rattle.wit_arena.specs.Meaning.{Has, package_text}
+use Rattle.wit_arena.proofs.Lists.{has_right}
+use Rattle.wit_package_types.proofs.Functional.{are_functional}
+use Rattle.wit_foreign.specs.Needs.{NeedTree, needs_in}
+use Rattle.wit_foreign.specs.Items.{interfaces_in, worlds_in}
+use Rattle.wit_interfaces.proofs.Behind.{get_either}
+use Rattle.wit_resolved_scopes.specs.Texts.{worlds_of}
+use Rattle.wit_resolved_scopes.proofs.Orders.{placed}
+use Rattle.wit_readiness.specs.Readiness.{AreReadyInOrder}
+use Rattle.wit_readiness.proofs.Ready.{packages_are_ready}
+use Rattle.wit_readiness.proofs.Parts.{declared_kept, world_keeps}
+use Rattle.wit_reach.specs.Deps.{IsInterfaceDep}
+use Rattle.wit_elaborated.specs.Worlds.{AreKeysOfItems}
+use Rattle.wit_package.specs.TopUses.{files_top_needs, files_need}
+use Rattle.wit_package.specs.Faults.{by_files, by_lookups}
+use Rattle.wit_package.specs.Resolved.{foreign_owners, owners_of, context_of, IsResolved}
+use Rattle.wit_package.specs.Steps.{Resolves}
+use Rattle.wit_graph_parts.specs.Own.{asked, asked_types}
+use Rattle.wit_package.proofs.Owning.{interface_owners_length}
+use Rattle.wit_package.proofs.Finding.{others_of, finds}
+use Rattle.wit_package.proofs.Scoping.{interface_there, world_there}
+use Rattle.wit_well_formed.specs.Law.{SpansAreCounted, UnknownTypesAreThere, AskedItemsAreThere, NamelessTypesAreFree, InterfacesAreInOrder, KeysAreOfItems, ResolvedPackagesAreWellFormed}
+use Rattle.wit_well_formed.proofs.Lists.{got, get_drop, has_drop}
+use Rattle.wit_well_formed.proofs.Nameless.{by_name, nameless_free}
+use Rattle.wit_well_formed.proofs.Counted.{spans_counted, unknown_counted, interface_item, world_item, asks_there}
+use Rattle.wit_well_formed.proofs.Keys.{world_keys}
+use Rattle.wit_well_formed.proofs.Apart.{texts_apart}
+use Rattle.wit_well_formed.proofs.Order.{own_in_order}
+
+pub spans : SpansAreCounted
+spans files p r = (let s = r.resolved in spans_counted s.items (files_need s.me files) p.foreign_deps.entries p.foreign_dep_spans.items s.deps_are)
+
+pub unknown_types : UnknownTypesAreThere
+unknown_types files p r = (let s = r.resolved in unknown_counted s.items (files_need s.me files) s.unknown s.others p.types s.names p.unknown_type_spans.items s.unknown_are s.types_are)
+
+pub asked_items : AskedItemsAreThere
+asked_items files p r =
+    let s = r.resolved in
+    let interfaces : length p.interfaces ≡ length s.foreign_interfaces + length s.own_interfaces = ap length s.interfaces_are ∙ length-append s.foreign_interfaces s.own_interfaces in
+    let worlds : length p.worlds ≡ length s.foreign_worlds + length s.own_worlds = ap length s.worlds_are ∙ length-append s.foreign_worlds s.own_worlds in
+    let so_many : length s.foreign_interfaces ≡ interfaces_in s.items = s.foreign_are.so_many_interfaces in
+    let so_many_worlds : length s.foreign_worlds ≡ worlds_in s.items = s.foreign_are.so_many_worlds in
+    asks_there (files_need s.me files) s.items s.items_are p.interfaces p.worlds (omega (arith, interfaces, so_many)) (omega (arith, worlds, so_many_worlds)) p.foreign_deps.entries p.foreign_dep_spans.items s.deps_are
+
+pub nameless_types : NamelessTypesAreFree
+nameless_types files p others r k d at none = (let s = r.resolved in nameless_free _ p.types (s.whole by_name) (others + k) d (get_drop others p.types k d at) none)
+
+-- ---- worlds
+
+module _ (files : List FileTree) (p : UnresolvedPackage) (s : IsResolved files p) where
+  world_keys_are : (k : ℕ) (w : World) → slice_get p.worlds k ≡ Some w → AreKeysOfItems w.imports.entries
+  world_keys_are k w at = elim (get_either s.foreign_worlds s.own_worlds k w (subst (λ (ws : List World). slice_get ws k ≡ Some w) s.worlds_are at)) as (λ _. AreKeysOfItems w.imports.entries) [
+    | inl other ↦
+        let within : k < length s.foreign_worlds = slice_get_within s.foreign_worlds k w other in
+        let so_many : length s.foreign_worlds ≡ worlds_in s.items = s.foreign_are.so_many_worlds in
+        let item = world_item (files_need s.me files) s.items s.items_are k (omega (arith, within, so_many)) in
+        subst AreKeysOfItems (sym (s.foreign_are.worlds item.0 k w item.1 other).imports) tt
+    | inr o ↦
+        let within : o.0 < length s.own_worlds = slice_get_within s.own_worlds o.0 w o.2 in
+        let so_many : length s.own_worlds ≡ length (worlds_of s.sorted) = s.own_worlds_are.so_many in
+        let t = got (worlds_of s.sorted) o.0 (omega (arith, within, so_many)) in
+        world_keys (context_of s.me files s.items s.sorted) p.types t.0 (length s.foreign_worlds + o.0) w (s.own_worlds_are.each o.0 t.0 w t.1 o.2)
+  ]
+
+pub keys : KeysAreOfItems
+keys files p others r w has =
+    let h = placed p.worlds w (has_drop others p.worlds w has) in
+    world_keys_are files p r.resolved h.0 w h.1
+
+-- ---- interfaces
+
+module _ (files : List FileTree) (p : UnresolvedPackage) (r : Resolves files p) where
+  declared : IsDeclared files r.resolved.me (package_scopes r.resolved.me files)
+  declared = record { named = r.resolved.named; scopes_are = refl; kept = λ rule at b. r.kept rule at (by_files b) }
+
+  looked_up : IsKept (LookupsBreak r.resolved.me (file_uses files) (package_scopes r.resolved.me files))
+  looked_up rule at b = r.kept rule at (by_lookups r.resolved.me r.resolved.named b)
+
+  all_needed : (n : NeedTree) → Has (needs_in (package_scopes r.resolved.me files)) n → Has (files_need r.resolved.me files) n
+  all_needed n has = has_right (files_top_needs r.resolved.me (needs_in (package_scopes r.resolved.me files)) (file_uses files)) (needs_in (package_scopes r.resolved.me files)) n has
+
+  ready : AreReadyInOrder (package_scopes r.resolved.me files) r.resolved.sorted (others_of r.resolved.items r.resolved.names)
+  ready =
+      let s = r.resolved in
+      packages_are_ready files s.me (package_scopes s.me files) s.sorted (others_of s.items s.names) declared looked_up s.are_sorted
+      (finds (package_scopes s.me files) (files_need s.me files) all_needed s.items s.items_are s.unknown s.names p.unknown_type_spans.items s.unknown_are)
+
+  world_kept : (w : WorldScope) → Has (worlds_of r.resolved.sorted) w → IsKept (WorldBreaks w.members)
+  world_kept w has =
+      let s = r.resolved in
+      world_keeps (package_scopes s.me files) (declared_kept files s.me (package_scopes s.me files) declared) w (world_there (package_scopes s.me files) s.sorted s.are_sorted w has)
+
+  own_before : (m j : ℕ) (d : Interface) → slice_get r.resolved.own_interfaces m ≡ Some d → IsInterfaceDep p.types d j → j < length r.resolved.foreign_interfaces + m
+  own_before m j d at dep =
+      let s = r.resolved in
+      own_in_order (package_scopes s.me files) s.sorted (others_of s.items s.names) (are_functional (package_scopes s.me files) (declared_kept files s.me (package_scopes s.me files) declared))
+      (interface_there (package_scopes s.me files) s.sorted s.are_sorted) (world_there (package_scopes s.me files) s.sorted s.are_sorted) ready.interfaces ready.worlds s.me files refl (foreign_owners s.items).interfaces (owners_of (package_text s.me) s.items s.sorted).worlds p.types (s.whole by_name)
+      (texts_apart s.sorted world_kept ready.interfaces.apart ready.worlds.apart) (length s.foreign_interfaces) (s.foreign_are.so_many_interfaces ∙ sym (interface_owners_length s.items)) s.own_interfaces s.own_interfaces_are m j d at dep
+
+  interface_before : (n j : ℕ) (d : Interface) → slice_get p.interfaces n ≡ Some d → IsInterfaceDep p.types d j → j < n
+  interface_before n j d at dep =
+      let s = r.resolved in
+      elim (get_either s.foreign_interfaces s.own_interfaces n d (subst (λ (ds : List Interface). slice_get ds n ≡ Some d) s.interfaces_are at)) as (λ _. j < n) [
+        | inl other ↦
+            let within : n < length s.foreign_interfaces = slice_get_within s.foreign_interfaces n d other in
+            let so_many : length s.foreign_interfaces ≡ interfaces_in s.items = s.foreign_are.so_many_interfaces in
+            let item = interface_item (files_need s.me files) s.items s.items_are n (omega (arith, within, so_many)) in
+            absurd (subst (λ (es : List _). order.Has (map (λ e. e.1) es) dep.0) (s.foreign_are.interfaces item.0 n d item.1 other).types dep.1)
+        | inr o ↦ (let less = own_before o.0 j d o.2 dep in let place : n ≡ length s.foreign_interfaces + o.0 = o.1 in omega (arith, less, place))
+      ]
+
+pub in_order : InterfacesAreInOrder
+in_order files p others r k j d at dep = interface_before files p r (others + k) j d (get_drop others p.interfaces k d at) dep
+
+-- ---- the whole
+
+pub well_formed : ResolvedPackagesAreWellFormed
+well_formed files p r = record {
+  spans = spans files p r;
+  deps = asked_items files p r;
+  unknown = unknown_types files p r;
+  nameless = nameless_types files p (asked_types p) r;
+  in_order = in_order files p (asked p).interfaces r;
+  keys = keys files p (asked p).worlds r;
+}

@@ -1,0 +1,39 @@
+-- What the files of a package are resolved to may be put into a graph of packages (WIT, Packages, Use).
+use Rattle.std.specs.Prelude.{◌≡◌, ℕ, ◌≤◌, List, length, drop}
+use Rattle.wit_order.specs.Order.{Has}
+use Rattle.wit_types.specs.declared.world.World.{World}
+use Rattle.wit_types.specs.declared.«package».UnresolvedPackage.{UnresolvedPackage}
+use Rattle.wit_syntax.specs.Ast.{FileTree}
+use Rattle.wit_elaborated.specs.Worlds.{AreKeysOfItems}
+use Rattle.wit_finding.specs.Asks.{AreDepsThere, items_of}
+use Rattle.wit_placed.specs.Order.{AreNamelessFree, AreInOrder}
+use Rattle.wit_graph_parts.specs.Own.{IsWellFormed}
+use Rattle.wit_package.specs.Steps.{Resolves}
+
+-- there is a span for each package of which something is asked
+abbrev pub SpansAreCounted : Type 0
+SpansAreCounted = (files : List FileTree) (p : UnresolvedPackage) → Resolves files p → length p.foreign_dep_spans.items ≡ length p.foreign_deps.entries
+
+-- and a type for each span of one that is asked for
+abbrev pub UnknownTypesAreThere : Type 0
+UnknownTypesAreThere = (files : List FileTree) (p : UnresolvedPackage) → Resolves files p → length p.unknown_type_spans.items ≤ length p.types
+
+-- each interface and each world that is asked for has its place
+abbrev pub AskedItemsAreThere : Type 0
+AskedItemsAreThere = (files : List FileTree) (p : UnresolvedPackage) → Resolves files p → AreDepsThere p.interfaces p.worlds (items_of p.foreign_deps.entries)
+
+-- behind however many: types without a name belong nowhere
+abbrev pub NamelessTypesAreFree : Type 0
+NamelessTypesAreFree = (files : List FileTree) (p : UnresolvedPackage) (others : ℕ) → Resolves files p → AreNamelessFree (drop others p.types)
+
+-- each interface uses types of those in front of it alone
+abbrev pub InterfacesAreInOrder : Type 0
+InterfacesAreInOrder = (files : List FileTree) (p : UnresolvedPackage) (others : ℕ) → Resolves files p → AreInOrder others p.types (drop others p.interfaces)
+
+-- what a world imports under the key of an interface is that interface
+abbrev pub KeysAreOfItems : Type 0
+KeysAreOfItems = (files : List FileTree) (p : UnresolvedPackage) (others : ℕ) → Resolves files p → (w : World) → Has (drop others p.worlds) w → AreKeysOfItems w.imports.entries
+
+-- all of this together
+abbrev pub ResolvedPackagesAreWellFormed : Type 0
+ResolvedPackagesAreWellFormed = (files : List FileTree) (p : UnresolvedPackage) → Resolves files p → IsWellFormed p

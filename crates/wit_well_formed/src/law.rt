@@ -1,0 +1,38 @@
+//! Laws of packages that are resolved.
+
+ghost use Rattle.wit_well_formed.specs.Law.{SpansAreCounted, UnknownTypesAreThere, AskedItemsAreThere, NamelessTypesAreFree, InterfacesAreInOrder, KeysAreOfItems, ResolvedPackagesAreWellFormed};
+
+/// Where files are resolved to a package, there is a span for each package of which it asks something.
+pub fn law_spans_are_counted()
+    ensures { SpansAreCounted }
+{}
+
+/// Where files are resolved to a package, it has a type for each span of a type of another package.
+pub fn law_unknown_types_are_there()
+    ensures { UnknownTypesAreThere }
+{}
+
+/// Where files are resolved to a package, each interface and each world that it asks of another has its place.
+pub fn law_asked_items_are_there()
+    ensures { AskedItemsAreThere }
+{}
+
+/// Where files are resolved to a package, its types without a name belong nowhere.
+pub fn law_nameless_types_are_free()
+    ensures { NamelessTypesAreFree }
+{}
+
+/// Where files are resolved to a package, each interface of it uses types of those before it alone.
+pub fn law_interfaces_are_in_order()
+    ensures { InterfacesAreInOrder }
+{}
+
+/// Where files are resolved to a package, what a world of it imports under the key of an interface is that interface.
+pub fn law_keys_are_of_items()
+    ensures { KeysAreOfItems }
+{}
+
+/// Where files are resolved to a package, it is well formed, so that it may be put into a graph of packages.
+pub fn law_resolved_packages_are_well_formed()
+    ensures { ResolvedPackagesAreWellFormed }
+{}
