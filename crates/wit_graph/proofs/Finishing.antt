@@ -2,7 +2,8 @@
 use Rattle.std.proofs.Common.{◌≡◌, ℕ, zero, suc, ◌+◌, ◌<◌, ◌≤◌, Bool, true, false, List, [], ◌∷◌, ◌++◌, ◌⊎◌, inl, inr, Option, Some, None, String, Ok, Err, OnOk, OnErr, IfOk, IfErr, refl, sym, subst, ap, ◌∙◌, arith, length, length-append, map, take, bytes_eq}
 use Rattle.std.proofs.lemmas.List.{take-append-drop}
 use Rattle.std.proofs.lemmas.Option.{same_Some}
-use Rattle.std.specs.Prelude.{slice_get, if◌then◌else◌}
+use Rattle.std.specs.Prelude.{slice_get, is_some, if◌then◌else◌}
+use Rattle.std.specs.Map.{lookup}
 use Rattle.std.specs.declared.alloc.Global.{Global}
 use Rattle.std.specs.declared.result.Result.{Result}
 use Rattle.indexmap.specs.IndexMap.{insert_entry, insert_all}
@@ -30,16 +31,17 @@ use Rattle.wit_placed.specs.There.{AreBelow}
 use Rattle.wit_resources.specs.Natures.{kind_nature, natures_from}
 use Rattle.wit_resources.specs.declared.natures.Nature.{Nature}
 use Rattle.wit_graph_worlds.specs.Added as worlds
-use Rattle.wit_graph_worlds.specs.Worlds.{State}
+use Rattle.wit_graph_worlds.specs.Worlds.{State, Worlds}
 use Rattle.wit_graph_parts.specs.Faults.{of_moved}
 use Rattle.wit_graph.specs.Graph.{Graph, IsGraph, Items, items_of, AreWhole, nothing, sizes}
-use Rattle.wit_graph_parts.specs.Interfaces.{no_rows}
+use Rattle.wit_graph_parts.specs.Interfaces.{Interfaces, no_rows}
 use Rattle.wit_graph_worlds.specs.Names.{Pair, by_bytes, name_at, interface_names, world_names, AreNames}
 use Rattle.wit_graph_parts.specs.Own.{asked, own_parts, parts_behind, IsWellFormed}
-use Rattle.wit_graph.specs.Push.{IsReady, ArePartsAdded, HaveGrown, cut, IsPartsCause, ArePlaces, IsPushCause, left_out, not_included}
+use Rattle.wit_graph.specs.Push.{IsReady, ArePartsAdded, HaveGrown, HasMorePackages, mark_of, cut, IsPartsCause, ArePlaces, IsPushCause, left_out, not_included}
 use Rattle.wit_graph_parts.specs.declared.fault.PushFault.{PushFault}
 use Rattle.wit_graph_parts.specs.declared.fault.PushFault.TheVariants.{GateVersion, DuplicatePackage, PackageNotFound, ItemNotFound, IncludeClash, ExportConflict, ForeignShape, OutOfMemory}
 use Rattle.wit_graph.specs.declared.tables.Tables.{Tables}
+use Rattle.wit_graph.specs.declared.tables.Mark.{Mark}
 use Rattle.wit_graph.proofs.Keeping.{get_parts, has_or, rows_long}
 use Rattle.wit_graph_parts.proofs.Taking.{take_grown}
 
@@ -230,6 +232,40 @@ taken_back old new whole grown =
     (back (length old.worlds.listed) old.worlds.elaborated new.worlds.elaborated grown.elaborated whole.whole.sound.so_many grown.elaborated_are)
     grown.packages_are
 
+-- a graph of which all is there again is that one
+pub restored : (g now : Graph) (mark : Mark) (types : List TypeDef) (ns : List Nature) (interfaces : Interfaces) (closures : List (List ℕ)) (worlds : Worlds) (packages : List Package) (names : List (PackageName × ℕ))
+    → IsGraph g → HasMorePackages g now → mark ≡ mark_of g
+    → types ≡ take mark.sizes.types now.tables.types → ns ≡ take mark.sizes.types now.tables.natures
+    → interfaces ≡ record { all = take mark.sizes.interfaces now.tables.interfaces.all; uses = take mark.sizes.interfaces now.tables.interfaces.uses } → closures ≡ take mark.sizes.interfaces now.tables.closures
+    → worlds ≡ record { listed = take mark.sizes.worlds now.tables.worlds.listed; elaborated = take mark.sizes.worlds now.tables.worlds.elaborated }
+    → packages ≡ take mark.packages now.tables.packages → names ≡ take mark.names now.names
+    → record { tables = record { types = types; natures = ns; interfaces = interfaces; closures = closures; worlds = worlds; packages = packages }; names = names } ≡ g
+restored g now mark types ns interfaces closures worlds packages names graph more marked e1 e2 e3 e4 e5 e6 e7 =
+    let t : Tables = g.tables in
+    let u : Tables = now.tables in
+    let m = more.tables in
+    let long : length t.interfaces.uses ≡ length t.interfaces.all = rows_long t.types t.interfaces.all t.interfaces.uses graph.whole.whole.rows in
+    let known : length t.natures ≡ length t.types = ap (λ (xs : List Nature). length xs) graph.whole.whole.natures_are ∙ from_long [] t.types ∙ (let e : 0 + length t.types ≡ length t.types = omega arith in e) in
+    let tables : record { types = types; natures = ns; interfaces = interfaces; closures = closures; worlds = worlds; packages = packages } ≡ t =
+    tables_same t types ns interfaces.all interfaces.uses closures worlds.listed worlds.elaborated packages
+    (e1 ∙ ap (λ (k : Mark). take k.sizes.types u.types) marked ∙ back (length t.types) t.types u.types m.types refl m.types_are)
+    (e2 ∙ ap (λ (k : Mark). take k.sizes.types u.natures) marked ∙ back (length t.types) t.natures u.natures m.known known m.natures_are)
+    (ap (λ (i : Interfaces). i.all) e3 ∙ ap (λ (k : Mark). take k.sizes.interfaces u.interfaces.all) marked ∙ back (length t.interfaces.all) t.interfaces.all u.interfaces.all m.interfaces refl m.interfaces_are)
+    (ap (λ (i : Interfaces). i.uses) e3 ∙ ap (λ (k : Mark). take k.sizes.interfaces u.interfaces.uses) marked ∙ back (length t.interfaces.all) t.interfaces.uses u.interfaces.uses m.uses long m.uses_are)
+    (e4 ∙ ap (λ (k : Mark). take k.sizes.interfaces u.closures) marked ∙ back (length t.interfaces.all) t.closures u.closures m.closures (graph.whole.closures_are ∙ long) m.closures_are)
+    (ap (λ (w : Worlds). w.listed) e5 ∙ ap (λ (k : Mark). take k.sizes.worlds u.worlds.listed) marked ∙ back (length t.worlds.listed) t.worlds.listed u.worlds.listed m.listed refl m.listed_are)
+    (ap (λ (w : Worlds). w.elaborated) e5 ∙ ap (λ (k : Mark). take k.sizes.worlds u.worlds.elaborated) marked ∙ back (length t.worlds.listed) t.worlds.elaborated u.worlds.elaborated m.elaborated graph.whole.whole.sound.so_many m.elaborated_are)
+    (e6 ∙ ap (λ (k : Mark). take k.packages u.packages) marked ∙ back (length t.packages) t.packages u.packages m.packages refl m.packages_are)
+    in
+    let named : names ≡ g.names = e7 ∙ ap (λ (k : Mark). take k.names now.names) marked ∙ back (length g.names) g.names now.names more.names refl more.names_are in
+    graph_same g _ names tables named
+  where
+    make : Tables → List (PackageName × ℕ) → Graph
+    make x y = record { tables = x; names = y }
+
+    graph_same : (g : Graph) (t : Tables) (names : List (PackageName × ℕ)) → t ≡ g.tables → names ≡ g.names → make t names ≡ g
+    graph_same g t names e f = ap (λ (x : Tables). make x names) e ∙ ap (λ (y : List (PackageName × ℕ)). make g.tables y) f
+
 -- ---- names of packages
 
 insert_has : (eq : PackageName → PackageName → Bool) (es : List (PackageName × ℕ)) (k : PackageName) (v : ℕ) (e : PackageName × ℕ) → Has (insert_entry eq es k v) e → (e.1 ≡ v) ⊎ Has es e
@@ -243,6 +279,16 @@ insert_has eq (x ∷ es) k v e h = by_cases (eq k x.0) h (insert_has eq es k v e
           | inl here ↦ inr (inl here)
           | inr new ↦ elim (later new) as (λ _. (e.1 ≡ v) ⊎ Has (x ∷ es) e) [ inl same ↦ inl same | inr was ↦ inr (inr was) ]
         ]
+
+-- a name that isn't there comes behind the others
+pub insert_fresh : (eq : PackageName → PackageName → Bool) (es : List (PackageName × ℕ)) (k : PackageName) (v : ℕ) → is_some (lookup (eq k) es) ≡ false → insert_entry eq es k v ≡ es ++ (k, v) ∷ []
+insert_fresh eq [] k v e = refl
+insert_fresh eq (x ∷ es) k v e = by_cases (eq k x.0) e (insert_fresh eq es k v)
+  where
+    by_cases : (b : Bool) → is_some (if b then Some x.1 else lookup (eq k) es) ≡ false → (is_some (lookup (eq k) es) ≡ false → insert_entry eq es k v ≡ es ++ (k, v) ∷ [])
+        → (if b then (x.0, v) ∷ es else x ∷ insert_entry eq es k v) ≡ (x ∷ es) ++ (k, v) ∷ []
+    by_cases true e later = absurd cc
+    by_cases false e later = ap (λ (l : List (PackageName × ℕ)). x ∷ l) (later e)
 
 pub put_is_graph : (eq : PackageName → PackageName → Bool) (old : List (PackageName × ℕ)) (packages : List Package) (q : Package) (t : Tables) (names : List (PackageName × ℕ)) (k : PackageName) (v : ℕ)
     → AreWhole t → t.packages ≡ packages ++ q ∷ [] → names ≡ insert_entry eq old k v → v ≡ length packages → ((e : PackageName × ℕ) → Has old e → e.1 < length packages) → IsGraph (record { tables = t; names = names })

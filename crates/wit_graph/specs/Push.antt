@@ -33,6 +33,8 @@ use Rattle.wit_graph_worlds.specs.Names.{IsSameName}
 use Rattle.wit_graph_parts.specs.Parts.{AreTypesAdded, TypesBreak, AreInterfacesAdded, InterfacesBreak, AreWorldsAdded, WorldsBreak, AreWorldsRefused}
 use Rattle.wit_graph.specs.Graph.{Graph, Items, items_of, AreItemsWhole, sizes}
 use Rattle.wit_graph.specs.declared.tables.Tables.{Tables}
+use Rattle.wit_graph.specs.declared.tables.Mark.{Mark}
+use Rattle.wit_order.specs.Places.{Rows}
 use Rattle.wit_graph_parts.specs.declared.fault.PushFault.{PushFault}
 use Rattle.wit_graph_parts.specs.declared.fault.PushFault.TheVariants.{GateVersion, DuplicatePackage, PackageNotFound, ItemNotFound, IncludeClash, ExportConflict, ForeignShape, OutOfMemory}
 
@@ -91,14 +93,30 @@ pub record HaveGrown (old new : Tables) : Type 0 where
 pub record HasMore (old new : Tables) : Type 0 where
   pub types : List TypeDef
   pub types_are : new.types ≡ old.types ++ types
+  pub known : List Nature
+  pub natures_are : new.natures ≡ old.natures ++ known
   pub interfaces : List Interface
   pub interfaces_are : new.interfaces.all ≡ old.interfaces.all ++ interfaces
+  pub uses : Rows
+  pub uses_are : new.interfaces.uses ≡ old.interfaces.uses ++ uses
+  pub closures : List (List ℕ)
+  pub closures_are : new.closures ≡ old.closures ++ closures
   pub listed : List World
   pub listed_are : new.worlds.listed ≡ old.worlds.listed ++ listed
   pub elaborated : List World
   pub elaborated_are : new.worlds.elaborated ≡ old.worlds.elaborated ++ elaborated
   pub packages : List Package
   pub packages_are : new.packages ≡ old.packages ++ packages
+
+-- and each package that was there has its name, with more behind
+pub record HasMorePackages (old new : Graph) : Type 0 where
+  pub tables : HasMore old.tables new.tables
+  pub names : List (PackageName × ℕ)
+  pub names_are : new.names ≡ old.names ++ names
+
+-- how much there is
+abbrev pub mark_of : Graph → Mark
+mark_of g = record { sizes = sizes (items_of g.tables); packages = length g.tables.packages; names = length g.names }
 
 -- the first so many alone
 abbrev pub cut : Sizes → Tables → Tables

@@ -11,11 +11,11 @@ ghost use Rattle.wit_moves.specs.View.{owners};
 ghost use Rattle.wit_plans.specs.Plans.{IsPlanned, IsPlanCause};
 ghost use Rattle.wit_placed.specs.There.{AreBelow};
 ghost use Rattle.wit_graph_parts.specs.Own.{IsWellFormed, parts};
-ghost use Rattle.wit_graph.specs.Graph.{IsClosureOf, IsDepsOf, IsGraph, nothing, items_of, sizes as sizes_of};
+ghost use Rattle.wit_graph.specs.Graph.{Graph as Value, IsClosureOf, IsDepsOf, IsGraph, nothing, items_of, sizes as sizes_of};
 ghost use Rattle.wit_graph.specs.Push as spec;
 
 use crate::push::{Outcome, pushed};
-use crate::tables::{Tables, no_tables, sizes};
+use crate::tables::{Mark, Tables, no_tables, sizes};
 use indexmap::IndexMap;
 use std::alloc::{AllocError, Global};
 use std::marker::Model;
@@ -207,7 +207,7 @@ impl Graph {
         requires fresh { is_some (lookup (⟦<PackageName as PartialEq>⟧.eq own.name) self.old.names) ≡ false }
         requires ready { (foreign : Owners) × spec.IsReady features.now (items_of self.old.tables) foreign (parts own.parts) (owners plan.now.owners) plan.now.types }
         ensures ok { IfOk result (spec.IsPut ⟦<PackageName as PartialEq>⟧.eq features.now own.name own.docs (owners plan.now.owners) plan.now.types (parts own.parts) self.old self.new) }
-        ensures more { OnOk result (spec.HasMore self.old.tables self.new.tables) }
+        ensures more { OnOk result (spec.HasMorePackages self.old self.new) }
         ensures cause { IfErr result (spec.IsPartsCause features.now (length self.old.tables.packages) (owners plan.now.owners) plan.now.types (parts own.parts) (items_of self.old.tables)) }
         ensures err { OnErr result (self.new ≡ self.old) }
     {
@@ -242,7 +242,7 @@ impl Graph {
     ) -> Result<PackageId, PushFault>
         requires { IsWellFormed «package» }
         ensures ok { IfOk result (spec.IsPushed ⟦<PackageName as PartialEq>⟧.eq features.now self.old «package» self.new) }
-        ensures more { OnOk result (spec.HasMore self.old.tables self.new.tables) }
+        ensures more { OnOk result (spec.HasMorePackages self.old self.new) }
         ensures cause { IfErr result (spec.IsPushCause ⟦<PackageName as PartialEq>⟧.eq features.now self.old «package») }
         ensures err { OnErr result (self.new ≡ self.old) }
     {
@@ -261,5 +261,30 @@ impl Graph {
         )?;
         let plan = plan_in(alloc, features, &self.tables, foreign, &own.parts)?;
         self.put(alloc, features, &plan, own)
+    }
+
+    /// How much there is now, for `restore`.
+    pub fn mark(&self) -> Mark
+        ensures { result ≡ spec.mark_of self.now }
+    {
+        Mark {
+            sizes: sizes(&self.tables),
+            packages: self.tables.packages.len(),
+            names: self.names.len(),
+        }
+    }
+
+    /// Takes back all packages that came since there was so much, so that the graph is as it was then.
+    pub fn restore(&mut self, mark: Mark)
+        requires { (then : Value) × IsGraph then × spec.HasMorePackages then self.old × (mark ≡ spec.mark_of then) }
+        ensures { (then : Value) → IsGraph then → spec.HasMorePackages then self.old → mark ≡ spec.mark_of then → self.new ≡ then }
+    {
+        self.tables.types.truncate(mark.sizes.types);
+        self.tables.natures.truncate(mark.sizes.types);
+        self.tables.interfaces.truncate(mark.sizes.interfaces);
+        self.tables.closures.truncate(mark.sizes.interfaces);
+        self.tables.worlds.truncate(mark.sizes.worlds);
+        self.tables.packages.truncate(mark.packages);
+        self.names.truncate(mark.names);
     }
 }

@@ -6,4 +6,5 @@ mod push;
 mod tables;
 
 pub use graph::Graph;
+pub use tables::Mark;
 pub use wit_graph_parts::PushFault;

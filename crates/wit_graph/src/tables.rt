@@ -52,3 +52,14 @@ pub fn sizes(tables: &Tables) -> Sizes
         worlds: tables.worlds.listed().len(),
     }
 }
+
+/// How much a graph holds.
+#[derive(Clone, Copy)]
+pub struct Mark {
+    /// Types, interfaces and worlds.
+    pub sizes: Sizes,
+    /// Packages.
+    pub packages: usize,
+    /// Their names.
+    pub names: usize,
+}

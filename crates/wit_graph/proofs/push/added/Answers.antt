@@ -88,8 +88,14 @@ pub returns-clause-more : goal.returns-clause-more
 returns-clause-more c = on_ok_weaker c.put_named-done.result (λ h. record {
   types = c.add_parts-names.ensures.types_grown.0;
   types_are = c.add_parts-names.ensures.types_grown.1;
+  known = c.add_parts-names.ensures.natures_grown.0;
+  natures_are = c.add_parts-names.ensures.natures_grown.1;
   interfaces = c.add_parts-names.ensures.interfaces_grown.all;
   interfaces_are = c.add_parts-names.ensures.interfaces_grown.all_are;
+  uses = c.add_parts-names.ensures.interfaces_grown.uses;
+  uses_are = c.add_parts-names.ensures.interfaces_grown.uses_are;
+  closures = c.reach-names.ensures.grown.0;
+  closures_are = c.reach-names.ensures.grown.1;
   listed = c.add_parts-names.ensures.listed_grown.0;
   listed_are = c.add_parts-names.ensures.listed_grown.1;
   elaborated = c.add_parts-names.ensures.elaborated_grown.0;

@@ -8,7 +8,7 @@ use Rattle.wit_graph_worlds.specs.Names.{IsSameName}
 use Rattle.wit_graph_parts.specs.Own.{parts}
 use Rattle.wit_graph.specs.Push.{IsAdded, HasMore}
 use Rattle.wit_graph.specs.declared.tables.Tables.{Tables}
-use Rattle.wit_graph.proofs.Finishing.{on_ok_at, on_err_at, put_is_graph}
+use Rattle.wit_graph.proofs.Finishing.{on_ok_at, on_err_at, put_is_graph, insert_fresh}
 use Rattle.wit_graph.proofs.graph.Graph.put.Goals as goal
 
 pub invariant_of-self-2 : goal.invariant_of-self-2
@@ -27,9 +27,12 @@ returns-clause-ok c = record {
 }
 
 pub returns-clause-more : goal.returns-clause-more
-returns-clause-more c =
-    subst (λ (t : Tables). HasMore t c.pushed-tables.result.tables) (c.replace-tables.ensures.value ∙ ap (λ (g : Graph). g.tables) c.self.view_is)
-    (on_ok_at c.pushed-tables.result.done c.in_ok-done.field-0 (HasMore c.replace-tables.result c.pushed-tables.result.tables) c.in_ok-done.was c.pushed-tables.ensures.more)
+returns-clause-more c = record {
+  tables = subst (λ (t : Tables). HasMore t c.pushed-tables.result.tables) (c.replace-tables.ensures.value ∙ ap (λ (g : Graph). g.tables) c.self.view_is)
+      (on_ok_at c.pushed-tables.result.done c.in_ok-done.field-0 (HasMore c.replace-tables.result c.pushed-tables.result.tables) c.in_ok-done.was c.pushed-tables.ensures.more);
+  names = (c.args.own.name, c.from_index-owner.result) ∷ [];
+  names_are = ((on_ok_at c.insert.result c.unwrap.result (c.insert.new.self.entries ≡ insert_entry package_eq.it c.reserve.new.self.entries c.replace-name.result c.from_index-owner.result) c.unwrap.ensures c.insert.ensures.entries ∙ ap (λ (es : List (PackageName × ℕ)). insert_entry package_eq.it es c.replace-name.result c.from_index-owner.result) c.reserve.ensures.entries) ∙ ap (λ (k : PackageName). insert_entry package_eq.it c.self.inside.names.entries k c.from_index-owner.result) c.replace-name.ensures.value ∙ ap (λ (g : Graph). insert_entry package_eq.it g.names c.args.own.name c.from_index-owner.result) c.self.view_is) ∙ insert_fresh package_eq.it c.args.self.now.names c.args.own.name c.from_index-owner.result c.requires.fresh;
+}
 
 pub pushed-tables-requires-clause-whole : goal.pushed-tables-requires-clause-whole
 pushed-tables-requires-clause-whole c = subst AreWhole (sym c.replace-tables.ensures.value) c.self.invariant.whole
