@@ -96,10 +96,6 @@ pushed_more v ls new deps found list id view closed there rising same is last pu
 
 -- ---- either way
 
-pub on_ok_map : {X E : Type 0} (r : Result X E) (P Q : Type 0) → (P → Q) → OnOk r P → OnOk r Q
-on_ok_map {X} {E} (Ok x) P Q f p = f p
-on_ok_map {X} {E} (Err e) P Q f p = tt
-
 pub either : {X E : Type 0} (r : Result X E) (P Q R : Type 0) → (P → R) → (Q → R) → OnOk r P → OnErr r Q → R
 either {X} {E} (Ok x) P Q R f g p q = f p
 either {X} {E} (Err e) P Q R f g p q = g q

@@ -31,17 +31,18 @@ use Rattle.wit_placed.specs.There.{AreBelow}
 use Rattle.wit_resources.specs.Natures.{kind_nature, natures_from}
 use Rattle.wit_resources.specs.declared.natures.Nature.{Nature}
 use Rattle.wit_graph_worlds.specs.Added as worlds
-use Rattle.wit_graph_worlds.specs.Worlds.{State, Worlds}
+use Rattle.wit_graph_worlds.specs.Worlds.{State}
 use Rattle.wit_graph_parts.specs.Faults.{of_moved}
 use Rattle.wit_graph.specs.Graph.{Graph, IsGraph, Items, items_of, AreWhole, nothing, sizes}
-use Rattle.wit_graph_parts.specs.Interfaces.{Interfaces, no_rows}
+use Rattle.wit_graph_parts.specs.Interfaces.{no_rows}
 use Rattle.wit_graph_worlds.specs.Names.{Pair, by_bytes, name_at, interface_names, world_names, AreNames}
 use Rattle.wit_graph_parts.specs.Own.{asked, own_parts, parts_behind, IsWellFormed}
-use Rattle.wit_graph.specs.Push.{IsReady, ArePartsAdded, HaveGrown, HasMorePackages, mark_of, cut, IsPartsCause, ArePlaces, IsPushCause, left_out, not_included}
+use Rattle.wit_graph.specs.Push.{IsReady, ArePartsAdded, HaveGrown, HasMore, HasMorePackages, mark_of, cut, IsPartsCause, ArePlaces, IsPushCause, left_out, not_included}
 use Rattle.wit_graph_parts.specs.declared.fault.PushFault.{PushFault}
 use Rattle.wit_graph_parts.specs.declared.fault.PushFault.TheVariants.{GateVersion, DuplicatePackage, PackageNotFound, ItemNotFound, IncludeClash, ExportConflict, ForeignShape, OutOfMemory}
 use Rattle.wit_graph.specs.declared.tables.Tables.{Tables}
 use Rattle.wit_graph.specs.declared.tables.Mark.{Mark}
+use Rattle.wit_plans.specs.declared.plans.Sizes.{Sizes}
 use Rattle.wit_graph.proofs.Keeping.{get_parts, has_or, rows_long}
 use Rattle.wit_graph_parts.proofs.Taking.{take_grown}
 
@@ -60,10 +61,6 @@ if_ok_at {X} {E} r u P e p = subst (λ (q : Result X E). IfOk q P) e p
 
 pub if_err_at : {X E : Type 0} (r : Result X E) (f : E) (P : E → Type 0) → r ≡ Err f → IfErr r P → P f
 if_err_at {X} {E} r f P e p = subst (λ (q : Result X E). IfErr q P) e p
-
-pub on_err_map : {X E : Type 0} (r : Result X E) (P Q : Type 0) → OnErr r P → (P → Q) → OnErr r Q
-on_err_map {X} {E} (Ok v) P Q p f = tt
-on_err_map {X} {E} (Err g) P Q p f = f p
 
 -- ---- no packages
 
@@ -220,51 +217,40 @@ tables_same a types ns all uses closures listed elaborated packages e1 e2 e3 e4 
     make : List TypeDef → List Nature → List Interface → Rows → List (List ℕ) → List World → List World → List Package → Tables
     make x y z u k v w q = record { types = x; natures = y; interfaces = record { all = z; uses = u }; closures = k; worlds = record { listed = v; elaborated = w }; packages = q }
 
-pub taken_back : (old new : Tables) → AreWhole old → HaveGrown old new → cut (sizes (items_of old)) new ≡ old
-taken_back old new whole grown =
-    tables_same old _ _ _ _ _ _ _ _
-    (back (length old.types) old.types new.types grown.types refl grown.types_are)
-    (back (length old.types) old.natures new.natures grown.known (ap (λ (ns : List Nature). length ns) whole.whole.natures_are ∙ from_long [] old.types ∙ (let e : 0 + length old.types ≡ length old.types = omega arith in e)) grown.natures_are)
-    (back (length old.interfaces.all) old.interfaces.all new.interfaces.all grown.interfaces_are.all refl grown.interfaces_are.all_are)
-    (back (length old.interfaces.all) old.interfaces.uses new.interfaces.uses grown.interfaces_are.uses (rows_long old.types old.interfaces.all old.interfaces.uses whole.whole.rows) grown.interfaces_are.uses_are)
-    (back (length old.interfaces.all) old.closures new.closures grown.closures (whole.closures_are ∙ rows_long old.types old.interfaces.all old.interfaces.uses whole.whole.rows) grown.closures_are)
-    (back (length old.worlds.listed) old.worlds.listed new.worlds.listed grown.listed refl grown.listed_are)
-    (back (length old.worlds.listed) old.worlds.elaborated new.worlds.elaborated grown.elaborated whole.whole.sound.so_many grown.elaborated_are)
-    grown.packages_are
+pub tables_back : (old new t : Tables) (so_many : Sizes) (packages : List Package) → AreWhole old → HasMore old new → so_many ≡ sizes (items_of old) → t ≡ cut so_many new → packages ≡ old.packages
+    → record { types = t.types; natures = t.natures; interfaces = t.interfaces; closures = t.closures; worlds = t.worlds; packages = packages } ≡ old
+tables_back old new t so_many packages whole m marked is same =
+    let e : t ≡ cut (sizes (items_of old)) new = is ∙ ap (λ (n : Sizes). cut n new) marked in
+    let long : length old.interfaces.uses ≡ length old.interfaces.all = rows_long old.types old.interfaces.all old.interfaces.uses whole.whole.rows in
+    let known : length old.natures ≡ length old.types = ap (λ (ns : List Nature). length ns) whole.whole.natures_are ∙ from_long [] old.types ∙ (let z : 0 + length old.types ≡ length old.types = omega arith in z) in
+    tables_same old t.types t.natures t.interfaces.all t.interfaces.uses t.closures t.worlds.listed t.worlds.elaborated packages
+    (ap (λ (x : Tables). x.types) e ∙ back (length old.types) old.types new.types m.types refl m.types_are)
+    (ap (λ (x : Tables). x.natures) e ∙ back (length old.types) old.natures new.natures m.known known m.natures_are)
+    (ap (λ (x : Tables). x.interfaces.all) e ∙ back (length old.interfaces.all) old.interfaces.all new.interfaces.all m.interfaces refl m.interfaces_are)
+    (ap (λ (x : Tables). x.interfaces.uses) e ∙ back (length old.interfaces.all) old.interfaces.uses new.interfaces.uses m.uses long m.uses_are)
+    (ap (λ (x : Tables). x.closures) e ∙ back (length old.interfaces.all) old.closures new.closures m.closures (whole.closures_are ∙ long) m.closures_are)
+    (ap (λ (x : Tables). x.worlds.listed) e ∙ back (length old.worlds.listed) old.worlds.listed new.worlds.listed m.listed refl m.listed_are)
+    (ap (λ (x : Tables). x.worlds.elaborated) e ∙ back (length old.worlds.listed) old.worlds.elaborated new.worlds.elaborated m.elaborated whole.whole.sound.so_many m.elaborated_are)
+    same
+
+pub taken_back : (old new t : Tables) (so_many : Sizes) → AreWhole old → HaveGrown old new → so_many ≡ sizes (items_of old) → t ≡ cut so_many new → t ≡ old
+taken_back old new t so_many whole grown marked is = tables_back old new t so_many t.packages whole grown.more marked is (ap (λ (x : Tables). x.packages) is ∙ grown.same_packages)
 
 -- a graph of which all is there again is that one
-pub restored : (g now : Graph) (mark : Mark) (types : List TypeDef) (ns : List Nature) (interfaces : Interfaces) (closures : List (List ℕ)) (worlds : Worlds) (packages : List Package) (names : List (PackageName × ℕ))
-    → IsGraph g → HasMorePackages g now → mark ≡ mark_of g
-    → types ≡ take mark.sizes.types now.tables.types → ns ≡ take mark.sizes.types now.tables.natures
-    → interfaces ≡ record { all = take mark.sizes.interfaces now.tables.interfaces.all; uses = take mark.sizes.interfaces now.tables.interfaces.uses } → closures ≡ take mark.sizes.interfaces now.tables.closures
-    → worlds ≡ record { listed = take mark.sizes.worlds now.tables.worlds.listed; elaborated = take mark.sizes.worlds now.tables.worlds.elaborated }
-    → packages ≡ take mark.packages now.tables.packages → names ≡ take mark.names now.names
-    → record { tables = record { types = types; natures = ns; interfaces = interfaces; closures = closures; worlds = worlds; packages = packages }; names = names } ≡ g
-restored g now mark types ns interfaces closures worlds packages names graph more marked e1 e2 e3 e4 e5 e6 e7 =
-    let t : Tables = g.tables in
-    let u : Tables = now.tables in
+pub restored : (g now : Graph) (mark : Mark) (t : Tables) (packages : List Package) (names : List (PackageName × ℕ)) → IsGraph g → HasMorePackages g now → mark ≡ mark_of g
+    → t ≡ cut mark.sizes now.tables → packages ≡ take mark.packages t.packages → names ≡ take mark.names now.names
+    → record { tables = record { types = t.types; natures = t.natures; interfaces = t.interfaces; closures = t.closures; worlds = t.worlds; packages = packages }; names = names } ≡ g
+restored g now mark t packages names graph more marked is left named =
     let m = more.tables in
-    let long : length t.interfaces.uses ≡ length t.interfaces.all = rows_long t.types t.interfaces.all t.interfaces.uses graph.whole.whole.rows in
-    let known : length t.natures ≡ length t.types = ap (λ (xs : List Nature). length xs) graph.whole.whole.natures_are ∙ from_long [] t.types ∙ (let e : 0 + length t.types ≡ length t.types = omega arith in e) in
-    let tables : record { types = types; natures = ns; interfaces = interfaces; closures = closures; worlds = worlds; packages = packages } ≡ t =
-    tables_same t types ns interfaces.all interfaces.uses closures worlds.listed worlds.elaborated packages
-    (e1 ∙ ap (λ (k : Mark). take k.sizes.types u.types) marked ∙ back (length t.types) t.types u.types m.types refl m.types_are)
-    (e2 ∙ ap (λ (k : Mark). take k.sizes.types u.natures) marked ∙ back (length t.types) t.natures u.natures m.known known m.natures_are)
-    (ap (λ (i : Interfaces). i.all) e3 ∙ ap (λ (k : Mark). take k.sizes.interfaces u.interfaces.all) marked ∙ back (length t.interfaces.all) t.interfaces.all u.interfaces.all m.interfaces refl m.interfaces_are)
-    (ap (λ (i : Interfaces). i.uses) e3 ∙ ap (λ (k : Mark). take k.sizes.interfaces u.interfaces.uses) marked ∙ back (length t.interfaces.all) t.interfaces.uses u.interfaces.uses m.uses long m.uses_are)
-    (e4 ∙ ap (λ (k : Mark). take k.sizes.interfaces u.closures) marked ∙ back (length t.interfaces.all) t.closures u.closures m.closures (graph.whole.closures_are ∙ long) m.closures_are)
-    (ap (λ (w : Worlds). w.listed) e5 ∙ ap (λ (k : Mark). take k.sizes.worlds u.worlds.listed) marked ∙ back (length t.worlds.listed) t.worlds.listed u.worlds.listed m.listed refl m.listed_are)
-    (ap (λ (w : Worlds). w.elaborated) e5 ∙ ap (λ (k : Mark). take k.sizes.worlds u.worlds.elaborated) marked ∙ back (length t.worlds.listed) t.worlds.elaborated u.worlds.elaborated m.elaborated graph.whole.whole.sound.so_many m.elaborated_are)
-    (e6 ∙ ap (λ (k : Mark). take k.packages u.packages) marked ∙ back (length t.packages) t.packages u.packages m.packages refl m.packages_are)
+    let here : packages ≡ g.tables.packages =
+    left ∙ ap (λ (x : Tables). take mark.packages x.packages) is ∙ ap (λ (k : Mark). take k.packages now.tables.packages) marked ∙ back (length g.tables.packages) g.tables.packages now.tables.packages m.packages refl m.packages_are
     in
-    let named : names ≡ g.names = e7 ∙ ap (λ (k : Mark). take k.names now.names) marked ∙ back (length g.names) g.names now.names more.names refl more.names_are in
-    graph_same g _ names tables named
+    let all = tables_back g.tables now.tables t mark.sizes packages graph.whole m (ap (λ (k : Mark). k.sizes) marked) is here in
+    let called : names ≡ g.names = named ∙ ap (λ (k : Mark). take k.names now.names) marked ∙ back (length g.names) g.names now.names more.names refl more.names_are in
+    ap (λ (x : Tables). make x names) all ∙ ap (λ (y : List (PackageName × ℕ)). make g.tables y) called
   where
     make : Tables → List (PackageName × ℕ) → Graph
     make x y = record { tables = x; names = y }
-
-    graph_same : (g : Graph) (t : Tables) (names : List (PackageName × ℕ)) → t ≡ g.tables → names ≡ g.names → make t names ≡ g
-    graph_same g t names e f = ap (λ (x : Tables). make x names) e ∙ ap (λ (y : List (PackageName × ℕ)). make g.tables y) f
 
 -- ---- names of packages
 

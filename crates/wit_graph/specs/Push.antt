@@ -28,7 +28,7 @@ use Rattle.wit_plans.specs.declared.plans.Sizes.{Sizes}
 use Rattle.wit_graph_worlds.specs.declared.worlds.WorldFault.{WorldFault}
 use Rattle.wit_graph_worlds.specs.declared.worlds.WorldFault.TheVariants as world
 use Rattle.wit_graph_parts.specs.Own.{own_parts}
-use Rattle.wit_graph_parts.specs.Interfaces.{Interfaces, HasGrown}
+use Rattle.wit_graph_parts.specs.Interfaces.{Interfaces}
 use Rattle.wit_graph_worlds.specs.Names.{IsSameName}
 use Rattle.wit_graph_parts.specs.Parts.{AreTypesAdded, TypesBreak, AreInterfacesAdded, InterfacesBreak, AreWorldsAdded, WorldsBreak, AreWorldsRefused}
 use Rattle.wit_graph.specs.Graph.{Graph, Items, items_of, AreItemsWhole, sizes}
@@ -74,21 +74,6 @@ pub record IsAdded (features : FeatureSet) (name : PackageName) (docs : Docs) (o
   pub is_package : IsPackage name docs interface_names world_names q
   pub packages_are : new.packages ≡ old.packages ++ q ∷ []
 
--- what was there is there, and maybe more types, interfaces and worlds
-pub record HaveGrown (old new : Tables) : Type 0 where
-  pub types : List TypeDef
-  pub types_are : new.types ≡ old.types ++ types
-  pub known : List Nature
-  pub natures_are : new.natures ≡ old.natures ++ known
-  pub interfaces_are : HasGrown old.interfaces new.interfaces
-  pub closures : List (List ℕ)
-  pub closures_are : new.closures ≡ old.closures ++ closures
-  pub listed : List World
-  pub listed_are : new.worlds.listed ≡ old.worlds.listed ++ listed
-  pub elaborated : List World
-  pub elaborated_are : new.worlds.elaborated ≡ old.worlds.elaborated ++ elaborated
-  pub packages_are : new.packages ≡ old.packages
-
 -- what was there is there under its ids, with more behind
 pub record HasMore (old new : Tables) : Type 0 where
   pub types : List TypeDef
@@ -107,6 +92,11 @@ pub record HasMore (old new : Tables) : Type 0 where
   pub elaborated_are : new.worlds.elaborated ≡ old.worlds.elaborated ++ elaborated
   pub packages : List Package
   pub packages_are : new.packages ≡ old.packages ++ packages
+
+-- maybe more types, interfaces and worlds, but no package
+pub record HaveGrown (old new : Tables) : Type 0 where
+  pub more : HasMore old new
+  pub same_packages : new.packages ≡ old.packages
 
 -- and each package that was there has its name, with more behind
 pub record HasMorePackages (old new : Graph) : Type 0 where

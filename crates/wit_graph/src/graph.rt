@@ -15,7 +15,7 @@ ghost use Rattle.wit_graph.specs.Graph.{Graph as Value, IsClosureOf, IsDepsOf, I
 ghost use Rattle.wit_graph.specs.Push as spec;
 
 use crate::push::{Outcome, pushed};
-use crate::tables::{Mark, Tables, no_tables, sizes};
+use crate::tables::{Mark, Tables, cut, no_tables, sizes};
 use indexmap::IndexMap;
 use std::alloc::{AllocError, Global};
 use std::marker::Model;
@@ -279,11 +279,7 @@ impl Graph {
         requires { (then : Value) × IsGraph then × spec.HasMorePackages then self.old × (mark ≡ spec.mark_of then) }
         ensures { (then : Value) → IsGraph then → spec.HasMorePackages then self.old → mark ≡ spec.mark_of then → self.new ≡ then }
     {
-        self.tables.types.truncate(mark.sizes.types);
-        self.tables.natures.truncate(mark.sizes.types);
-        self.tables.interfaces.truncate(mark.sizes.interfaces);
-        self.tables.closures.truncate(mark.sizes.interfaces);
-        self.tables.worlds.truncate(mark.sizes.worlds);
+        cut(&mut self.tables, mark.sizes);
         self.tables.packages.truncate(mark.packages);
         self.names.truncate(mark.names);
     }

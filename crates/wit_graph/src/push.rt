@@ -17,7 +17,7 @@ ghost use Rattle.wit_graph.specs.Graph.{AreItemsWhole, AreWhole, items, items_of
 ghost use Rattle.wit_graph_parts.specs.declared.fault.PushFault.TheVariants.{OutOfMemory};
 ghost use Rattle.wit_graph.specs.Push as spec;
 
-use crate::tables::{Tables, sizes};
+use crate::tables::{Tables, cut, sizes};
 use indexmap::IndexMap;
 use std::alloc::Global;
 use wit_closures::{Closures, law_reached_stay};
@@ -30,7 +30,6 @@ use wit_placed::{
     law_found_types_are_there, law_interfaces_take_places, law_moved_interfaces_are_in_order,
     law_moved_interfaces_are_there, law_moved_types_belong,
 };
-use wit_plans::Sizes;
 use wit_resources::Natures;
 use wit_types::{Arena, Docs, InterfaceId, Package, PackageName, TypeDef, WorldId};
 
@@ -145,33 +144,6 @@ fn reach(
     Ok(names)
 }
 
-/// Tables with the first so many of what they hold alone; packages stay.
-fn cut(tables: Tables, so_many: Sizes) -> Tables
-    ensures { result ≡ spec.cut so_many tables }
-{
-    let Tables {
-        mut types,
-        mut natures,
-        mut interfaces,
-        mut closures,
-        mut worlds,
-        packages,
-    } = tables;
-    types.truncate(so_many.types);
-    natures.truncate(so_many.types);
-    interfaces.truncate(so_many.interfaces);
-    closures.truncate(so_many.interfaces);
-    worlds.truncate(so_many.worlds);
-    Tables {
-        types,
-        natures,
-        interfaces,
-        closures,
-        worlds,
-        packages,
-    }
-}
-
 /// Tables with a package behind what they hold, where it isn't refused; else some of it may be there.
 fn added(alloc: Global, tables: Tables, by: &Move, own: Own) -> Outcome
     requires ready { (foreign : OwnerPlaces) × spec.IsReady by.now.features.now (items_of tables) foreign (parts own.parts) (owners by.now.plan.now.owners) by.now.plan.now.types }
@@ -233,9 +205,13 @@ pub fn pushed(alloc: Global, tables: Tables, by: &Move, own: Own) -> Outcome
             tables,
             done: Ok(()),
         },
-        Err(fault) => Outcome {
-            tables: cut(tables, before),
-            done: Err(fault),
-        },
+        Err(fault) => {
+            let mut tables = tables;
+            cut(&mut tables, before);
+            Outcome {
+                tables,
+                done: Err(fault),
+            }
+        }
     }
 }

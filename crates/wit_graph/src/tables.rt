@@ -2,6 +2,7 @@
 
 ghost use Rattle.std.specs.Prelude.{◌≡◌, [], length};
 ghost use Rattle.wit_graph.specs.Graph as spec;
+ghost use Rattle.wit_graph.specs.Push as push;
 
 use std::alloc::Global;
 use wit_closures::Closures;
@@ -51,6 +52,17 @@ pub fn sizes(tables: &Tables) -> Sizes
         interfaces: tables.interfaces.all().len(),
         worlds: tables.worlds.listed().len(),
     }
+}
+
+/// Takes back the last types, interfaces and worlds, so that so many are left at most; packages stay.
+pub fn cut(tables: &mut Tables, so_many: Sizes)
+    ensures { tables.new ≡ push.cut so_many tables.old }
+{
+    tables.types.truncate(so_many.types);
+    tables.natures.truncate(so_many.types);
+    tables.interfaces.truncate(so_many.interfaces);
+    tables.closures.truncate(so_many.interfaces);
+    tables.worlds.truncate(so_many.worlds);
 }
 
 /// How much a graph holds.

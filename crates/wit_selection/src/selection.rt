@@ -29,7 +29,7 @@ impl From<AllocError> for SelectFault {
     }
 }
 
-/// The package with an id, as far as that is there.
+/// The world of that name in a package, as far as both are there.
 fn world_at(packages: &Arena<Package>, package: Option<PackageId>, name: &str) -> Option<WorldId>
     ensures { result ≡ spec.world_of packages.now «package» name.now }
 {

@@ -2,7 +2,8 @@ use Rattle.std.proofs.Common.{◌≡◌, ◌++◌, ◌⊎◌, ℕ, List, [], ◌
 use Rattle.wit_order.specs.Places.{Rows, Needs}
 use Rattle.wit_reach.specs.Paths.{AreBackward}
 use Rattle.wit_closures.specs.Closures.{AreReached}
-use Rattle.std.proofs.lemmas.Result.{on_ok_weaker, IfErr-weaker}
+use Rattle.std.proofs.lemmas.List.{append-nil}
+use Rattle.std.proofs.lemmas.Result.{on_ok_weaker, on_err_weaker, IfErr-weaker}
 use Rattle.wit_moves.specs.View.{owners}
 use Rattle.wit_types.specs.declared.«package».Package.{Package}
 use Rattle.wit_names.specs.Names.{ArePackagesKnown}
@@ -11,7 +12,7 @@ use Rattle.wit_graph.specs.Graph.{items, items_of, AreItemsWhole}
 use Rattle.wit_graph_parts.specs.Own.{parts}
 use Rattle.wit_graph.specs.Push.{ArePartsAdded, IsPartsCause}
 use Rattle.wit_graph_parts.specs.declared.fault.PushFault.TheVariants.{OutOfMemory}
-use Rattle.wit_graph.proofs.Finishing.{if_ok_at, if_err_at, on_ok_at, on_err_map, packages_there, owners_known}
+use Rattle.wit_graph.proofs.Finishing.{if_ok_at, if_err_at, on_ok_at, packages_there, owners_known}
 use Rattle.wit_graph.proofs.Keeping.{uses_backward}
 use Rattle.wit_graph.proofs.push.added.Goals as goal
 
@@ -69,20 +70,27 @@ returns-clause-cause c = IfErr-weaker c.put_named-done.result (λ fault. (c.reac
     ]) c.put_named-done.ensures.cause
 
 pub returns-clause-err : goal.returns-clause-err
-returns-clause-err c = on_err_map c.put_named-done.result (c.put_named-done.new.packages ≡ c.args.tables.packages) _ c.put_named-done.ensures.err (λ same. record {
-  types = c.add_parts-names.ensures.types_grown.0;
-  types_are = c.add_parts-names.ensures.types_grown.1;
-  known = c.add_parts-names.ensures.natures_grown.0;
-  natures_are = c.add_parts-names.ensures.natures_grown.1;
-  interfaces_are = c.add_parts-names.ensures.interfaces_grown;
-  closures = c.reach-names.ensures.grown.0;
-  closures_are = c.reach-names.ensures.grown.1;
-  listed = c.add_parts-names.ensures.listed_grown.0;
-  listed_are = c.add_parts-names.ensures.listed_grown.1;
-  elaborated = c.add_parts-names.ensures.elaborated_grown.0;
-  elaborated_are = c.add_parts-names.ensures.elaborated_grown.1;
-  packages_are = same;
-})
+returns-clause-err c = on_err_weaker c.put_named-done.result (λ same. record {
+  more = record {
+    types = c.add_parts-names.ensures.types_grown.0;
+    types_are = c.add_parts-names.ensures.types_grown.1;
+    known = c.add_parts-names.ensures.natures_grown.0;
+    natures_are = c.add_parts-names.ensures.natures_grown.1;
+    interfaces = c.add_parts-names.ensures.interfaces_grown.all;
+    interfaces_are = c.add_parts-names.ensures.interfaces_grown.all_are;
+    uses = c.add_parts-names.ensures.interfaces_grown.uses;
+    uses_are = c.add_parts-names.ensures.interfaces_grown.uses_are;
+    closures = c.reach-names.ensures.grown.0;
+    closures_are = c.reach-names.ensures.grown.1;
+    listed = c.add_parts-names.ensures.listed_grown.0;
+    listed_are = c.add_parts-names.ensures.listed_grown.1;
+    elaborated = c.add_parts-names.ensures.elaborated_grown.0;
+    elaborated_are = c.add_parts-names.ensures.elaborated_grown.1;
+    packages = [];
+    packages_are = same ∙ sym (append-nil c.args.tables.packages);
+  };
+  same_packages = same;
+}) c.put_named-done.ensures.err
 
 pub returns-clause-more : goal.returns-clause-more
 returns-clause-more c = on_ok_weaker c.put_named-done.result (λ h. record {

@@ -9,12 +9,10 @@ invariant_of-self c =
     let g : Graph = c.requires.0 in
     let now : Graph = record { tables = c.self.inside.tables; names = c.self.inside.names.entries } in
     let more : HasMorePackages g now = subst (HasMorePackages g) (sym c.self.view_is) c.requires.2 in
-    subst IsGraph (sym (restored g now c.args.mark c.truncate.new.self c.truncate-2.new.self c.truncate-3.new.self c.truncate-4.new.self c.truncate-5.new.self c.truncate-6.new.self c.truncate-7.new.self.entries c.requires.1 more c.requires.3
-    c.truncate.ensures c.truncate-2.ensures c.truncate-3.ensures c.truncate-4.ensures c.truncate-5.ensures c.truncate-6.ensures c.truncate-7.ensures.entries)) c.requires.1
+    subst IsGraph (sym (restored g now c.args.mark c.cut.new.tables c.truncate.new.self c.truncate-2.new.self.entries c.requires.1 more c.requires.3 c.cut.ensures c.truncate.ensures c.truncate-2.ensures.entries)) c.requires.1
 
 pub returns : goal.returns
 returns c g graph grown marked =
     let now : Graph = record { tables = c.self.inside.tables; names = c.self.inside.names.entries } in
     let more : HasMorePackages g now = subst (HasMorePackages g) (sym c.self.view_is) grown in
-    restored g now c.args.mark c.truncate.new.self c.truncate-2.new.self c.truncate-3.new.self c.truncate-4.new.self c.truncate-5.new.self c.truncate-6.new.self c.truncate-7.new.self.entries graph more marked
-    c.truncate.ensures c.truncate-2.ensures c.truncate-3.ensures c.truncate-4.ensures c.truncate-5.ensures c.truncate-6.ensures c.truncate-7.ensures.entries
+    restored g now c.args.mark c.cut.new.tables c.truncate.new.self c.truncate-2.new.self.entries graph more marked c.cut.ensures c.truncate.ensures c.truncate-2.ensures.entries
