@@ -327,7 +327,7 @@ module _ (eq : PackageName → PackageName → Bool) (features : FeatureSet) (ol
 
       own_refused : (fault : PushFault) → IsPartsCause features (length old.tables.packages) owners places (own_parts p) (items_of old.tables) fault → IsPushCause eq features old p fault
       own_refused (GateVersion at) c = absurd c
-      own_refused DuplicatePackage c = absurd c
+      own_refused (DuplicatePackage at) c = absurd c
       own_refused (PackageNotFound at) c = absurd c
       own_refused (ItemNotFound at) c = not_included foreign owners places are_places c
       own_refused (IncludeClash at) c = record { foreign = foreign; owners = owners; places = places; are_places = are_places; refused = c }

@@ -19,7 +19,7 @@ use Rattle.wit_graph_parts.proofs.Taking.{take_grown}
 module _ (features : FeatureSet) (owner : ℕ) (owners : OwnerPlaces) (places : Places) (p : Parts) (t : Items) (types : List TypeDef) (a : AreTypesAdded owners places (length p.unknown) p.types t.types types) where
   pub interfaces_refused : (ns : List Nature) (fault : PushFault) → ns ≡ natures types → IsShapeCause (InterfacesBreak features (standing owners places) owner ns p.interfaces) fault → IsPartsCause features owner owners places p t fault
   interfaces_refused ns (GateVersion at) known c = absurd c
-  interfaces_refused ns DuplicatePackage known c = absurd c
+  interfaces_refused ns (DuplicatePackage at) known c = absurd c
   interfaces_refused ns (PackageNotFound at) known c = absurd c
   interfaces_refused ns (ItemNotFound at) known c = absurd c
   interfaces_refused ns (IncludeClash at) known c = absurd c
@@ -30,7 +30,7 @@ module _ (features : FeatureSet) (owner : ℕ) (owners : OwnerPlaces) (places : 
   pub worlds_refused : (i : Interfaces) (names : List (String Global × ℕ)) (fault : PushFault) → AreInterfacesAdded features (standing owners places) owner types p.interfaces t.interfaces i names
       → IsWorldsCause features (standing owners places) owner i p.worlds types t.worlds fault → IsPartsCause features owner owners places p t fault
   worlds_refused i names (GateVersion at) b c = absurd c
-  worlds_refused i names DuplicatePackage b c = absurd c
+  worlds_refused i names (DuplicatePackage at) b c = absurd c
   worlds_refused i names (PackageNotFound at) b c = absurd c
   worlds_refused i names (ItemNotFound at) b c = record { types = types; interfaces = i; names = names; own_types = a; own_interfaces = b; refused = c }
   worlds_refused i names (IncludeClash at) b c = record { types = types; interfaces = i; names = names; own_types = a; own_interfaces = b; refused = c }

@@ -138,7 +138,7 @@ pub record WorldsRefuse (features : FeatureSet) (owner : ℕ) (owners : OwnerPla
 
 abbrev pub IsPartsCause : FeatureSet → ℕ → OwnerPlaces → Places → Parts → Items → PushFault → Type 0
 IsPartsCause features owner owners places p t (GateVersion at) = ⊥
-IsPartsCause features owner owners places p t DuplicatePackage = ⊥
+IsPartsCause features owner owners places p t (DuplicatePackage at) = ⊥
 IsPartsCause features owner owners places p t (PackageNotFound at) = ⊥
 IsPartsCause features owner owners places p t (ItemNotFound at) = WorldsRefuse features owner owners places p t (world.ItemNotFound at)
 IsPartsCause features owner owners places p t (IncludeClash at) = WorldsRefuse features owner owners places p t (world.IncludeClash at)
@@ -151,7 +151,7 @@ IsPartsCause features owner owners places p t OutOfMemory = Unit {0}
 -- its name is there, or a gate of it is late
 abbrev pub IsPackageCause : (PackageName → PackageName → Bool) → List (PackageName × ℕ) → UnresolvedPackage → PushFault → Type 0
 IsPackageCause eq names p (GateVersion at) = IsLate p.name.version (of_package p) at
-IsPackageCause eq names p DuplicatePackage = is_some (lookup (eq p.name) names) ≡ true
+IsPackageCause eq names p (DuplicatePackage at) = (is_some (lookup (eq p.name) names) ≡ true) × (at ≡ p.name_span)
 IsPackageCause eq names p (PackageNotFound at) = ⊥
 IsPackageCause eq names p (ItemNotFound at) = ⊥
 IsPackageCause eq names p (IncludeClash at) = ⊥
@@ -209,7 +209,7 @@ module _ (eq : PackageName → PackageName → Bool) (features : FeatureSet) (ol
 
   abbrev pub IsPushCause : PushFault → Type 0
   IsPushCause (GateVersion at) = IsLate p.name.version (of_package p) at
-  IsPushCause DuplicatePackage = is_some (lookup (eq p.name) old.names) ≡ true
+  IsPushCause (DuplicatePackage at) = (is_some (lookup (eq p.name) old.names) ≡ true) × (at ≡ p.name_span)
   IsPushCause (PackageNotFound at) = PackagesBreak eq old.names p.foreign_deps.entries p.foreign_dep_spans.items at
   IsPushCause (ItemNotFound at) = ItemsMissing at
   IsPushCause (IncludeClash at) = AreWorldsRefusedBy (world.IncludeClash at)

@@ -43,7 +43,7 @@ fn check_package(
     ensures cause { IfErr result (spec.IsPackageCause ⟦<PackageName as PartialEq>⟧.eq names.now.entries «package».now) }
 {
     if names.contains_key(&package.name) {
-        return Err(PushFault::DuplicatePackage);
+        return Err(PushFault::DuplicatePackage(package.name_span));
     }
     match check_gates(package) {
         Ok(()) => Ok(()),

@@ -48,7 +48,7 @@ pub record TypesBreak (owners : OwnerPlaces) (places : Places) (first : ℕ) (ow
 
 abbrev pub IsShapeCause : Breaks → PushFault → Type 0
 IsShapeCause breaks (GateVersion at) = ⊥
-IsShapeCause breaks DuplicatePackage = ⊥
+IsShapeCause breaks (DuplicatePackage at) = ⊥
 IsShapeCause breaks (PackageNotFound at) = ⊥
 IsShapeCause breaks (ItemNotFound at) = ⊥
 IsShapeCause breaks (IncludeClash at) = ⊥
@@ -100,7 +100,7 @@ AreWorldsRefused features s owner interfaces own types old fault =
 
 abbrev pub IsWorldsCause : FeatureSet → Standing → ℕ → Interfaces → List World → List TypeDef → Worlds → PushFault → Type 0
 IsWorldsCause features s owner interfaces own types old (GateVersion at) = ⊥
-IsWorldsCause features s owner interfaces own types old DuplicatePackage = ⊥
+IsWorldsCause features s owner interfaces own types old (DuplicatePackage at) = ⊥
 IsWorldsCause features s owner interfaces own types old (PackageNotFound at) = ⊥
 IsWorldsCause features s owner interfaces own types old (ItemNotFound at) = AreWorldsRefused features s owner interfaces own types old (world.ItemNotFound at)
 IsWorldsCause features s owner interfaces own types old (IncludeClash at) = AreWorldsRefused features s owner interfaces own types old (world.IncludeClash at)

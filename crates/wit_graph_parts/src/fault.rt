@@ -14,8 +14,8 @@ use wit_words::Span;
 pub enum PushFault {
     /// An item is stable from a version on that the package hasn't reached.
     GateVersion(Span),
-    /// A package of that name and version is there already.
-    DuplicatePackage,
+    /// A package of the name that stands there is there already.
+    DuplicatePackage(Span),
     /// A package that is named isn't there.
     PackageNotFound(Span),
     /// A statement that stays names what isn't there, or is left out.

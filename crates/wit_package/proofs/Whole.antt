@@ -104,6 +104,7 @@ module _ (files : List FileTree) (me : PackageNameTree) (declared : IsDeclared f
           items = items;
           items_are = are;
           name = made.name;
+          name_stands = made.name_stands;
           docs = made.docs;
           whole = λ given. subst (IsWhole (owners_of (package_text me) items sorted) given) (sym made.types) (builds.grows given).whole;
           unique = made.unique;

@@ -10,7 +10,7 @@ use Rattle.wit_types.specs.declared.«package».AstItem.{AstItem}
 use Rattle.wit_types.specs.declared.«package».AstItem.TheVariants as ids
 use Rattle.wit_types.specs.declared.«package».UnresolvedPackage.{UnresolvedPackage}
 use Rattle.wit_scopes.specs.Scopes.{ItemScope, package_scopes, package_docs}
-use Rattle.wit_rules.specs.Facts.{package_name}
+use Rattle.wit_rules.specs.Facts.{package_name, name_span}
 use Rattle.wit_arena.specs.Tree.{Name, PackageText, Place, in_world, Owner, Tree}
 use Rattle.wit_arena.specs.Arena.{IsUnique}
 use Rattle.wit_arena.specs.Docs.{said, contents_of}
@@ -60,6 +60,7 @@ context_of me files items sorted = record { me = package_text me; scopes = packa
 -- a package made of these types, interfaces and worlds, and of what it asks of others
 pub record IsMade (me : PackageNameTree) (comments : List Slice) (items : Items) (needs : List NeedTree) (a : List TypeDef) (interfaces : List Interface) (worlds : List World) (spans : List Span) (p : UnresolvedPackage) : Type 0 where
   pub name : IsPackageName me p.name
+  pub name_stands : p.name_span ≡ name_span me
   pub docs : contents_of p.docs ≡ said comments
   pub types : p.types ≡ a
   pub unique : IsUnique p.types
@@ -77,6 +78,7 @@ pub record IsResolved (files : List FileTree) (p : UnresolvedPackage) : Type 0 w
   pub items : Items
   pub items_are : AreItemsOf (files_need me files) items
   pub name : IsPackageName me p.name
+  pub name_stands : p.name_span ≡ name_span me
   pub docs : contents_of p.docs ≡ said (package_docs files)
   -- types refer backwards alone, whatever is given for names of other packages, and types without a name that are made of the same are one
   pub whole : (given : Owner → Name → Tree) → IsWhole (owners_of (package_text me) items sorted) given p.types

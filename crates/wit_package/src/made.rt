@@ -11,6 +11,7 @@ use std::alloc::{AllocError, Global};
 use wit_arena::docs_of;
 use wit_foreign::{ForeignItems, Need, foreign_deps, package_name};
 use wit_interfaces::Building;
+use wit_rules::name_span;
 use wit_syntax::{Docs, PackageName, Span};
 use wit_types::{Arena, UnresolvedPackage, World};
 
@@ -31,11 +32,13 @@ pub fn package_of<'a>(
     requires versions { HaveVersions (asked.needs needs.now) }
     ensures { IfOk result (spec.IsMade (view.package_name me.now) (view.docs docs.now) items.now (asked.needs needs.now) building.entry.types building.entry.interfaces worlds spans.items) }
 {
+    let name_span = name_span(me);
     let name = package_name(alloc, me)?;
     let docs = docs_of(alloc, docs)?;
     let deps = foreign_deps(alloc, items, needs)?;
     Ok(UnresolvedPackage {
         name,
+        name_span,
         docs,
         worlds,
         interfaces: building.interfaces,

@@ -38,6 +38,13 @@ impl<T: Stored> Arena<T> {
         }
     }
 
+    /// The values of a list, each under the id of its place.
+    pub fn from_items(items: Vec<T>) -> Arena<T>
+        ensures { result ≡ items.items }
+    {
+        Arena { items }
+    }
+
     /// Puts a value behind the others, and answers its id. Where memory is wanting nothing changes, and the value is
     /// dropped.
     pub fn alloc(&mut self, value: T) -> Result<Id<T::Tag>, AllocError>

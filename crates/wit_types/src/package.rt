@@ -95,6 +95,8 @@ pub type ForeignItems = IndexMap<String, (AstItem, Vec<Stability>)>;
 pub struct UnresolvedPackage {
     /// Its name.
     pub name: PackageName,
+    /// Where that stands, with its version: in the first of its files that gives it.
+    pub name_span: Span,
     /// Its docs.
     pub docs: Docs,
     /// Its worlds, and those of other packages that it asks for.
