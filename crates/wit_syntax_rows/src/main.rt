@@ -8,17 +8,13 @@
 mod answers;
 mod asked;
 mod cuts;
-mod definitions;
 mod equality;
 mod files;
-mod items;
 mod outcome;
 mod refusals;
 mod spelling;
 mod tokens;
 mod trees;
-mod types;
-mod writer;
 
 use answers::Rows;
 use std::alloc::{AllocError, Global};
