@@ -6,4 +6,5 @@ mod Counted
 mod Keys
 mod Apart
 mod Order
+mod Offsets
 pub mod Whole

@@ -1,5 +1,6 @@
--- What stands behind the first of a list, and lists that are apart by keys.
-use Rattle.std.proofs.Common.{◌≡◌, ℕ, zero, suc, ◌+◌, ◌<◌, List, [], ◌∷◌, ◌++◌, inl, inr, length, drop, Some, None, map, refl, sym, ap, ◌∙◌, arith}
+-- What stands behind the first of a list, lists of which each was changed, and lists that are apart by keys.
+use Rattle.std.proofs.Common.{◌≡◌, ℕ, zero, suc, ◌+◌, ◌<◌, List, [], ◌∷◌, ◌++◌, inl, inr, length, drop, Some, None, map, refl, sym, subst, ap, ◌∙◌, arith}
+use Rattle.std.proofs.lemmas.List.{drop-map}
 use Rattle.std.proofs.lemmas.Option.{same_Some}
 use Rattle.std.specs.Prelude.{slice_get, flat_map}
 use Rattle.wit_order.specs.Order as order
@@ -24,6 +25,23 @@ module _ {X : Type 0} where
   has_drop zero xs x h = h
   has_drop (suc n) [] x h = h
   has_drop (suc n) (y ∷ xs) x h = inr (has_drop n xs x h)
+
+-- ---- changed one by one
+
+module _ {X Y : Type 0} (f : X → Y) where
+  pub got_mapped : (xs : List X) (k : ℕ) (y : Y) → slice_get (map f xs) k ≡ Some y → (x : X) × (slice_get xs k ≡ Some x) × (f x ≡ y)
+  got_mapped [] k y h = absurd cc
+  got_mapped (x ∷ xs) zero y h = (x, refl, same_Some (f x) y h)
+  got_mapped (x ∷ xs) (suc k) y h = got_mapped xs k y h
+
+  -- the same behind the first of them
+  pub got_behind : (n : ℕ) (xs : List X) (k : ℕ) (y : Y) → slice_get (drop n (map f xs)) k ≡ Some y → (x : X) × (slice_get (drop n xs) k ≡ Some x) × (f x ≡ y)
+  got_behind n xs k y h = got_mapped (drop n xs) k y (subst (λ (ys : List Y). slice_get ys k ≡ Some y) (drop-map f n xs) h)
+
+  pub has_mapped : (xs : List X) (y : Y) → order.Has (map f xs) y → (x : X) × order.Has xs x × (f x ≡ y)
+  has_mapped [] y h = absurd h
+  has_mapped (x ∷ xs) y (inl here) = (x, inl refl, sym here)
+  has_mapped (x ∷ xs) y (inr there) = (let r = has_mapped xs y there in (r.0, inr r.1, r.2))
 
 -- ---- apart
 
@@ -53,11 +71,6 @@ module _ {X K : Type 0} (key : X → K) where
 
 pub map_apart : {X Y K : Type 0} (f : X → Y) (key : Y → K) (xs : List X) → AreApartBy (λ (x : X). key (f x)) xs → AreApartBy key (map f xs)
 map_apart f key xs apart i j x y at_i at_j same =
-    let a = mapped f xs i x at_i in
-    let b = mapped f xs j y at_j in
+    let a = got_mapped f xs i x at_i in
+    let b = got_mapped f xs j y at_j in
     apart i j a.0 b.0 a.1 b.1 (ap key a.2 ∙ same ∙ sym (ap key b.2))
-  where
-    mapped : {X Y : Type 0} (f : X → Y) (xs : List X) (i : ℕ) (y : Y) → slice_get (map f xs) i ≡ Some y → (x : X) × (slice_get xs i ≡ Some x) × (f x ≡ y)
-    mapped f [] i y h = absurd cc
-    mapped f (x ∷ xs) zero y h = (x, refl, same_Some (f x) y h)
-    mapped f (x ∷ xs) (suc i) y h = mapped f xs i y h

@@ -1,4 +1,4 @@
--- What the files of a package are resolved to may be put into a graph of packages (WIT, Packages, Use).
+-- What the files of a package are resolved to may be put into a graph of packages, wherever their texts stand (WIT, Packages, Use).
 use Rattle.std.specs.Prelude.{◌≡◌, ℕ, ◌≤◌, List, length, drop}
 use Rattle.wit_order.specs.Order.{Has}
 use Rattle.wit_types.specs.declared.world.World.{World}
@@ -9,6 +9,7 @@ use Rattle.wit_finding.specs.Asks.{AreDepsThere, items_of}
 use Rattle.wit_placed.specs.Order.{AreNamelessFree, AreInOrder}
 use Rattle.wit_graph_parts.specs.Own.{IsWellFormed}
 use Rattle.wit_package.specs.Steps.{Resolves}
+use Rattle.wit_offsets.specs.Offsets.{package_at}
 
 -- there is a span for each package of which something is asked
 abbrev pub SpansAreCounted : Type 0
@@ -37,3 +38,7 @@ KeysAreOfItems = (files : List FileTree) (p : UnresolvedPackage) (others : ℕ) 
 -- all of this together
 abbrev pub ResolvedPackagesAreWellFormed : Type 0
 ResolvedPackagesAreWellFormed = (files : List FileTree) (p : UnresolvedPackage) → Resolves files p → IsWellFormed p
+
+-- what may be put into a graph still may with its places so many bytes further on
+abbrev pub MovedPackagesAreWellFormed : Type 0
+MovedPackagesAreWellFormed = (p : UnresolvedPackage) (n : ℕ) → IsWellFormed p → IsWellFormed (package_at n p)

@@ -1,10 +1,10 @@
-//! Laws: what the files of a package are resolved to may be put into a graph of packages.
+//! Laws: what the files of a package are resolved to may be put into a graph of packages, wherever their texts stand.
 #![tactic(auto)]
 
 mod law;
 
 pub use law::{
     law_asked_items_are_there, law_interfaces_are_in_order, law_keys_are_of_items,
-    law_nameless_types_are_free, law_resolved_packages_are_well_formed, law_spans_are_counted,
-    law_unknown_types_are_there,
+    law_moved_packages_are_well_formed, law_nameless_types_are_free,
+    law_resolved_packages_are_well_formed, law_spans_are_counted, law_unknown_types_are_there,
 };

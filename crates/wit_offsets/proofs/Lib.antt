@@ -1,0 +1,6 @@
+mod Lists
+mod Maps
+mod Steps
+mod Whole
+mod Same
+mod Fitting
