@@ -1,0 +1,8 @@
+//! Packages that come to a graph together (WIT, Packages).
+#![tactic(auto)]
+
+mod fault;
+mod push;
+
+pub use fault::GroupFault;
+pub use push::push_together;

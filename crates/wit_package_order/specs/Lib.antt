@@ -1,0 +1,4 @@
+pub mod Packages
+pub mod Names
+pub mod Rows
+pub mod Sorted
