@@ -1,0 +1,141 @@
+//! The names by which core modules import.
+
+ghost use Rattle.std.specs.Prelude.{◌≡◌, string_bytes, IfOk};
+ghost use Rattle.wit_names.specs.Names.{ArePackagesKnown};
+ghost use Rattle.wit_core_names.specs.Imports as spec;
+
+use crate::items::{ResourceIntrinsic, WasmImport};
+use crate::texts::{Tables, key_text, type_name};
+use std::alloc::{AllocError, Global};
+use wit_types::{Mangling, WorldKey};
+
+/// The module from which a world's own things are imported.
+fn root_module(alloc: Global, mangling: Mangling) -> Result<String, AllocError>
+    ensures { IfOk result (λ s. string_bytes s ≡ spec.root_module mangling) }
+{
+    match mangling {
+        Mangling::Standard32 => String::from_str(alloc, "cm32p2"),
+        Mangling::Legacy => String::from_str(alloc, "$root"),
+    }
+}
+
+/// The module from which things of an interface are imported.
+fn imported_module(
+    alloc: Global,
+    tables: &Tables<'_>,
+    mangling: Mangling,
+    interface: Option<&WorldKey>,
+) -> Result<String, AllocError>
+    requires packages { ArePackagesKnown tables.now.packages.now tables.now.interfaces.now }
+    requires named { spec.IsInterfaceNamed tables.now interface }
+    ensures { IfOk result (λ s. spec.IsModuleOf mangling tables.now (spec.interface_module mangling) interface.entry (string_bytes s)) }
+{
+    let Some(key) = interface else {
+        return root_module(alloc, mangling);
+    };
+    let key = key_text(alloc, tables, mangling, key)?;
+    match mangling {
+        Mangling::Standard32 => format!(in alloc; "cm32p2|{key}"),
+        Mangling::Legacy => Ok(key),
+    }
+}
+
+/// The module from which things of an exported interface are imported.
+fn exported_module(
+    alloc: Global,
+    tables: &Tables<'_>,
+    mangling: Mangling,
+    interface: Option<&WorldKey>,
+) -> Result<String, AllocError>
+    requires packages { ArePackagesKnown tables.now.packages.now tables.now.interfaces.now }
+    requires named { spec.IsInterfaceNamed tables.now interface }
+    ensures { IfOk result (λ s. spec.IsModuleOf mangling tables.now (spec.exported_module mangling) interface.entry (string_bytes s)) }
+{
+    let Some(key) = interface else {
+        return root_module(alloc, mangling);
+    };
+    let key = key_text(alloc, tables, mangling, key)?;
+    let key = key.as_str();
+    match mangling {
+        Mangling::Standard32 => format!(in alloc; "cm32p2|_ex_{key}"),
+        Mangling::Legacy => format!(in alloc; "[export]{key}"),
+    }
+}
+
+/// The module from which something done with a resource is imported.
+fn intrinsic_module(
+    alloc: Global,
+    tables: &Tables<'_>,
+    mangling: Mangling,
+    interface: Option<&WorldKey>,
+    intrinsic: ResourceIntrinsic,
+) -> Result<String, AllocError>
+    requires packages { ArePackagesKnown tables.now.packages.now tables.now.interfaces.now }
+    requires named { spec.IsInterfaceNamed tables.now interface }
+    ensures { IfOk result (λ s. spec.IsModuleOf mangling tables.now (spec.side_module mangling intrinsic) interface.entry (string_bytes s)) }
+{
+    match intrinsic {
+        ResourceIntrinsic::ImportedDrop => imported_module(alloc, tables, mangling, interface),
+        ResourceIntrinsic::ExportedDrop
+        | ResourceIntrinsic::ExportedNew
+        | ResourceIntrinsic::ExportedRep => exported_module(alloc, tables, mangling, interface),
+    }
+}
+
+/// The name of something done with a resource of that name.
+fn intrinsic_name(
+    alloc: Global,
+    mangling: Mangling,
+    intrinsic: ResourceIntrinsic,
+    name: &str,
+) -> Result<String, AllocError>
+    ensures { IfOk result (λ s. string_bytes s ≡ spec.intrinsic_name mangling intrinsic name.now) }
+{
+    match (mangling, intrinsic) {
+        (Mangling::Standard32, ResourceIntrinsic::ImportedDrop | ResourceIntrinsic::ExportedDrop) =>
+            format!(in alloc; "{name}_drop"),
+        (Mangling::Standard32, ResourceIntrinsic::ExportedNew) => format!(in alloc; "{name}_new"),
+        (Mangling::Standard32, ResourceIntrinsic::ExportedRep) => format!(in alloc; "{name}_rep"),
+        (Mangling::Legacy, ResourceIntrinsic::ImportedDrop | ResourceIntrinsic::ExportedDrop) => {
+            format!(in alloc; "[resource-drop]{name}")
+        }
+        (Mangling::Legacy, ResourceIntrinsic::ExportedNew) => {
+            format!(in alloc; "[resource-new]{name}")
+        }
+        (Mangling::Legacy, ResourceIntrinsic::ExportedRep) => {
+            format!(in alloc; "[resource-rep]{name}")
+        }
+    }
+}
+
+/// The module and the name by which a core module imports something (Component Model, Build Targets).
+pub fn wasm_import_name(
+    alloc: Global,
+    tables: &Tables<'_>,
+    mangling: Mangling,
+    import: &WasmImport<'_>,
+) -> Result<(String, String), AllocError>
+    requires packages { ArePackagesKnown tables.now.packages.now tables.now.interfaces.now }
+    requires named { spec.IsImportNamed tables.now «import».now }
+    ensures { IfOk result (λ n. spec.IsImportName mangling tables.now «import».now (string_bytes n.0) (string_bytes n.1)) }
+{
+    match import {
+        WasmImport::Func { interface, func } => Ok((
+            imported_module(alloc, tables, mangling, *interface)?,
+            String::from_str(alloc, func.name.as_str())?,
+        )),
+        WasmImport::ResourceIntrinsic {
+            interface,
+            resource,
+            intrinsic,
+        } => Ok((
+            intrinsic_module(alloc, tables, mangling, *interface, *intrinsic)?,
+            intrinsic_name(
+                alloc,
+                mangling,
+                *intrinsic,
+                type_name(tables.types, *resource),
+            )?,
+        )),
+    }
+}
