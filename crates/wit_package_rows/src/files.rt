@@ -1,11 +1,11 @@
 //! Files of a package, and the answer to them.
 
 use crate::packages;
-use crate::page::Page;
 use std::alloc::{AllocError, Global};
 use std::rt::Files;
 use std::{fs, io};
 use wit_package::UnresolvedPackageGroup;
+use wit_pages::Page;
 use wit_rules::PackageFault;
 use wit_syntax::SourceMap;
 

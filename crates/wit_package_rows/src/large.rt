@@ -2,9 +2,9 @@
 //! to the count, and the back. In the part `$` is the number and `#` the one before it. They are answered by how much there is.
 
 use crate::files::answer_large;
-use crate::page::Page;
 use std::alloc::{AllocError, Global};
 use std::fmt::Write;
+use wit_pages::Page;
 
 /// How a large text is made.
 #[derive(Clone, Copy)]

@@ -8,23 +8,14 @@
 //! titles.
 #![tactic(auto)]
 
-mod definitions;
 mod files;
-mod functions;
 mod large;
-mod names;
 mod packages;
-mod page;
-mod scopes;
-mod stability;
-mod types;
-mod view;
-mod worlds;
 
-use page::Page;
 use std::alloc::AllocError;
 use std::io;
 use std::rt::Files;
+use wit_pages::Page;
 
 /// The answer to a line that is no row of texts by itself.
 fn marked(rt: &(impl Files + AllocGlobal), page: &mut Page, front: &str, line: &str) {

@@ -1,15 +1,11 @@
 //! Packages.
 
-use crate::names;
-use crate::page::Page;
-use crate::scopes::interfaces;
-use crate::stability::{docs, gates};
-use crate::types::unnamed_types;
-use crate::view::View;
-use crate::worlds::worlds;
 use wit_package::UnresolvedPackageGroup;
-use wit_syntax::{SourceMap, Span};
-use wit_types::{AstItem, ForeignItems, Id, PackageName, Stability, TypeOwner, UnresolvedPackage};
+use wit_pages::scopes::interfaces;
+use wit_pages::worlds::worlds;
+use wit_pages::{Packages, Page, View, docs, gates, names, unnamed_types};
+use wit_syntax::SourceMap;
+use wit_types::{AstItem, ForeignItems, Id, Stability, TypeOwner, UnresolvedPackage};
 
 /// The gates of what asks for something, one behind the other.
 fn asked_under(page: &mut Page, of: &[Stability]) {
@@ -42,9 +38,9 @@ fn asked(page: &mut Page, view: &View<'_>, of: &ForeignItems) {
 }
 
 /// What is asked of other packages, each with the first place of that.
-fn others(page: &mut Page, view: &View<'_>) {
-    let spans = view.package.foreign_dep_spans.as_slice();
-    for ((name, items), span) in view.package.foreign_deps.iter().zip(spans.iter()) {
+fn others(page: &mut Page, view: &View<'_>, of: &UnresolvedPackage) {
+    let spans = of.foreign_dep_spans.as_slice();
+    for ((name, items), span) in of.foreign_deps.iter().zip(spans.iter()) {
         page.begin("asks ");
         page.shown(name);
         names::at(page, view, *span);
@@ -56,8 +52,8 @@ fn others(page: &mut Page, view: &View<'_>) {
 }
 
 /// The types of other packages, each with its first place.
-fn unknown(page: &mut Page, view: &View<'_>) {
-    let spans = view.package.unknown_type_spans.as_slice();
+fn unknown(page: &mut Page, view: &View<'_>, of: &UnresolvedPackage) {
+    let spans = of.unknown_type_spans.as_slice();
     for (index, span) in spans.iter().enumerate() {
         page.begin("unknown ");
         names::named_type(page, view, Id::from_index(index));
@@ -82,7 +78,10 @@ fn counts(page: &mut Page, of: &UnresolvedPackage) {
 /// A package.
 fn package<'p>(page: &mut Page, of: &'p UnresolvedPackage, map: &'p SourceMap, places: bool) {
     let view = &View {
-        package: of,
+        types: &of.types,
+        interfaces: &of.interfaces,
+        worlds: &of.worlds,
+        packages: &Packages::Asked(&of.foreign_deps),
         map,
         scope: TypeOwner::None,
         places,
@@ -92,8 +91,8 @@ fn package<'p>(page: &mut Page, of: &'p UnresolvedPackage, map: &'p SourceMap, p
     page.shown(&of.name);
     page.end();
     page.go_in();
-    others(page, view);
-    unknown(page, view);
+    others(page, view, of);
+    unknown(page, view, of);
     interfaces(page, view);
     worlds(page, view);
     unnamed_types(page, view);

@@ -1,5 +1,5 @@
 use Rattle.std.proofs.Common.{◌≡◌, ◌+◌, ◌*◌}
-use Rattle.wit_package_rows.proofs.types.+spelled.Given as goal
+use Rattle.wit_pages.proofs.types.+spelled.Given as goal
 
 abbrev pub decreases-spelled : goal.decreases-spelled
 decreases-spelled l = 4 * l.fuel

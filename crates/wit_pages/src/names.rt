@@ -1,20 +1,45 @@
 //! Names of interfaces, worlds and types.
 
 use crate::page::Page;
-use crate::view::{View, under};
-use wit_syntax::Span;
-use wit_types::{AstItem, InterfaceId, PackageName, TypeId, TypeOwner, UnresolvedPackage, WorldId};
+use crate::view::{Packages, View, under};
+use indexmap::IndexMap;
+use wit_types::{
+    AstItem, ForeignItems, InterfaceId, PackageId, PackageName, TypeId, TypeOwner, WorldId,
+};
+use wit_words::Span;
 
-/// The other package in which an interface or a world stands, if it stands in one.
-pub fn package_of(package: &UnresolvedPackage, item: AstItem) -> Option<&PackageName> {
-    for (name, items) in package.foreign_deps.iter() {
-        for (_, (asked, _)) in items.iter() {
-            if *asked == item {
+/// The package of which an item is asked, if it is asked for.
+fn asked_of(asked: &IndexMap<PackageName, ForeignItems>, item: AstItem) -> Option<&PackageName> {
+    for (name, items) in asked.iter() {
+        for (_, (found, _)) in items.iter() {
+            if *found == item {
                 return Some(name);
             }
         }
     }
     None
+}
+
+/// The package of a graph that an item is said to be of.
+fn owner_of(view: &View<'_>, item: AstItem) -> Option<PackageId> {
+    match item {
+        AstItem::Interface(id) => under(view.interfaces, id)?.package,
+        AstItem::World(id) => under(view.worlds, id)?.package,
+    }
+}
+
+/// The other package in which an interface or a world stands, if it stands in one.
+pub fn package_of<'p>(view: &View<'p>, item: AstItem) -> Option<&'p PackageName> {
+    match view.packages {
+        Packages::Asked(asked) => asked_of(asked, item),
+        Packages::Known { packages, own } => {
+            let owner = owner_of(view, item)?;
+            if *own == Some(owner) {
+                return None;
+            }
+            Some(&under(packages, owner)?.name)
+        }
+    }
 }
 
 /// The name of an item, behind that of its package where that is another.
@@ -27,9 +52,9 @@ fn item(page: &mut Page, package: Option<&PackageName>, name: &str) {
 
 /// The name of an interface; one without a name goes by its place.
 pub fn interface(page: &mut Page, view: &View<'_>, id: InterfaceId) {
-    match under(&view.package.interfaces, id).map(|found| &found.name) {
+    match under(view.interfaces, id).map(|found| &found.name) {
         Some(Some(name)) => {
-            item(page, package_of(view.package, AstItem::Interface(id)), name);
+            item(page, package_of(view, AstItem::Interface(id)), name);
         }
         Some(None) => {
             page.words("#");
@@ -41,12 +66,8 @@ pub fn interface(page: &mut Page, view: &View<'_>, id: InterfaceId) {
 
 /// The name of a world.
 pub fn world(page: &mut Page, view: &View<'_>, id: WorldId) {
-    match under(&view.package.worlds, id) {
-        Some(found) => item(
-            page,
-            package_of(view.package, AstItem::World(id)),
-            &found.name,
-        ),
+    match under(view.worlds, id) {
+        Some(found) => item(page, package_of(view, AstItem::World(id)), &found.name),
         None => page.words("! no world"),
     }
 }
@@ -63,7 +84,7 @@ fn owner(page: &mut Page, view: &View<'_>, owner: TypeOwner) {
 
 /// The name of a type that has one, behind that of its scope where that is another than the view's.
 pub fn named_type(page: &mut Page, view: &View<'_>, id: TypeId) {
-    let Some(found) = under(&view.package.types, id) else {
+    let Some(found) = under(view.types, id) else {
         return page.words("! no type");
     };
     if found.owner != view.scope {

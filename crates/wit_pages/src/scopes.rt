@@ -19,11 +19,11 @@ fn members(page: &mut Page, view: &View<'_>, of: &Interface) {
 }
 
 /// An interface; one of another package stands for that.
-fn interface(page: &mut Page, view: &View<'_>, id: InterfaceId, of: &Interface) {
+pub fn interface(page: &mut Page, view: &View<'_>, id: InterfaceId, of: &Interface) {
     docs(page, &of.docs);
     page.begin("interface ");
     names::interface(page, view, id);
-    if names::package_of(view.package, AstItem::Interface(id)).is_some() {
+    if names::package_of(view, AstItem::Interface(id)).is_some() {
         page.words(" of another package");
     }
     gates(page, &of.stability);
@@ -37,7 +37,7 @@ fn interface(page: &mut Page, view: &View<'_>, id: InterfaceId, of: &Interface) 
 
 /// All interfaces, in their order.
 pub fn interfaces(page: &mut Page, view: &View<'_>) {
-    for (index, of) in view.package.interfaces.iter().enumerate() {
+    for (index, of) in view.interfaces.iter().enumerate() {
         interface(page, view, Id::from_index(index), of);
     }
 }

@@ -103,7 +103,7 @@ fn named_line(page: &mut Page, view: &View<'_>, id: TypeId, of: &TypeDef) {
 
 /// A type that has a name, behind words that say where it stands, as it goes by a key there.
 pub fn definition(page: &mut Page, view: &View<'_>, front: &str, key: &str, id: TypeId) {
-    let Some(of) = under(&view.package.types, id) else {
+    let Some(of) = under(view.types, id) else {
         return page.words("! no type\n");
     };
     docs(page, &of.docs);

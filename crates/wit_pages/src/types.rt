@@ -79,7 +79,7 @@ fn parts_of(alloc: Global, kind: &TypeDefKind) -> Result<Vec<Option<Type>>, Allo
 
 /// What a type is, if it has no name.
 fn unnamed<'p>(view: &View<'p>, id: TypeId) -> Option<&'p TypeDefKind> {
-    let found = under(&view.package.types, id)?;
+    let found = under(view.types, id)?;
     match &found.name {
         Some(_) => None,
         None => Some(&found.kind),
@@ -194,7 +194,7 @@ pub fn defined_as(page: &mut Page, view: &View<'_>, kind: &TypeDefKind) {
 /// The types that have no name, in their order.
 pub fn unnamed_types(page: &mut Page, view: &View<'_>) {
     let mut is_first = true;
-    for of in view.package.types.iter() {
+    for of in view.types.iter() {
         if of.name.is_none() {
             if is_first {
                 page.begin("without names: ");

@@ -7,11 +7,11 @@ use crate::page::Page;
 use crate::stability::{docs, gates};
 use crate::view::View;
 use indexmap::IndexMap;
-use wit_syntax::Span;
 use wit_types::{
     AstItem, Id, InterfaceId, Stability, TypeOwner, World, WorldId, WorldInclude, WorldItem,
     WorldKey,
 };
+use wit_words::Span;
 
 /// An interface that a world imports or exports, by its name or by a label.
 fn interface(page: &mut Page, view: &View<'_>, key: &WorldKey, id: InterfaceId) {
@@ -100,11 +100,11 @@ fn members(page: &mut Page, view: &View<'_>, of: &World) {
 }
 
 /// A world; one of another package stands for that.
-fn world(page: &mut Page, view: &View<'_>, id: WorldId, of: &World) {
+pub fn world(page: &mut Page, view: &View<'_>, id: WorldId, of: &World) {
     docs(page, &of.docs);
     page.begin("world ");
     names::world(page, view, id);
-    if names::package_of(view.package, AstItem::World(id)).is_some() {
+    if names::package_of(view, AstItem::World(id)).is_some() {
         page.words(" of another package");
     }
     gates(page, &of.stability);
@@ -118,7 +118,7 @@ fn world(page: &mut Page, view: &View<'_>, id: WorldId, of: &World) {
 
 /// All worlds, in their order.
 pub fn worlds(page: &mut Page, view: &View<'_>) {
-    for (index, of) in view.package.worlds.iter().enumerate() {
+    for (index, of) in view.worlds.iter().enumerate() {
         world(page, view, Id::from_index(index), of);
     }
 }

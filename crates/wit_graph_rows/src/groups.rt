@@ -1,0 +1,94 @@
+//! Groups of files: those of one package, and of the packages that are nested in them.
+
+use std::alloc::{AllocError, Global};
+use std::rt::Files;
+use std::{fs, io};
+
+/// What the files of a row are called, in their order.
+const PATHS: &[&str] = &[
+    "a.wit", "b.wit", "c.wit", "d.wit", "e.wit", "f.wit", "g.wit", "h.wit",
+];
+
+/// What each file behind those is called.
+const LATER: &str = "later.wit";
+
+/// The files of a group.
+#[derive(Drop)]
+pub struct Group {
+    paths: Vec<String>,
+    texts: Vec<String>,
+}
+
+impl Group {
+    /// No files.
+    fn new(alloc: Global) -> Group {
+        Group {
+            paths: Vec::new(alloc),
+            texts: Vec::new(alloc),
+        }
+    }
+
+    /// Adds a file behind the others.
+    fn push(&mut self, alloc: Global, path: &str, text: String) -> Result<(), AllocError> {
+        self.paths.push(String::from_str(alloc, path)?)?;
+        self.texts.push(text)?;
+        Ok(())
+    }
+
+    /// The paths and the texts.
+    pub fn files(&self, alloc: Global) -> Result<Vec<(&str, &str)>, AllocError> {
+        let mut found = Vec::new(alloc);
+        for (path, text) in self.paths.iter().zip(self.texts.iter()) {
+            found.push((path.as_str(), text.as_str()))?;
+        }
+        Ok(found)
+    }
+}
+
+/// The path of a file by its place in the row.
+fn path_at(place: usize) -> &'static str {
+    match PATHS.get(place) {
+        Some(path) => path,
+        None => LATER,
+    }
+}
+
+/// The group of some texts, of which the first is that file of the row.
+fn group_of_texts(alloc: Global, first: usize, texts: &str) -> Result<Group, AllocError> {
+    let mut group = Group::new(alloc);
+    for (index, part) in texts.split(" | ").enumerate() {
+        let path = path_at(first.saturating_add(index));
+        group.push(alloc, path, part.replace(alloc, "\\n", "\n")?)?;
+    }
+    Ok(group)
+}
+
+/// The groups of a row of texts.
+pub fn groups_of_texts(alloc: Global, row: &str) -> Result<Vec<Group>, AllocError> {
+    let mut groups = Vec::new(alloc);
+    let mut first = 0_usize;
+    for texts in row.split(" || ") {
+        let group = group_of_texts(alloc, first, texts)?;
+        first = first.saturating_add(group.paths.len());
+        groups.push(group)?;
+    }
+    Ok(groups)
+}
+
+/// The group of files of those names.
+fn group_of_files(rt: &(impl Files + AllocGlobal), names: &str) -> io::Result<Group> {
+    let mut group = Group::new(rt.alloc());
+    for name in names.split_whitespace() {
+        group.push(rt.alloc(), name, fs::read_to_string(rt, name)?)?;
+    }
+    Ok(group)
+}
+
+/// The groups of a row that names files.
+pub fn groups_of_files(rt: &(impl Files + AllocGlobal), row: &str) -> io::Result<Vec<Group>> {
+    let mut groups = Vec::new(rt.alloc());
+    for names in row.split(" || ") {
+        groups.push(group_of_files(rt, names)?)?;
+    }
+    Ok(groups)
+}
