@@ -18,7 +18,7 @@ program=$folder/crates/graph_bench
 mkdir -p "$program/src" "$program/proofs" "$folder/texts"
 cp "$top/bench/graph/main.rt.txt" "$program/src/main.rt"
 cp "$rows/src/pushes.rt" "$program/src/"
-for file in $(cd "$rows/proofs" && find . -name '*.antt' ! -path './main/*'); do
+for file in $(cd "$rows/proofs" && find . -name '*.antt'); do
     mkdir -p "$(dirname -- "$program/proofs/$file")"
     sed 's/Rattle[.]wit_graph_rows[.]/Rattle.graph_bench./' "$rows/proofs/$file" >"$program/proofs/$file"
 done
@@ -28,7 +28,8 @@ for crate in wit_graph wit_well_formed $(sed -n 's/^wit_graph: //p; s/^wit_well_
         grep "^$crate:" "$top/crates.txt" >>"$folder/crates.txt"
     fi
 done
-sed -n 's/^wit_graph_rows:/graph_bench:/p' "$top/crates.txt" >>"$folder/crates.txt"
+needs='wit_well_formed wit_graph wit_graph_parts wit_features wit_package wit_types wit_order wit_syntax wit_words'
+echo "graph_bench: $needs indexmap semver" >>"$folder/crates.txt"
 
 if ! log=$(cd "$program" && rt run </dev/null 2>&1); then
     printf '%s\n' "$log" >&2
