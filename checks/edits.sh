@@ -1,17 +1,17 @@
 #!/bin/sh
 # checks/edits.sh [CRATE..]
 #
-# Tries the wrong bodies of checks/edits/CRATE, of these crates or of all, in a copy of the repository: the prover has to
-# refuse each. They have the form of those in crates/CRATE/must-fail, which `rt ci` tries. Prints a line for each edit and
-# how many were refused, and ends with 1 where one wasn't.
+# Tries the wrong bodies of checks/edits/CRATE, of these crates or of all, in a copy of the repository, without what checks
+# have kept in out/: `rt` finds that where it is. The prover has to refuse each. They have the form of those in
+# crates/CRATE/must-fail, which `rt ci` tries. Prints a line for each edit and how many were refused, and ends with 1 where
+# one wasn't.
 set -u
 
 top=$(CDPATH='' cd -- "$(dirname -- "$0")/.." && pwd) || exit 1
 folder=$(mktemp -d) || exit 1
 trap 'rm -rf "$folder"' EXIT
 
-cp -R "$top/crates" "$top/crates.txt" "$top/HANDLES" "$folder" || exit 1
-rm -rf "$folder"/crates/*/must-fail
+tar -C "$top" -cf - --exclude=out --exclude=must-fail crates crates.txt HANDLES | tar -C "$folder" -xf - || exit 1
 [ $# -gt 0 ] || set -- $(ls "$top/checks/edits")
 for crate in "$@"; do
     cp -R "$top/checks/edits/$crate" "$folder/crates/$crate/must-fail" || exit 1
