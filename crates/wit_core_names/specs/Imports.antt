@@ -67,17 +67,17 @@ module _ (m : Mangling) (t : Tables) where
 
 -- ---- what has a name
 
+-- only an interface has exported resources of which modules import something
+abbrev pub IsOnSide : ResourceIntrinsic → Option (Bor WorldKey) → Type 0
+IsOnSide ImportedDrop interface = Unit {0}
+IsOnSide ExportedDrop interface = (key : Bor WorldKey) × (interface ≡ Some key)
+IsOnSide ExportedNew interface = (key : Bor WorldKey) × (interface ≡ Some key)
+IsOnSide ExportedRep interface = (key : Bor WorldKey) × (interface ≡ Some key)
+
 module _ (t : Tables) where
   abbrev pub IsInterfaceNamed : Option (Bor WorldKey) → Type 0
   IsInterfaceNamed None = Unit {0}
   IsInterfaceNamed (Some key) = IsKeyNamed t.packages.now t.interfaces.now key.now
-
-  -- only an interface has exported resources of which modules import something
-  abbrev pub IsOnSide : ResourceIntrinsic → Option (Bor WorldKey) → Type 0
-  IsOnSide ImportedDrop interface = Unit {0}
-  IsOnSide ExportedDrop interface = (key : Bor WorldKey) × (interface ≡ Some key)
-  IsOnSide ExportedNew interface = (key : Bor WorldKey) × (interface ≡ Some key)
-  IsOnSide ExportedRep interface = (key : Bor WorldKey) × (interface ≡ Some key)
 
   abbrev pub IsImportNamed : WasmImport → Type 0
   IsImportNamed (Func interface func) = IsInterfaceNamed interface

@@ -108,7 +108,8 @@ fn realloc_name(alloc: Global, mangling: Mangling) -> Result<String, AllocError>
     }
 }
 
-/// The name by which a core module exports something (Component Model, Build Targets).
+/// The name by which a core module exports something (Component Model, Build Targets). An interface has a name and a package, or is known
+/// by a plain name, and a resource has a name.
 pub fn wasm_export_name(
     alloc: Global,
     tables: &Tables<'_>,

@@ -1,8 +1,9 @@
 //! The names by which core modules import.
 
-ghost use Rattle.std.specs.Prelude.{◌≡◌, string_bytes, IfOk};
+ghost use Rattle.std.specs.Prelude.{◌≡◌, Some, string_bytes, IfOk};
 ghost use Rattle.wit_names.specs.Names.{ArePackagesKnown};
 ghost use Rattle.wit_core_names.specs.Imports as spec;
+ghost use Rattle.wit_core_names.specs.Texts.{IsKeyNamed};
 
 use crate::items::{ResourceIntrinsic, WasmImport};
 use crate::texts::{Tables, key_text, type_name};
@@ -45,15 +46,12 @@ fn exported_module(
     alloc: Global,
     tables: &Tables<'_>,
     mangling: Mangling,
-    interface: Option<&WorldKey>,
+    key: &WorldKey,
 ) -> Result<String, AllocError>
     requires packages { ArePackagesKnown tables.now.packages.now tables.now.interfaces.now }
-    requires named { spec.IsInterfaceNamed tables.now interface }
-    ensures { IfOk result (λ s. spec.IsModuleOf mangling tables.now (spec.exported_module mangling) interface.entry (string_bytes s)) }
+    requires named { IsKeyNamed tables.now.packages.now tables.now.interfaces.now key.now }
+    ensures { IfOk result (λ s. spec.IsModuleOf mangling tables.now (spec.exported_module mangling) (Some key.entry) (string_bytes s)) }
 {
-    let Some(key) = interface else {
-        return root_module(alloc, mangling);
-    };
     let key = key_text(alloc, tables, mangling, key)?;
     let key = key.as_str();
     match mangling {
@@ -62,7 +60,7 @@ fn exported_module(
     }
 }
 
-/// The module from which something done with a resource is imported.
+/// The module from which something done with a resource is imported; an exported resource is one of an interface.
 fn intrinsic_module(
     alloc: Global,
     tables: &Tables<'_>,
@@ -72,13 +70,13 @@ fn intrinsic_module(
 ) -> Result<String, AllocError>
     requires packages { ArePackagesKnown tables.now.packages.now tables.now.interfaces.now }
     requires named { spec.IsInterfaceNamed tables.now interface }
+    requires side { spec.IsOnSide intrinsic interface }
     ensures { IfOk result (λ s. spec.IsModuleOf mangling tables.now (spec.side_module mangling intrinsic) interface.entry (string_bytes s)) }
 {
-    match intrinsic {
-        ResourceIntrinsic::ImportedDrop => imported_module(alloc, tables, mangling, interface),
-        ResourceIntrinsic::ExportedDrop
-        | ResourceIntrinsic::ExportedNew
-        | ResourceIntrinsic::ExportedRep => exported_module(alloc, tables, mangling, interface),
+    match (intrinsic, interface) {
+        (ResourceIntrinsic::ImportedDrop, _) => imported_module(alloc, tables, mangling, interface),
+        (_, Some(key)) => exported_module(alloc, tables, mangling, key),
+        (_, None) => unreachable!(),
     }
 }
 
@@ -108,7 +106,8 @@ fn intrinsic_name(
     }
 }
 
-/// The module and the name by which a core module imports something (Component Model, Build Targets).
+/// The module and the name by which a core module imports something (Component Model, Build Targets). An interface has a name and a
+/// package, or is known by a plain name; a resource has a name, and an exported one is of an interface.
 pub fn wasm_import_name(
     alloc: Global,
     tables: &Tables<'_>,
