@@ -1,22 +1,15 @@
--- One text more behind others.
+-- Texts behind others.
 use Rattle.std.proofs.Common.{◌≡◌, ℕ, ◌+◌, ◌-◌, ◌<◌, ◌≤◌, ◌⊎◌, true, List, [], ◌∷◌, ◌++◌, length, map, take, drop, get_or, sym, ap, ◌∙◌, arith, inl, inr}
-use Rattle.std.specs.Prelude.{string_bytes, not}
+use Rattle.std.specs.Prelude.{not}
 use Rattle.std.specs.List.{list_all}
 use Rattle.std.proofs.lemmas.List.{take_all, take_more, take-append-drop, length-drop}
 use Rattle.wit_words.specs.declared.source_map.Source.{Source}
-use Rattle.wit_words.specs.Sources.{source_text, total, AreOffsets, is_line_feed, IsLastLine}
+use Rattle.wit_words.specs.Sources.{source_text, total, is_line_feed, IsLastLine}
 
-total_more : (ss : List Source) (s : Source) → total (map source_text (ss ++ s ∷ [])) ≡ total (map source_text ss) + length (string_bytes s.contents)
-total_more [] s = omega arith
-total_more (r ∷ ss) s = omega (arith, total_more ss s)
-
-offsets_more : (n : ℕ) (ss : List Source) (s : Source) → AreOffsets n ss → s.offset ≡ n + total (map source_text ss) → AreOffsets n (ss ++ s ∷ [])
-offsets_more n [] s h is = (omega (arith, is), tt)
-offsets_more n (r ∷ ss) s h is = (h.0, offsets_more (n + length (string_bytes r.contents)) ss s h.1 (omega (arith, is)))
-
-pub one_more : (ss new : List Source) (s : Source) (end : ℕ) → new ≡ ss ++ s ∷ [] → (old : ℕ) → old ≡ total (map source_text ss) → AreOffsets 0 ss → s.offset ≡ old → end ≡ old + length (string_bytes s.contents)
-    → (end ≡ total (map source_text new)) × AreOffsets 0 new
-one_more ss new s end added old is h at ends = rw added ((omega (arith, ends, is, total_more ss s)), offsets_more 0 ss s h (omega (arith, at, is)))
+-- texts behind others have as many bytes more as they have together
+pub total_behind : (ss rs : List Source) → total (map source_text (ss ++ rs)) ≡ total (map source_text ss) + total (map source_text rs)
+total_behind [] rs = omega arith
+total_behind (s ∷ ss) rs = omega (arith, total_behind ss rs)
 
 -- ---- the last line
 

@@ -16,11 +16,6 @@ abbrev pub total : List SourceText → ℕ
 total [] = 0
 total (s ∷ ss) = length s.contents + total ss
 
--- each begins where those before it end, the first at this place
-abbrev pub AreOffsets : ℕ → List Source → Type 0
-AreOffsets n [] = Unit {0}
-AreOffsets n (s ∷ ss) = (s.offset ≡ n) × AreOffsets (n + length (string_bytes s.contents)) ss
-
 -- ---- lines and columns, from 1
 
 -- 10 is a line feed

@@ -49,12 +49,11 @@ impl<T: Drop> From<AllocFailed<T>> for SourceFault {
     }
 }
 
-/// A text, by its path, and where it begins.
+/// A text, by its path.
 #[derive(Drop)]
 struct Source {
     path: String,
     contents: String,
-    offset: u32,
 }
 
 /// Texts, one behind the other: the first begins at 0, each other where the one before it ends.
@@ -67,14 +66,14 @@ pub struct SourceMap {
 }
 
 impl Model for SourceMap {
-    ghost use Rattle.std.specs.Prelude.{◌≡◌, List, map};
-    ghost use Rattle.wit_words.specs.Sources.{SourceText, source_text, total, AreOffsets};
+    ghost use Rattle.std.specs.Prelude.{◌≡◌, ◌<◌, ◌^◌, List, map};
+    ghost use Rattle.wit_words.specs.Sources.{SourceText, source_text, total};
 
     ghost Value = { List SourceText };
 
     ghost view = { λ m. map source_text m.sources.items };
 
-    ghost invariant = { λ m. (m.end ≡ total (map source_text m.sources.items)) × AreOffsets 0 m.sources.items };
+    ghost invariant = { λ m. (m.end ≡ total (map source_text m.sources.items)) × (m.end < 2 ^ 32) };
 }
 
 impl SourceMap {
@@ -104,7 +103,6 @@ impl SourceMap {
         let source = Source {
             path: String::from_str(self.alloc, path)?,
             contents: String::from_str(self.alloc, contents)?,
-            offset: self.end,
         };
         self.sources.push(source)?;
         let offset = self.end;
@@ -112,13 +110,34 @@ impl SourceMap {
         Ok(offset)
     }
 
+    /// Adds the texts of another map behind the others, and answers where the first of them begins, by which their spans have to be moved.
+    /// Answers `TooLarge` where all of them would have more than 4,294,967,295 bytes; texts that aren't taken change nothing.
+    pub fn append(&mut self, other: SourceMap) -> Result<u32, SourceFault>
+        ensures offset { IfOk result (λ o. o ≡ total self.old) }
+        ensures added { OnOk result (self.new ≡ self.old ++ other) }
+        ensures small { OnOk result (total self.old + total other < 2 ^ 32) }
+        ensures cause { IfErr result (λ e. (e ≡ SourceFault.OutOfMemory) ⊎ ((e ≡ SourceFault.TooLarge) × (2 ^ 32 ≤ total self.old + total other))) }
+        ensures err { OnErr result (self.new ≡ self.old) }
+    {
+        let mut other = other;
+        let Ok(end) = u32::try_from(self.end as usize + other.end as usize) else {
+            return Err(SourceFault::TooLarge);
+        };
+        self.sources.append(&mut other.sources)?;
+        let first = self.end;
+        self.end = end;
+        Ok(first)
+    }
+
     /// Where a span begins, as `PATH:LINE:COLUMN`, both from 1, the column in characters: in the first text in which all
     /// of the span lies. A span that lies in none has no place, which is `?`.
     pub fn render_location(&self, span: Span) -> Result<String, AllocError> {
+        let mut offset = 0;
         for source in &self.sources {
-            if source.holds(span) {
-                return source.location(self.alloc, (span.start - source.offset) as usize);
+            if source.holds(offset, span) {
+                return source.location(self.alloc, span.start as usize - offset);
             }
+            offset += source.contents.len();
         }
         String::from_str(self.alloc, "?")
     }
@@ -138,13 +157,13 @@ impl SourceMap {
 }
 
 impl Source {
-    /// Whether all of a span lies in the text.
-    fn holds(&self, span: Span) -> bool
-        ensures { result ≡ true → (self.now.offset ≤ span.start) × (span.start ≤ span.end) × (span.end ≤ self.now.offset + length (string_bytes self.now.contents)) }
+    /// Whether all of a span lies in the text, which begins there.
+    fn holds(&self, offset: usize, span: Span) -> bool
+        ensures { result ≡ true → (offset ≤ span.start) × (span.start ≤ span.end) × (span.end ≤ offset + length (string_bytes self.now.contents)) }
     {
-        self.offset <= span.start
+        offset <= span.start as usize
             && span.start <= span.end
-            && (span.end - self.offset) as usize <= self.contents.len()
+            && span.end as usize - offset <= self.contents.len()
     }
 
     /// The line and the column behind so many bytes.
