@@ -1,15 +1,14 @@
 //! Packages that are pushed together.
 
-ghost use Rattle.std.specs.Prelude.{◌≡◌, ◌<◌, ◌∷◌, ℕ, Some, length, slice_get, IfOk, IfErr, OnErr, OnOk};
+ghost use Rattle.std.specs.Prelude.{◌≡◌, ◌<◌, ℕ, Some, length, slice_get, IfOk, IfErr, OnErr, OnOk};
 ghost use Rattle.wit_order.specs.Order.{Has};
 ghost use Rattle.wit_types.specs.declared.«package».UnresolvedPackage.{UnresolvedPackage};
 ghost use Rattle.wit_graph.specs.Push.{HasMorePackages};
 ghost use Rattle.wit_graph_parts.specs.Own.{IsWellFormed};
-ghost use Rattle.wit_package_order.specs.Packages.{IsOrder};
 ghost use Rattle.wit_groups.specs.Pushed as spec;
 
 use crate::fault::GroupFault;
-use std::alloc::{AllocError, Global};
+use std::alloc::Global;
 use wit_features::Features;
 use wit_graph::{Graph, PushFault};
 use wit_package_order::{package_order, sorted_packages};
@@ -42,6 +41,7 @@ fn push_all(
 ) -> Result<(), PushFault>
     requires { (p : UnresolvedPackage) → Has packages.items p → IsWellFormed p }
     ensures ok { OnOk result (spec.ArePushed ⟦<PackageName as PartialEq>⟧.eq features.now graph.old packages.items graph.new) }
+    ensures more { OnOk result (HasMorePackages graph.old graph.new) }
     ensures cause { IfErr result (spec.OneIsRefused ⟦<PackageName as PartialEq>⟧.eq features.now graph.old packages.items) }
     ensures err { OnErr result (graph.new ≡ graph.old) }
 {
@@ -69,8 +69,11 @@ fn place_of_first(order: &[usize]) -> usize
     unreachable!()
 }
 
-/// Pushes packages, each behind all on which it depends, and answers the id of the first.
-fn push_sorted(
+/// Adds packages together, each with all of it that stays: gates are those of the features. Each is pushed behind all on which it
+/// depends; of all such orders it is the least, by their positions. Answers the id of the first. Refuses packages of one name and
+/// version, packages that depend on each other in a circle, and what a push of one of them refuses. A refused call leaves the graph
+/// as it was (WIT, Packages).
+pub fn push_together(
     graph: &mut Graph,
     alloc: Global,
     features: &Features,
@@ -79,6 +82,7 @@ fn push_sorted(
     requires some { 0 < length packages.items }
     requires whole { (p : UnresolvedPackage) → Has packages.items p → IsWellFormed p }
     ensures ok { IfOk result (spec.AreTogether ⟦<PackageName as PartialEq>⟧.eq features.now graph.old packages.items graph.new) }
+    ensures more { OnOk result (HasMorePackages graph.old graph.new) }
     ensures cause { IfErr result (spec.IsTogetherCause ⟦<PackageName as PartialEq>⟧.eq features.now graph.old packages.items) }
     ensures err { OnErr result (graph.new ≡ graph.old) }
 {
@@ -88,28 +92,4 @@ fn push_sorted(
     let behind = order.len() - place;
     push_all(graph, alloc, features, sorted)?;
     Ok(PackageId::from_index(graph.packages().len() - behind))
-}
-
-/// Adds packages together, each with all of it that stays: gates are those of the features. Each is pushed behind all on which it
-/// depends; of all such orders it is the least, by their positions. Answers the id of the first. Refuses packages of one name and
-/// version, packages that depend on each other in a circle, and what a push of one of them refuses. A refused call leaves the graph
-/// as it was (WIT, Packages).
-pub fn push_together(
-    graph: &mut Graph,
-    alloc: Global,
-    features: &Features,
-    main: UnresolvedPackage,
-    others: Vec<UnresolvedPackage>,
-) -> Result<PackageId, GroupFault>
-    requires main { IsWellFormed main }
-    requires others { (p : UnresolvedPackage) → Has others.items p → IsWellFormed p }
-    ensures ok { IfOk result (spec.AreTogether ⟦<PackageName as PartialEq>⟧.eq features.now graph.old (main ∷ others.items) graph.new) }
-    ensures cause { IfErr result (spec.IsTogetherCause ⟦<PackageName as PartialEq>⟧.eq features.now graph.old (main ∷ others.items)) }
-    ensures err { OnErr result (graph.new ≡ graph.old) }
-{
-    let mut others = others;
-    let mut packages = Vec::new(alloc);
-    packages.push(main)?;
-    packages.append(&mut others)?;
-    push_sorted(graph, alloc, features, packages)
 }

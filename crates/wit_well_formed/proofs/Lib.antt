@@ -8,3 +8,4 @@ mod Apart
 mod Order
 mod Offsets
 pub mod Whole
+mod Parsed

@@ -1,5 +1,6 @@
 -- What the files of a package are resolved to may be put into a graph of packages, wherever their texts stand (WIT, Packages, Use).
-use Rattle.std.specs.Prelude.{◌≡◌, ℕ, ◌≤◌, List, length, drop}
+use Rattle.std.specs.Prelude.{◌≡◌, ℕ, ◌≤◌, List, ◌∷◌, length, drop}
+use Rattle.wit_words.specs.Sources.{SourceText}
 use Rattle.wit_order.specs.Order.{Has}
 use Rattle.wit_types.specs.declared.world.World.{World}
 use Rattle.wit_types.specs.declared.«package».UnresolvedPackage.{UnresolvedPackage}
@@ -8,6 +9,7 @@ use Rattle.wit_elaborated.specs.Worlds.{AreKeysOfItems}
 use Rattle.wit_finding.specs.Asks.{AreDepsThere, items_of}
 use Rattle.wit_placed.specs.Order.{AreNamelessFree, AreInOrder}
 use Rattle.wit_graph_parts.specs.Own.{IsWellFormed}
+use Rattle.wit_package.specs.Group.{AreParsed}
 use Rattle.wit_package.specs.Steps.{Resolves}
 use Rattle.wit_offsets.specs.Offsets.{package_at}
 
@@ -38,6 +40,10 @@ KeysAreOfItems = (files : List FileTree) (p : UnresolvedPackage) (others : ℕ) 
 -- all of this together
 abbrev pub ResolvedPackagesAreWellFormed : Type 0
 ResolvedPackagesAreWellFormed = (files : List FileTree) (p : UnresolvedPackage) → Resolves files p → IsWellFormed p
+
+-- each package of texts, too, the one of the texts and those that are nested in them
+abbrev pub ParsedPackagesAreWellFormed : Type 0
+ParsedPackagesAreWellFormed = (texts : List SourceText) (main : UnresolvedPackage) (nested : List UnresolvedPackage) → AreParsed texts main nested → (p : UnresolvedPackage) → Has (main ∷ nested) p → IsWellFormed p
 
 -- what may be put into a graph still may with its places so many bytes further on
 abbrev pub MovedPackagesAreWellFormed : Type 0

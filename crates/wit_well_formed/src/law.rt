@@ -1,6 +1,6 @@
 //! Laws of packages that are resolved, and of those whose texts stand behind others.
 
-ghost use Rattle.wit_well_formed.specs.Law.{SpansAreCounted, UnknownTypesAreThere, AskedItemsAreThere, NamelessTypesAreFree, InterfacesAreInOrder, KeysAreOfItems, ResolvedPackagesAreWellFormed, MovedPackagesAreWellFormed};
+ghost use Rattle.wit_well_formed.specs.Law.{SpansAreCounted, UnknownTypesAreThere, AskedItemsAreThere, NamelessTypesAreFree, InterfacesAreInOrder, KeysAreOfItems, ResolvedPackagesAreWellFormed, ParsedPackagesAreWellFormed, MovedPackagesAreWellFormed};
 
 /// Where files are resolved to a package, there is a span for each package of which it asks something.
 pub fn law_spans_are_counted()
@@ -35,6 +35,11 @@ pub fn law_keys_are_of_items()
 /// Where files are resolved to a package, it is well formed, so that it may be put into a graph of packages.
 pub fn law_resolved_packages_are_well_formed()
     ensures { ResolvedPackagesAreWellFormed }
+{}
+
+/// Where texts are read to packages, each of them is well formed.
+pub fn law_parsed_packages_are_well_formed()
+    ensures { ParsedPackagesAreWellFormed }
 {}
 
 /// A package that is well formed stays so where each of its places goes so many bytes further on.

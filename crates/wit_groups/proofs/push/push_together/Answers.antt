@@ -7,7 +7,7 @@ use Rattle.wit_types.specs.contracts.«package».PackageNamePartialEq.TheImpl.{e
 use Rattle.wit_package_order.specs.Packages.{AreAt}
 use Rattle.wit_package_order.specs.Rows.{IsOrdered}
 use Rattle.wit_groups.proofs.Pushing.{so_many, sorted_size, sorted_has}
-use Rattle.wit_groups.proofs.push.push_sorted.Goals as goal
+use Rattle.wit_groups.proofs.push.push_together.Goals as goal
 
 pub push_all-requires : goal.push_all-requires
 push_all-requires c p h = c.requires.whole p (sorted_has c.args.packages.items c.in_ok-order.order.items c.in_ok-sorted.sorted.items p (rw c.as_slice-2.ensures.value at c.in_ok-sorted.ensures) h)
