@@ -1,16 +1,13 @@
 -- The names by which core modules import (Component Model, Build Targets).
-use Rattle.std.specs.Prelude.{◌≡◌, ℕ, List, ◌++◌, Option, Some, None, codes, string_bytes}
-use Rattle.std.specs.Borrow.{Bor}
+use Rattle.std.specs.Prelude.{◌≡◌, ℕ, List, ◌++◌, Option, Some, None, codes}
 use Rattle.wit_types.specs.declared.mangling.Mangling.{Mangling}
 use Rattle.wit_types.specs.declared.mangling.Mangling.TheVariants.{Standard32, Legacy}
 use Rattle.wit_types.specs.declared.world_key.WorldKey.{WorldKey}
 use Rattle.wit_names.specs.Names.{IsKeyText}
-use Rattle.wit_core_names.specs.Texts.{interface_text_in, IsKeyNamed, IsNameOf, HasName}
+use Rattle.wit_core_names.specs.Items.{CoreImport, func, intrinsic}
+use Rattle.wit_core_names.specs.Texts.{Known, interface_text_in, IsKeyNamed, IsNameOf, HasName}
 use Rattle.wit_core_names.specs.declared.items.ResourceIntrinsic.{ResourceIntrinsic}
 use Rattle.wit_core_names.specs.declared.items.ResourceIntrinsic.TheVariants.{ImportedDrop, ExportedDrop, ExportedNew, ExportedRep}
-use Rattle.wit_core_names.specs.declared.items.WasmImport.{WasmImport}
-use Rattle.wit_core_names.specs.declared.items.WasmImport.TheVariants.{Func, ResourceIntrinsic as Intrinsic}
-use Rattle.wit_core_names.specs.declared.texts.Tables.{Tables}
 
 -- ---- modules: of the world's own, of an interface, and of an exported interface
 
@@ -54,31 +51,31 @@ side_module m ExportedRep key = exported_module m key
 
 -- ---- what is imported
 
-module _ (m : Mangling) (t : Tables) where
-  abbrev pub IsModuleOf : (List ℕ → List ℕ) → Option (Bor WorldKey) → List ℕ → Type 0
+module _ (m : Mangling) (t : Known) where
+  abbrev pub IsModuleOf : (List ℕ → List ℕ) → Option WorldKey → List ℕ → Type 0
   IsModuleOf of_key None module_text = module_text ≡ root_module m
-  IsModuleOf of_key (Some key) module_text = (text : List ℕ) × IsKeyText (interface_text_in m) t.packages.now t.interfaces.now key.now (Some text) × (module_text ≡ of_key text)
+  IsModuleOf of_key (Some key) module_text = (text : List ℕ) × IsKeyText (interface_text_in m) t.packages t.interfaces key (Some text) × (module_text ≡ of_key text)
 
   -- the module and the name by which it is imported
-  abbrev pub IsImportName : WasmImport → List ℕ → List ℕ → Type 0
-  IsImportName (Func interface func) module_text name = IsModuleOf (interface_module m) interface module_text × (name ≡ string_bytes func.now.name)
-  IsImportName (Intrinsic interface resource intrinsic) module_text name =
-      IsModuleOf (side_module m intrinsic) interface module_text × ((r : List ℕ) × IsNameOf t.types.now resource r × (name ≡ intrinsic_name m intrinsic r))
+  abbrev pub IsImportName : CoreImport → List ℕ → List ℕ → Type 0
+  IsImportName (func interface own) module_text name = IsModuleOf (interface_module m) interface module_text × (name ≡ own)
+  IsImportName (intrinsic interface resource what) module_text name =
+      IsModuleOf (side_module m what) interface module_text × ((r : List ℕ) × IsNameOf t.types resource r × (name ≡ intrinsic_name m what r))
 
 -- ---- what has a name
 
 -- only an interface has exported resources of which modules import something
-abbrev pub IsOnSide : ResourceIntrinsic → Option (Bor WorldKey) → Type 0
+abbrev pub IsOnSide : ResourceIntrinsic → Option WorldKey → Type 0
 IsOnSide ImportedDrop interface = Unit {0}
-IsOnSide ExportedDrop interface = (key : Bor WorldKey) × (interface ≡ Some key)
-IsOnSide ExportedNew interface = (key : Bor WorldKey) × (interface ≡ Some key)
-IsOnSide ExportedRep interface = (key : Bor WorldKey) × (interface ≡ Some key)
+IsOnSide ExportedDrop interface = (key : WorldKey) × (interface ≡ Some key)
+IsOnSide ExportedNew interface = (key : WorldKey) × (interface ≡ Some key)
+IsOnSide ExportedRep interface = (key : WorldKey) × (interface ≡ Some key)
 
-module _ (t : Tables) where
-  abbrev pub IsInterfaceNamed : Option (Bor WorldKey) → Type 0
+module _ (t : Known) where
+  abbrev pub IsInterfaceNamed : Option WorldKey → Type 0
   IsInterfaceNamed None = Unit {0}
-  IsInterfaceNamed (Some key) = IsKeyNamed t.packages.now t.interfaces.now key.now
+  IsInterfaceNamed (Some key) = IsKeyNamed t.packages t.interfaces key
 
-  abbrev pub IsImportNamed : WasmImport → Type 0
-  IsImportNamed (Func interface func) = IsInterfaceNamed interface
-  IsImportNamed (Intrinsic interface resource intrinsic) = IsInterfaceNamed interface × IsOnSide intrinsic interface × HasName t.types.now resource
+  abbrev pub IsImportNamed : CoreImport → Type 0
+  IsImportNamed (func interface own) = IsInterfaceNamed interface
+  IsImportNamed (intrinsic interface resource what) = IsInterfaceNamed interface × IsOnSide what interface × HasName t.types resource

@@ -1,3 +1,4 @@
 pub mod Texts
 pub mod Imports
 pub mod Exports
+pub mod Items

@@ -10,6 +10,16 @@ use Rattle.wit_types.specs.declared.«package».Package.{Package}
 use Rattle.wit_types.specs.declared.«package».PackageName.{PackageName}
 use Rattle.wit_types.specs.declared.world_key.WorldKey.{WorldKey}
 use Rattle.wit_names.specs.Names.{canonical_text, IsKeyText}
+use Rattle.wit_core_names.specs.declared.texts.Tables.{Tables}
+
+-- what is known by ids
+pub record Known : Type 0 where
+  pub packages : List Package
+  pub interfaces : List Interface
+  pub types : List TypeDef
+
+abbrev pub known : Tables → Known
+known t = record { packages = t.packages.now; interfaces = t.interfaces.now; types = t.types.now }
 
 -- the text of an interface in a spelling: that of the standard has a track in place of the version
 abbrev pub interface_text_in : Mangling → PackageName → List ℕ → List ℕ

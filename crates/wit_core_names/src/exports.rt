@@ -5,6 +5,8 @@ ghost use Rattle.wit_types.specs.CoreName.{core_export_name};
 ghost use Rattle.wit_names.specs.Names.{ArePackagesKnown};
 ghost use Rattle.wit_core_names.specs.Exports as spec;
 ghost use Rattle.wit_core_names.specs.Imports.{IsInterfaceNamed};
+ghost use Rattle.wit_core_names.specs.Items.{export_of, key_of};
+ghost use Rattle.wit_core_names.specs.Texts.{known};
 
 use crate::items::{WasmExport, WasmExportKind};
 use crate::texts::{Tables, key_text, type_name};
@@ -19,8 +21,8 @@ fn interface_key(
     interface: Option<&WorldKey>,
 ) -> Result<Option<String>, AllocError>
     requires packages { ArePackagesKnown tables.now.packages.now tables.now.interfaces.now }
-    requires named { IsInterfaceNamed tables.now interface }
-    ensures { IfOk result (λ s. spec.IsTextOf mangling tables.now interface.entry (option_map string_bytes s)) }
+    requires named { IsInterfaceNamed (known tables.now) (key_of interface) }
+    ensures { IfOk result (λ s. spec.IsTextOf mangling (known tables.now) (key_of interface.entry) (option_map string_bytes s)) }
 {
     match interface {
         Some(key) => Ok(Some(key_text(alloc, tables, mangling, key)?)),
@@ -54,8 +56,8 @@ fn function_name(
     func: &Function,
 ) -> Result<String, AllocError>
     requires packages { ArePackagesKnown tables.now.packages.now tables.now.interfaces.now }
-    requires named { IsInterfaceNamed tables.now interface }
-    ensures { IfOk result (λ s. spec.IsFunctionName mangling tables.now interface.entry (string_bytes func.now.name) (string_bytes s)) }
+    requires named { IsInterfaceNamed (known tables.now) (key_of interface) }
+    ensures { IfOk result (λ s. spec.IsFunctionName mangling (known tables.now) (key_of interface.entry) (string_bytes func.now.name) (string_bytes s)) }
 {
     match interface_key(alloc, tables, mangling, interface)? {
         Some(key) => func.core_export_name(alloc, Some(key.as_str()), mangling),
@@ -117,8 +119,8 @@ pub fn wasm_export_name(
     export: &WasmExport<'_>,
 ) -> Result<String, AllocError>
     requires packages { ArePackagesKnown tables.now.packages.now tables.now.interfaces.now }
-    requires named { spec.IsExportNamed tables.now «export».now }
-    ensures { IfOk result (λ n. spec.IsExportName mangling tables.now «export».now (string_bytes n)) }
+    requires named { spec.IsExportNamed (known tables.now) (export_of «export».now) }
+    ensures { IfOk result (λ n. spec.IsExportName mangling (known tables.now) (export_of «export».now) (string_bytes n)) }
 {
     match export {
         WasmExport::Func {

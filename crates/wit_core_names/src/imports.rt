@@ -3,7 +3,8 @@
 ghost use Rattle.std.specs.Prelude.{◌≡◌, Some, string_bytes, IfOk};
 ghost use Rattle.wit_names.specs.Names.{ArePackagesKnown};
 ghost use Rattle.wit_core_names.specs.Imports as spec;
-ghost use Rattle.wit_core_names.specs.Texts.{IsKeyNamed};
+ghost use Rattle.wit_core_names.specs.Items.{import_of, key_of};
+ghost use Rattle.wit_core_names.specs.Texts.{IsKeyNamed, known};
 
 use crate::items::{ResourceIntrinsic, WasmImport};
 use crate::texts::{Tables, key_text, type_name};
@@ -28,8 +29,8 @@ fn imported_module(
     interface: Option<&WorldKey>,
 ) -> Result<String, AllocError>
     requires packages { ArePackagesKnown tables.now.packages.now tables.now.interfaces.now }
-    requires named { spec.IsInterfaceNamed tables.now interface }
-    ensures { IfOk result (λ s. spec.IsModuleOf mangling tables.now (spec.interface_module mangling) interface.entry (string_bytes s)) }
+    requires named { spec.IsInterfaceNamed (known tables.now) (key_of interface) }
+    ensures { IfOk result (λ s. spec.IsModuleOf mangling (known tables.now) (spec.interface_module mangling) (key_of interface.entry) (string_bytes s)) }
 {
     let Some(key) = interface else {
         return root_module(alloc, mangling);
@@ -50,7 +51,7 @@ fn exported_module(
 ) -> Result<String, AllocError>
     requires packages { ArePackagesKnown tables.now.packages.now tables.now.interfaces.now }
     requires named { IsKeyNamed tables.now.packages.now tables.now.interfaces.now key.now }
-    ensures { IfOk result (λ s. spec.IsModuleOf mangling tables.now (spec.exported_module mangling) (Some key.entry) (string_bytes s)) }
+    ensures { IfOk result (λ s. spec.IsModuleOf mangling (known tables.now) (spec.exported_module mangling) (Some key.now) (string_bytes s)) }
 {
     let key = key_text(alloc, tables, mangling, key)?;
     let key = key.as_str();
@@ -69,9 +70,9 @@ fn intrinsic_module(
     intrinsic: ResourceIntrinsic,
 ) -> Result<String, AllocError>
     requires packages { ArePackagesKnown tables.now.packages.now tables.now.interfaces.now }
-    requires named { spec.IsInterfaceNamed tables.now interface }
-    requires side { spec.IsOnSide intrinsic interface }
-    ensures { IfOk result (λ s. spec.IsModuleOf mangling tables.now (spec.side_module mangling intrinsic) interface.entry (string_bytes s)) }
+    requires named { spec.IsInterfaceNamed (known tables.now) (key_of interface) }
+    requires side { spec.IsOnSide intrinsic (key_of interface) }
+    ensures { IfOk result (λ s. spec.IsModuleOf mangling (known tables.now) (spec.side_module mangling intrinsic) (key_of interface.entry) (string_bytes s)) }
 {
     match (intrinsic, interface) {
         (ResourceIntrinsic::ImportedDrop, _) => imported_module(alloc, tables, mangling, interface),
@@ -115,8 +116,8 @@ pub fn wasm_import_name(
     import: &WasmImport<'_>,
 ) -> Result<(String, String), AllocError>
     requires packages { ArePackagesKnown tables.now.packages.now tables.now.interfaces.now }
-    requires named { spec.IsImportNamed tables.now «import».now }
-    ensures { IfOk result (λ n. spec.IsImportName mangling tables.now «import».now (string_bytes n.0) (string_bytes n.1)) }
+    requires named { spec.IsImportNamed (known tables.now) (import_of «import».now) }
+    ensures { IfOk result (λ n. spec.IsImportName mangling (known tables.now) (import_of «import».now) (string_bytes n.0) (string_bytes n.1)) }
 {
     match import {
         WasmImport::Func { interface, func } => Ok((

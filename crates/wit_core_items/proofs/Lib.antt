@@ -1,0 +1,7 @@
+mod Lists
+mod Placing
+mod ImportPlaces
+mod ExportPlaces
+mod Growing
+mod Naming
+mod There
