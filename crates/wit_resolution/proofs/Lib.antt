@@ -1,0 +1,4 @@
+mod Taking
+mod Coming
+mod Moved
+mod Refusing

@@ -1,0 +1,21 @@
+use Rattle.wit_package.specs.GroupView.{texts}
+use Rattle.wit_scopes.proofs.Outcomes.{if_err}
+use Rattle.wit_types.specs.contracts.«package».PackageNamePartialEq.TheImpl.{eq-value as package_eq}
+use Rattle.wit_resolution.specs.Pushes.{IsGroupsError, AreTextsError}
+use Rattle.wit_resolution.specs.Texts.{files_of}
+use Rattle.wit_resolution.proofs.Coming.{each_well_formed}
+use Rattle.wit_resolution.proofs.Refusing.{texts_error}
+use Rattle.wit_resolution.proofs.resolve.Resolve.push_texts.Goals as goal
+
+pub push_all-requires-clause-whole : goal.push_all-requires-clause-whole
+push_all-requires-clause-whole c = each_well_formed c.law_parsed_packages_are_well_formed.ensures (files_of (texts c.args.main.now) (texts c.args.deps.now)) c.in-Ok.groups.items c.in-Ok.ensures.ok
+
+pub returns-in-Ok-clause-cause : goal.returns-in-Ok-clause-cause
+returns-in-Ok-clause-cause c =
+    let files = files_of (texts c.args.main.now) (texts c.args.deps.now) in
+    if_err c.push_all.result (IsGroupsError package_eq.it c.args.self.now c.in-Ok.groups.items) (AreTextsError package_eq.it c.args.self.now files)
+    (λ kind h. AreTextsError.refused c.in-Ok.groups.items c.in-Ok.ensures.ok h) c.push_all.ensures.cause
+
+pub returns-in-Err-clause-cause : goal.returns-in-Err-clause-cause
+returns-in-Err-clause-cause c =
+    texts_error package_eq.it c.args.self.now (files_of (texts c.args.main.now) (texts c.args.deps.now)) _ _ _ _ c.in-Err.ensures.cause.1 c.in-Err.ensures.cause.2 c.refused.ensures.cause

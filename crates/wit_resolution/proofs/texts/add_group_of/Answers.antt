@@ -1,0 +1,21 @@
+use Rattle.std.proofs.Common.{◌∷◌, ◌++◌, [], ◌≡◌}
+use Rattle.std.specs.Prelude.{IfErr, OnOk}
+use Rattle.wit_package.specs.GroupView.{texts}
+use Rattle.wit_package.specs.declared.group.UnresolvedPackageGroup.{UnresolvedPackageGroup}
+use Rattle.wit_resolution.specs.Texts.{IsGroupOf, IsUnread}
+use Rattle.wit_resolution.proofs.texts.add_group_of.Goals as goal
+use Rattle.wit_resolution.proofs.texts.add_group_of.Goals.{in-Ok, in-Err}
+
+pub returns-clause-ok : goal.returns-clause-ok
+returns-clause-ok c =
+    elim c.match-push.branch as (λ _. OnOk c.match-push.result ((x : UnresolvedPackageGroup) × IsGroupOf (texts c.args.files.now) x × (c.push.new.self.items ≡ c.args.groups.now.items ++ x ∷ []))) [
+      | in-Ok w ↦ rw w.result-is (c.in_ok-group.group, record { parsed = c.in_ok-group.ensures.ok; texts = c.in_ok-group.ensures.all }, w.in-Ok.ensures.items)
+      | in-Err w ↦ rw w.result-is tt
+    ]
+
+pub returns-clause-cause : goal.returns-clause-cause
+returns-clause-cause c =
+    elim c.match-push.branch as (λ _. IfErr c.match-push.result (λ e. IsUnread (texts c.args.files.now) e.0 e.1)) [
+      | in-Ok w ↦ rw w.result-is tt
+      | in-Err w ↦ rw w.result-is (record { beginning = (0, w.new.ensures); cause = tt })
+    ]

@@ -1,0 +1,7 @@
+use Rattle.std.proofs.Common.{drop}
+use Rattle.wit_package.specs.GroupView.{texts}
+use Rattle.wit_resolution.proofs.Coming.{Coming}
+use Rattle.wit_resolution.proofs.texts.groups_of_texts.Given as goal
+
+abbrev pub invariant-loop-path : goal.invariant-loop-path
+invariant-loop-path l = Coming (texts l.main) l.deps (drop l.path-index l.deps) l.groups.items

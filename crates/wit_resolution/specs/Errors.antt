@@ -1,0 +1,81 @@
+-- Why calls are refused.
+use Rattle.std.specs.Prelude.{◌≡◌, ◌⊎◌, ℕ, Option, Some, None}
+use Rattle.wit_words.specs.declared.source_map.Span.{Span}
+use Rattle.wit_words.specs.declared.source_map.SourceFault.{SourceFault}
+use Rattle.wit_words.specs.declared.source_map.SourceFault.TheVariants as source
+use Rattle.wit_words.specs.declared.fault.SyntaxFault.TheVariants as syntax
+use Rattle.wit_rules.specs.declared.fault.PackageFault.{PackageFault}
+use Rattle.wit_rules.specs.declared.fault.PackageFault.TheVariants as text
+use Rattle.wit_offsets.specs.Offsets.{span_at, SpanFits}
+use Rattle.wit_graph_parts.specs.declared.fault.PushFault.{PushFault}
+use Rattle.wit_graph_parts.specs.declared.fault.PushFault.TheVariants as push
+use Rattle.wit_groups.specs.declared.fault.GroupFault.{GroupFault}
+use Rattle.wit_groups.specs.declared.fault.GroupFault.TheVariants as group
+use Rattle.wit_selection.specs.declared.selection.SelectFault.{SelectFault}
+use Rattle.wit_selection.specs.declared.selection.SelectFault.TheVariants as selection
+use Rattle.wit_resolution.specs.declared.error.ResolveErrorKind.{ResolveErrorKind}
+use Rattle.wit_resolution.specs.declared.error.ResolveErrorKind.TheVariants.{Syntax, Package, TooLarge, PackageNotFound, ItemNotFound, PackageCycle, DuplicatePackage, IncludeClash, ExportConflict, GateVersion, WorldNotFound, ForeignShape, OutOfMemory}
+
+-- where
+abbrev pub span_of : ResolveErrorKind → Option Span
+span_of (Syntax rule at) = Some at
+span_of (Package rule at) = Some at
+span_of TooLarge = None
+span_of (PackageNotFound at) = Some at
+span_of (ItemNotFound at) = Some at
+span_of (PackageCycle at) = Some at
+span_of (DuplicatePackage at) = Some at
+span_of (IncludeClash at) = Some at
+span_of (ExportConflict at) = Some at
+span_of (GateVersion at) = Some at
+span_of WorldNotFound = None
+span_of (ForeignShape at) = Some at
+span_of OutOfMemory = None
+
+-- ---- what is refused elsewhere, under its name here
+
+abbrev pub of_push : PushFault → ResolveErrorKind
+of_push (push.GateVersion at) = GateVersion at
+of_push (push.DuplicatePackage at) = DuplicatePackage at
+of_push (push.PackageNotFound at) = PackageNotFound at
+of_push (push.ItemNotFound at) = ItemNotFound at
+of_push (push.IncludeClash at) = IncludeClash at
+of_push (push.ExportConflict i at) = ExportConflict at
+of_push (push.ForeignShape at) = ForeignShape at
+of_push push.OutOfMemory = OutOfMemory
+
+abbrev pub of_group : GroupFault → ResolveErrorKind
+of_group (group.PackageCycle at) = PackageCycle at
+of_group (group.ComesTwice at) = DuplicatePackage at
+of_group (group.Push fault) = of_push fault
+
+abbrev pub of_selection : SelectFault → ResolveErrorKind
+of_selection selection.WorldNotFound = WorldNotFound
+of_selection selection.OutOfMemory = OutOfMemory
+
+abbrev pub of_source : SourceFault → ResolveErrorKind
+of_source source.TooLarge = TooLarge
+of_source source.OutOfMemory = OutOfMemory
+
+-- of texts that begin there
+abbrev pub of_text : ℕ → PackageFault → ResolveErrorKind
+of_text n text.OutOfMemory = OutOfMemory
+of_text n (text.Syntax syntax.OutOfMemory) = OutOfMemory
+of_text n (text.Syntax syntax.TooLarge) = TooLarge
+of_text n (text.Syntax (syntax.Broken rule at)) = Syntax rule (span_at n at)
+of_text n (text.Broken rule at) = Package rule (span_at n at)
+
+-- its place lies behind 4,294,967,295 bytes there
+abbrev pub PlacePasses : ℕ → PackageFault → Type 0
+PlacePasses n text.OutOfMemory = ⊥
+PlacePasses n (text.Syntax syntax.OutOfMemory) = ⊥
+PlacePasses n (text.Syntax syntax.TooLarge) = ⊥
+PlacePasses n (text.Syntax (syntax.Broken rule at)) = SpanFits n at → ⊥
+PlacePasses n (text.Broken rule at) = SpanFits n at → ⊥
+
+abbrev pub IsOfTexts : ℕ → PackageFault → ResolveErrorKind → Type 0
+IsOfTexts n fault kind = (kind ≡ of_text n fault) ⊎ (PlacePasses n fault × (kind ≡ TooLarge))
+
+-- it is want of memory, or that it is too large where that is so
+abbrev pub IsSizeError : Type 0 → ResolveErrorKind → Type 0
+IsSizeError Large kind = (kind ≡ OutOfMemory) ⊎ (Large × (kind ≡ TooLarge))

@@ -1,0 +1,5 @@
+pub mod Errors
+pub mod Groups
+pub mod Texts
+pub mod Pushes
+pub mod Names

@@ -1,0 +1,17 @@
+//! Packages of WIT that are resolved together: texts are pushed, each with what it needs behind those that are there, worlds are chosen
+//! and named (WIT, Packages).
+#![tactic(auto)]
+
+mod error;
+mod groups;
+mod names;
+mod resolve;
+mod texts;
+
+pub use error::{ResolveError, ResolveErrorKind, ResolveResult};
+pub use resolve::Resolve;
+pub use wit_core_names::{ResourceIntrinsic, WasmExport, WasmExportKind, WasmImport};
+pub use wit_features::Features;
+pub use wit_graph::Graph;
+pub use wit_package::UnresolvedPackageGroup;
+pub use wit_words::{SourceMap, Span};
