@@ -5,7 +5,7 @@ use Rattle.binary_grammar.proofs.Lawful.{lawful}
 use Rattle.component_entries.specs.Entries.{nothing}
 use Rattle.component_sections.specs.Component as whole
 use Rattle.component_sections.specs.Component.{component, BreaksComponent}
-use Rattle.wit_resolve.specs.World.{each_of}
+use Rattle.plain_worlds.specs.World.{each_of}
 use Rattle.known_definitions.specs.Known.{known_of}
 use Rattle.wit_component.specs.declared.fault.Fault.{Fault}
 use Rattle.wit_component.specs.declared.fault.Fault.TheVariants as faults

@@ -11,9 +11,9 @@ use Rattle.wasm_types.specs.declared.types.ValType.{ValType}
 use Rattle.wasm_types.specs.declared.types.ValType.TheVariants as values
 use Rattle.wasm_types.specs.declared.types.RefType.TheVariants as references
 use Rattle.wasm_types.specs.Types.{FuncTypeValue}
-use Rattle.wit_resolve.specs.declared.world.PrimitiveType.{PrimitiveType}
-use Rattle.wit_resolve.specs.declared.world.PrimitiveType.TheVariants as primitives
-use Rattle.wit_resolve.specs.World.{ParameterValue, FunctionTypeValue}
+use Rattle.plain_worlds.specs.declared.world.PrimitiveType.{PrimitiveType}
+use Rattle.plain_worlds.specs.declared.world.PrimitiveType.TheVariants as primitives
+use Rattle.plain_worlds.specs.World.{ParameterValue, FunctionTypeValue}
 use Rattle.wit_component.specs.Meaning.{value_code, same_values, same_core_type, type_code, same_parameter, same_result, same_type}
 
 -- two tests of two facts

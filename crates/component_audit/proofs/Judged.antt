@@ -6,11 +6,11 @@ use Rattle.std.specs.List.{AllByRecursion as Each, list_all}
 use Rattle.std.proofs.lemmas.Bool.{cases_Bool, and_parts, and_from}
 use Rattle.std.proofs.lemmas.Option.{same_Some}
 use Rattle.distinct_names.specs.Names.{is_new, all_new}
-use Rattle.wit_resolve.specs.World.{FunctionTypeValue}
-use Rattle.wit_resolve.specs.declared.world.Function.{Function}
+use Rattle.plain_worlds.specs.World.{FunctionTypeValue}
+use Rattle.plain_worlds.specs.declared.world.Function.{Function}
 use Rattle.component_audit.specs.declared.spaces.ImportEntry.{ImportEntry as Imported}
 use Rattle.component_audit.specs.SpacesView.{import_entry}
-use Rattle.wit_resolve.specs.World.{FunctionItem, function_item}
+use Rattle.plain_worlds.specs.World.{FunctionItem, function_item}
 use Rattle.name_places.specs.FirstPlaces.{place_of}
 use Rattle.wit_component.specs.Linking.{Linking}
 use Rattle.wit_component.specs.Table.{is_needed, needed}

@@ -12,7 +12,7 @@ use Rattle.wasm_types.specs.Types.{FuncTypeValue}
 use Rattle.wasm_types.specs.Entries.{import_value}
 use Rattle.wasm_format.specs.Module.{ModuleValue}
 use Rattle.name_places.specs.FirstPlaces.{place_of}
-use Rattle.wit_resolve.specs.World.{FunctionItem}
+use Rattle.plain_worlds.specs.World.{FunctionItem}
 use Rattle.wit_component.specs.Flat.{flat}
 use Rattle.wit_component.specs.Linking.{CoreImport, CoreExport, Linking, core_import}
 use Rattle.wit_component.specs.Table.{exported_by, ImportLink, ExportLink}

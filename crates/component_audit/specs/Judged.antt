@@ -2,7 +2,7 @@
 use Rattle.std.specs.Prelude.{◌≡◌, ◌≢◌, ℕ, ◌≤◌, ◌+◌, ◌⊎◌, List, [], ◌∷◌, length, map, is_some, Option, Some, None, Bool, false, Any, bytes_eq, if◌then◌else◌}
 use Rattle.std.specs.List.{AllByRecursion as Each}
 use Rattle.binary_grammar.specs.declared.fault.Rule.{Rule}
-use Rattle.wit_resolve.specs.World.{FunctionTypeValue}
+use Rattle.plain_worlds.specs.World.{FunctionTypeValue}
 use Rattle.known_definitions.specs.Definition.{DefinitionValue}
 use Rattle.component_sections.specs.Component.{BreaksComponent}
 use Rattle.known_definitions.specs.Component.{IsComponent, HasUnknown}
@@ -12,7 +12,7 @@ use Rattle.component_audit.specs.declared.verdict.FindingKind.{FindingKind}
 use Rattle.component_audit.specs.declared.verdict.FindingKind.TheVariants as findings
 use Rattle.component_audit.specs.declared.verdict.Verdict.{Verdict}
 use Rattle.component_audit.specs.declared.verdict.Verdict.TheVariants.{Yes, Finding}
-use Rattle.wit_resolve.specs.World.{FunctionItem}
+use Rattle.plain_worlds.specs.World.{FunctionItem}
 use Rattle.wit_component.specs.Linking.{CoreExport, Linking}
 use Rattle.wit_component.specs.Cause.{IsLinkCause, IsLinkable}
 use Rattle.wit_component.specs.Table.{ExportLink}

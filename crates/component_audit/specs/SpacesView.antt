@@ -3,7 +3,7 @@ use Rattle.std.specs.Prelude.{◌≡◌, ℕ, nat_le, true, List, [], ◌∷◌,
 use Rattle.std.specs.List.{list_all}
 use Rattle.wasm_types.specs.Types.{FuncTypeValue, func_type_value}
 use Rattle.known_definitions.specs.declared.definition.Argument.{Argument}
-use Rattle.wit_resolve.specs.World.{FunctionTypeValue}
+use Rattle.plain_worlds.specs.World.{FunctionTypeValue}
 use Rattle.known_definitions.specs.Definition.{function_type_value}
 use Rattle.component_audit.specs.declared.spaces.CoreEnd.{CoreEnd as End}
 use Rattle.component_audit.specs.declared.spaces.CoreEnd.TheVariants as ends

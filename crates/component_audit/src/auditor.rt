@@ -20,7 +20,7 @@ ghost use Rattle.wit_component.specs.Right as right;
 ghost use Rattle.wit_component.specs.Right.{IsIn, IsGiven, EachGiven, LiftsOwn, ImportsRight, LinksRight, type_seen};
 ghost use Rattle.component_audit.specs.SpacesView as seen;
 ghost use Rattle.wit_component.specs.View as view;
-ghost use Rattle.wit_resolve.specs.World.{FunctionItem, function_item, param_item, world_fits};
+ghost use Rattle.plain_worlds.specs.World.{FunctionItem, function_item, param_item, world_fits};
 
 use crate::spaces::{
     ComponentFunction, CoreEnd, CoreFunction, ExportEntry, FunctionEnd, Given, ImportEntry, Spaces,
@@ -32,10 +32,10 @@ use binary_grammar::ReadError;
 use component_sections::read_definitions;
 use known_definitions::{FunctionType, KnownDefinition, Parameter, known_definitions};
 use name_places::FirstPlaces;
+use plain_worlds::{Function, Param};
 use std::alloc::{AllocError, Global};
 use wasm_format::{Export, Import};
 use wit_component::{Fault, Linking, Table, needed_functions, references, table_of};
-use wit_resolve::{Function, Param};
 
 /// Judges bytes against what is linked: yes where they meet each condition of being right, and else a finding, a condition
 /// that fails of them, and where.

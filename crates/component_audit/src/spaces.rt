@@ -11,10 +11,10 @@ ghost use Rattle.component_audit.specs.SpacesView as view;
 
 use known_definitions::{FunctionType, Parameter};
 use name_places::FirstPlaces;
+use plain_worlds::PrimitiveType;
 use std::alloc::Global;
 use wasm_format::{FuncType, ValType};
 use wit_component::{flat_value, is_flat_result};
-use wit_resolve::PrimitiveType;
 
 /// Where a core function ends.
 #[derive(Clone, Copy)]

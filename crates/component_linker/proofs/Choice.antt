@@ -5,7 +5,8 @@ use Rattle.std.proofs.lemmas.Bool.{ltb-true, cases_Bool}
 use Rattle.std.proofs.lemmas.Option.{slice_get_within}
 use Rattle.wit_syntax.specs.Ast.{UsePathTree, id, in_package}
 use Rattle.wit_syntax.specs.WholeText.{IsUsePath}
-use Rattle.wit_resolve.specs.World.{WorldMeaning, PackageMeaning}
+use Rattle.plain_worlds.specs.World.{WorldMeaning}
+use Rattle.wit_resolve.specs.World.{PackageMeaning}
 use Rattle.component_linker.specs.Input.{Input}
 use Rattle.component_linker.specs.Choice.{main_world, if_named, world_of_path, NamesWorld, package_named}
 

@@ -12,7 +12,8 @@ use Rattle.component_linker.specs.declared.line.Input.TheVariants as inputs
 use Rattle.component_linker.specs.declared.line.Line.{Line}
 use Rattle.component_linker.specs.declared.program.Stop.{Stop}
 use Rattle.component_linker.specs.declared.program.Stop.TheVariants as stops
-use Rattle.wit_resolve.specs.World.{WorldMeaning, PackageMeaning, if_unversioned}
+use Rattle.plain_worlds.specs.World.{WorldMeaning}
+use Rattle.wit_resolve.specs.World.{PackageMeaning, if_unversioned}
 use Rattle.component_linker.specs.Input.{Input, SourceText, ModuleInput, first_options}
 use Rattle.component_linker.specs.Choice.{main_world, if_named, package_named, world_of_path, NamesWorld, is_package}
 use Rattle.component_linker.specs.Program.{IsFile, text_path, text_paths, AreSources, ArePackages, AddsSource, IsPackage, places, text_or, IsNamed, IsMain, MainWords, last_main, Handed}

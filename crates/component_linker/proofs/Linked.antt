@@ -12,7 +12,8 @@ use Rattle.wasm_format.specs.Grammar.{IsModule}
 use Rattle.wit_component.specs.declared.fault.Fault.{Fault}
 use Rattle.component_linker.specs.ModuleCause.{refusal_of}
 use Rattle.wit_resolve.specs.declared.world.Package.{Package}
-use Rattle.wit_resolve.specs.World.{WorldMeaning, PackageMeaning, world_meaning, package_meaning, world_fits}
+use Rattle.plain_worlds.specs.World.{WorldMeaning, world_meaning, world_fits}
+use Rattle.wit_resolve.specs.World.{PackageMeaning, package_meaning}
 use Rattle.component_linker.specs.Input.{Input, ModuleInput}
 use Rattle.component_linker.specs.Cause.{IsCause}
 

@@ -1,7 +1,8 @@
 -- The input of a session: all that was handed in.
 use Rattle.std.specs.Prelude.{ℕ, Bool, true, false, List, [], Option, None, option_map, slice_get}
 use Rattle.wit_component.specs.declared.string_encoding.StringEncoding.{StringEncoding}
-use Rattle.wit_resolve.specs.World.{PackageMeaning, WorldMeaning}
+use Rattle.plain_worlds.specs.World.{WorldMeaning}
+use Rattle.wit_resolve.specs.World.{PackageMeaning}
 
 -- a text, by its path and its contents
 pub record SourceText : Type 0 where

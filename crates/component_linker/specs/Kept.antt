@@ -4,7 +4,8 @@ use Rattle.std.specs.Option.{ForSome}
 use Rattle.std.specs.List.{list_all}
 use Rattle.wasm_format.specs.Module.{ModuleValue}
 use Rattle.wasm_format.specs.Grammar.{IsModule}
-use Rattle.wit_resolve.specs.World.{PackageMeaning, world_fits}
+use Rattle.plain_worlds.specs.World.{world_fits}
+use Rattle.wit_resolve.specs.World.{PackageMeaning}
 use Rattle.component_linker.specs.Input.{ModuleInput}
 
 pub record WellKept (packages : List PackageMeaning) (world : Option ℕ) (main : Option ModuleInput) : Type 0 where

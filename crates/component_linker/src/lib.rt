@@ -16,8 +16,9 @@ pub use law::{
 };
 pub use line::{Action, Input, Line, LineFault, read_line};
 pub use options::Options;
+pub use plain_worlds::{Function, Param, World};
 pub use program::run;
 pub use sample::example;
 pub use session::{HandedModule, Session, Source, audit};
 pub use wit_component::{Fault, Link, LinkKind, LinkSide, Owner, StringEncoding};
-pub use wit_resolve::{Function, Id, Package, PackageId, PackageName, Param, World, WorldId};
+pub use wit_resolve::{Id, Package, PackageId, PackageName, WorldId};

@@ -10,7 +10,7 @@ ghost use Rattle.component_linker.specs.Answered.{IsLinkTable, IsBuilt};
 ghost use Rattle.component_linker.specs.Judged.{IsJudged, IsAuditCause};
 ghost use Rattle.wit_component.specs.Links.{link_value};
 ghost use Rattle.wit_component.specs.View as view;
-ghost use Rattle.wit_resolve.specs.World as spec;
+ghost use Rattle.plain_worlds.specs.World as spec;
 ghost use Rattle.component_linker.specs.Choice.{NamesWorld};
 ghost use Rattle.wit_syntax.specs.AstView as tree;
 ghost use Rattle.component_linker.specs.Names.{pairs_of};
@@ -22,12 +22,13 @@ use crate::options::Options;
 use binary_grammar::ReadError;
 use component_audit::{Verdict, judge};
 use component_sections::read_definitions;
+use plain_worlds::World;
 use std::alloc::Global;
 use std::collections::HashMap;
 use std::marker::Model;
 use wasm_format::{ModuleFault, read_module};
 use wit_component::{Fault, Link, Linking, StringEncoding, encode, links_of};
-use wit_resolve::{Package, PackageId, ResolveFault, World, WorldId, read_package};
+use wit_resolve::{Package, PackageId, ResolveFault, WorldId, read_package};
 use wit_syntax::{PackageName, SyntaxFault, UsePath, parse_use_path};
 
 /// A text that was pushed.

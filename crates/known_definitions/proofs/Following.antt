@@ -22,9 +22,9 @@ use Rattle.component_instances.specs.TypeDefinitions as definitions
 use Rattle.wasm_types.specs.Types.{kind_of}
 use Rattle.component_entries.specs.Entries.{DefinedValue}
 use Rattle.component_sections.specs.Component.{Follows}
-use Rattle.wit_resolve.specs.declared.world.PrimitiveType.{PrimitiveType}
-use Rattle.wit_resolve.specs.declared.world.PrimitiveType.TheVariants as primitives
-use Rattle.wit_resolve.specs.World.{ParameterValue, FunctionTypeValue}
+use Rattle.plain_worlds.specs.declared.world.PrimitiveType.{PrimitiveType}
+use Rattle.plain_worlds.specs.declared.world.PrimitiveType.TheVariants as primitives
+use Rattle.plain_worlds.specs.World.{ParameterValue, FunctionTypeValue}
 use Rattle.known_definitions.specs.Definition.{ArgumentValue, InlineExportValue, core_module_of, instantiation_of, inline_of, alias_of, type_of, lift_of, lower_of, import_of, export_of}
 use Rattle.known_definitions.specs.Known.{value_type, named_parameter, named_argument, named_function, definition_of}
 

@@ -3,7 +3,7 @@ use Rattle.std.proofs.Common.{◌≡◌, ℕ, List, map, Some, None, sym, ap, su
 use Rattle.binary_grammar.specs.declared.fault.Fault.{Fault}
 use Rattle.component_sections.specs.Component as whole
 use Rattle.component_sections.proofs.Reading as read
-use Rattle.wit_resolve.specs.World.{each_of}
+use Rattle.plain_worlds.specs.World.{each_of}
 use Rattle.known_definitions.specs.Definition.{DefinitionValue}
 use Rattle.known_definitions.specs.Known.{definition_of, known_of}
 use Rattle.known_definitions.specs.Component.{IsComponent, HasUnknown}

@@ -3,3 +3,4 @@ pub mod Projection
 pub mod Laws
 pub mod Places
 pub mod Following
+mod Each

@@ -1,6 +1,6 @@
 -- What each item of a list stands for, and which list stands for it.
 use Rattle.std.proofs.Common.{◌≡◌, List, [], ◌∷◌, map, Option, Some, None, refl, ap, ◌∙◌}
-use Rattle.wit_resolve.specs.World.{put, each_of}
+use Rattle.plain_worlds.specs.World.{put, each_of}
 
 pub some_is : {A : Type 0} (x y : A) → Some x ≡ Some y → x ≡ y
 some_is x y e = cc

@@ -23,9 +23,9 @@ use Rattle.component_instances.specs.TypeDefinitions.{defined, resource, of_inst
 use Rattle.component_entries.specs.Entries.{an_alias, a_type, an_import, an_export}
 use Rattle.component_sections.specs.Component as whole
 use Rattle.component_sections.specs.Component.{a_core_module, a_core_instance, a_component, an_instance, a_canonical, an_entry}
-use Rattle.wit_resolve.specs.declared.world.PrimitiveType.{PrimitiveType}
-use Rattle.wit_resolve.specs.declared.world.PrimitiveType.TheVariants as primitives
-use Rattle.wit_resolve.specs.World.{ParameterValue, FunctionTypeValue, each_of}
+use Rattle.plain_worlds.specs.declared.world.PrimitiveType.{PrimitiveType}
+use Rattle.plain_worlds.specs.declared.world.PrimitiveType.TheVariants as primitives
+use Rattle.plain_worlds.specs.World.{ParameterValue, FunctionTypeValue, each_of}
 use Rattle.known_definitions.specs.Definition.{InlineExportValue, DefinitionValue, core_module_of, instantiation_of, inline_of, alias_of, type_of, lift_of, lower_of, import_of, export_of}
 use Rattle.known_definitions.specs.Known.{primitive_value, value_type, named_parameter, function_type, named_argument, named_function, a_function, definition_of, if_function, known_primitive, known_type, known_parameter, known_result, typed_function, known_function_type, known_argument, known_export, known_core_instance, known_canonical, known_alias, known_defined, described_import, described_export, sorted_export, known_of}
 use Rattle.known_definitions.proofs.Lists.{some_is, each_again, each_back, map_again}

@@ -2,7 +2,7 @@
 use Rattle.std.specs.Prelude.{◌≡◌, ℕ, List, map, None}
 use Rattle.binary_grammar.specs.Syntax.{IsTyped}
 use Rattle.component_sections.specs.Component as whole
-use Rattle.wit_resolve.specs.World.{each_of}
+use Rattle.plain_worlds.specs.World.{each_of}
 use Rattle.known_definitions.specs.Definition.{DefinitionValue}
 use Rattle.known_definitions.specs.Known.{definition_of, known_of}
 

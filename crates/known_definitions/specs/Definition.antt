@@ -2,7 +2,7 @@
 -- Definitions).
 use Rattle.std.specs.Prelude.{◌≡◌, ℕ, List, map, Option, nat_le, true}
 use Rattle.std.specs.List.{list_all}
-use Rattle.wit_resolve.specs.World.{ParameterValue, FunctionTypeValue}
+use Rattle.plain_worlds.specs.World.{ParameterValue, FunctionTypeValue}
 use Rattle.known_definitions.specs.declared.definition.Parameter.{Parameter}
 use Rattle.known_definitions.specs.declared.definition.FunctionType.{FunctionType}
 use Rattle.known_definitions.specs.declared.definition.Argument.{Argument}

@@ -24,9 +24,9 @@ use Rattle.component_instances.specs.TypeDefinitions.{TypeDefinitionValue, defin
 use Rattle.component_entries.specs.Entries.{EntryValue, an_alias, a_type, an_import, an_export}
 use Rattle.component_sections.specs.Component as whole
 use Rattle.component_sections.specs.Component.{a_core_module, a_core_instance, a_canonical, an_entry}
-use Rattle.wit_resolve.specs.declared.world.PrimitiveType.{PrimitiveType}
-use Rattle.wit_resolve.specs.declared.world.PrimitiveType.TheVariants as primitives
-use Rattle.wit_resolve.specs.World.{ParameterValue, FunctionTypeValue, each_of}
+use Rattle.plain_worlds.specs.declared.world.PrimitiveType.{PrimitiveType}
+use Rattle.plain_worlds.specs.declared.world.PrimitiveType.TheVariants as primitives
+use Rattle.plain_worlds.specs.World.{ParameterValue, FunctionTypeValue, each_of}
 use Rattle.known_definitions.specs.Definition.{ArgumentValue, InlineExportValue, DefinitionValue, core_module_of, instantiation_of, inline_of, alias_of, type_of, lift_of, lower_of, import_of, export_of}
 
 -- ---- what each is among all definitions

@@ -1,6 +1,6 @@
 //! What a component defines, as far as index meaning knows it.
 
-use wit_resolve::PrimitiveType;
+use plain_worlds::PrimitiveType;
 
 /// A parameter of a function.
 #[derive(Clone, Copy)]

@@ -11,7 +11,7 @@ ghost use Rattle.component_instances.specs.Instances.{core_argument_value, core_
 ghost use Rattle.component_instances.specs.TypeDefinitions.{type_definition_value};
 ghost use Rattle.component_entries.specs.Entries.{entry_value};
 ghost use Rattle.component_sections.specs.Component as whole;
-ghost use Rattle.wit_resolve.specs.World.{each_of};
+ghost use Rattle.plain_worlds.specs.World.{each_of};
 ghost use Rattle.known_definitions.specs.Definition.{parameter_value, function_type_value, argument_value, inline_export_value, kind_value, definition_values, AreWithin};
 ghost use Rattle.component_entries.specs.Entries as entries;
 ghost use Rattle.known_definitions.specs.Definition as known;
@@ -26,9 +26,9 @@ use component_definitions::{
 use component_instances::{CoreArgument, CoreInstance, CoreItem, TypeDefinition};
 use component_sections::{Definition, Entry, PlacedDefinition};
 use component_value_types::{DefinedType, Named, PrimitiveValueType, ValueType};
+use plain_worlds::PrimitiveType;
 use std::alloc::{AllocError, Global};
 use wasm_types::ExportKind;
-use wit_resolve::PrimitiveType;
 
 fn primitive_of(ty: PrimitiveValueType) -> Option<PrimitiveType>
     ensures { result ≡ spec.known_primitive ty }

@@ -4,9 +4,9 @@ use Rattle.std.specs.Prelude.{map, fold, slice_get}
 use Rattle.std.specs.List.{AllByRecursion as Each, flat_map}
 use Rattle.std.proofs.lemmas.List.{append-nil}
 use Rattle.std.proofs.lemmas.List.Sums.{fold-append}
-use Rattle.wit_resolve.specs.World.{FunctionTypeValue}
+use Rattle.plain_worlds.specs.World.{FunctionTypeValue}
 use Rattle.known_definitions.specs.Definition.{InlineExportValue, DefinitionValue, alias_of, lift_of, lower_of, import_of, export_of}
-use Rattle.wit_resolve.specs.World.{FunctionItem}
+use Rattle.plain_worlds.specs.World.{FunctionItem}
 use Rattle.wit_component.specs.Flat.{flat}
 use Rattle.wit_component.specs.Linking.{CoreExport, MainModule, Linking}
 use Rattle.wit_component.specs.Table.{exported_by}

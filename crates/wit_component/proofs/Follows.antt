@@ -12,7 +12,7 @@ use Rattle.component_sections.specs.Component.{with_definition, Follow}
 use Rattle.known_definitions.specs.Definition.{DefinitionValue, ArgumentValue, InlineExportValue, core_module_of, instantiation_of, inline_of, alias_of, type_of, lift_of, lower_of, import_of, export_of}
 use Rattle.known_definitions.specs.Known.{definition_of}
 use Rattle.known_definitions.proofs.Following.{module_follows, lower_follows, lift_follows, import_follows, export_follows, alias_follows, inline_follows, instantiation_follows, type_follows}
-use Rattle.wit_resolve.specs.World.{FunctionItem, function_fits, functions_fit, world_fits}
+use Rattle.plain_worlds.specs.World.{FunctionItem, function_fits, functions_fit, world_fits}
 use Rattle.wit_component.specs.CoreNames.{root, standard}
 use Rattle.wit_component.specs.Linking.{Linking}
 use Rattle.wit_component.specs.Table.{needed, is_needed}

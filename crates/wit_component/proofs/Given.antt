@@ -4,7 +4,7 @@ use Rattle.std.specs.Prelude.{map, filter, slice_get, option_and_then, bytes_eq,
 use Rattle.std.specs.List.{AllByRecursion as Each, flat_map}
 use Rattle.std.proofs.lemmas.Bool.{cases_Bool, and_parts, or_cases}
 use Rattle.known_definitions.specs.Definition.{InlineExportValue}
-use Rattle.wit_resolve.specs.World.{FunctionItem}
+use Rattle.plain_worlds.specs.World.{FunctionItem}
 use Rattle.wit_component.specs.Flat.{flat}
 use Rattle.wit_component.specs.CoreNames.{root, standard, is_import_name, is_legacy_import, is_standard_import}
 use Rattle.wit_component.specs.Linking.{CoreImport, Linking}

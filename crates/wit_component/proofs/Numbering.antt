@@ -8,7 +8,7 @@ use Rattle.component_sections.proofs.Typed.{Typed, all_typed}
 use Rattle.known_definitions.specs.Definition.{DefinitionValue, core_module_of, lift_of, lower_of, import_of, export_of}
 use Rattle.known_definitions.specs.Known.{definition_of}
 use Rattle.known_definitions.specs.Component.{Fits}
-use Rattle.wit_resolve.specs.World.{FunctionItem}
+use Rattle.plain_worlds.specs.World.{FunctionItem}
 use Rattle.wit_component.specs.Linking.{Linking}
 use Rattle.wit_component.specs.Table.{needed}
 use Rattle.wit_component.specs.Component.{numbered, types_of, import_side, instance_side, aliases_of, export_side, component_of}

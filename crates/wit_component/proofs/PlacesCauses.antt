@@ -13,7 +13,7 @@ use Rattle.wit_component.specs.CoreNames.{root, standard, is_outer_memory, is_ho
 use Rattle.wit_component.specs.Linking.{CoreImport, CoreExport, Linking}
 use Rattle.wit_component.specs.Places.{Placed, ImportPlace, ExportPlace}
 use Rattle.wit_component.specs.Table.{ImportLink, ExportLink, IsLinked}
-use Rattle.wit_resolve.specs.World.{FunctionItem}
+use Rattle.plain_worlds.specs.World.{FunctionItem}
 use Rattle.wit_component.proofs.PlacesNames.{no_place, still_offered}
 use Rattle.wit_component.proofs.PlacesRepeats.{repeats_at, pair_there}
 

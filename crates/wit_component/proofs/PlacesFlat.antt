@@ -2,8 +2,8 @@
 use Rattle.std.proofs.Common.{◌≡◌, ℕ, ◌<◌, List, [], ◌∷◌, length, get_or, map, refl, ap, ◌∙◌}
 use Rattle.std.proofs.lemmas.List.{get_or-map}
 use Rattle.wasm_types.specs.declared.types.ValType.{ValType}
-use Rattle.wit_resolve.specs.declared.world.Param.{Param}
-use Rattle.wit_resolve.specs.World.{param_item}
+use Rattle.plain_worlds.specs.declared.world.Param.{Param}
+use Rattle.plain_worlds.specs.World.{param_item}
 use Rattle.wit_component.specs.Flat.{flat_value}
 
 values_of : (ps : List Param) → map (λ p. flat_value p.ty) (map param_item ps) ≡ map (λ (p : Param). flat_value p.ty) ps

@@ -5,7 +5,7 @@ use Rattle.std.specs.List.{list_any}
 use Rattle.std.proofs.lemmas.Bool.{cases_Bool}
 use Rattle.std.proofs.lemmas.List.Folds.{Any-from_list_any}
 use Rattle.wit_component.specs.declared.table.Candidates.{Candidates}
-use Rattle.wit_resolve.specs.World.{FunctionItem}
+use Rattle.plain_worlds.specs.World.{FunctionItem}
 use Rattle.wit_component.specs.CoreNames.{root, standard, standard_export, is_import_name, is_legacy_import, is_export_name, is_hook_name, is_initialize_name, is_post_return_name}
 use Rattle.wit_component.specs.Linking.{CoreImport, Linking}
 use Rattle.wit_component.specs.Table.{imported_by}

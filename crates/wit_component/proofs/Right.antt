@@ -5,9 +5,9 @@ use Rattle.std.specs.List.{AllByRecursion as Each, flat_map}
 use Rattle.std.proofs.lemmas.Bool.{cases_Bool}
 use Rattle.std.proofs.lemmas.Simd.{map-map}
 use Rattle.std.proofs.lemmas.List.{append-nil, length-map}
-use Rattle.wit_resolve.specs.World.{FunctionTypeValue}
+use Rattle.plain_worlds.specs.World.{FunctionTypeValue}
 use Rattle.known_definitions.specs.Definition.{InlineExportValue, core_module_of, instantiation_of, lift_of, lower_of, import_of, export_of}
-use Rattle.wit_resolve.specs.World.{FunctionItem}
+use Rattle.plain_worlds.specs.World.{FunctionItem}
 use Rattle.wit_component.specs.CoreNames.{root, standard, is_export_name}
 use Rattle.wit_component.specs.Linking.{CoreExport, Linking}
 use Rattle.wit_component.specs.Table.{ImportLink, ExportLink, IsLinked, is_needed, needed}

@@ -4,8 +4,8 @@ use Rattle.std.proofs.lemmas.List.{drop_more, map-append}
 use Rattle.component_sections.specs.Component as whole
 use Rattle.known_definitions.specs.Definition.{DefinitionValue}
 use Rattle.known_definitions.specs.Known.{definition_of}
-use Rattle.wit_resolve.specs.declared.world.Function.{Function}
-use Rattle.wit_resolve.specs.World.{FunctionItem, function_item}
+use Rattle.plain_worlds.specs.declared.world.Function.{Function}
+use Rattle.plain_worlds.specs.World.{FunctionItem, function_item}
 use Rattle.wit_component.specs.Written.{among}
 
 -- the functions behind references

@@ -5,7 +5,7 @@ use Rattle.std.proofs.lemmas.List.{map-append}
 use Rattle.std.proofs.lemmas.List.Concat.{flat_map-cons}
 use Rattle.component_sections.specs.Component as whole
 use Rattle.known_definitions.specs.Definition.{DefinitionValue, core_module_of, alias_of, lift_of, lower_of, import_of, export_of}
-use Rattle.wit_resolve.specs.World.{FunctionItem}
+use Rattle.plain_worlds.specs.World.{FunctionItem}
 use Rattle.wit_component.specs.Linking.{Linking, CoreExport}
 use Rattle.wit_component.specs.Table.{exported_by, needed}
 use Rattle.wit_component.specs.Component.{numbered, types_of, import_side, instances_for, instance_side, aliases_of, export_side, component_of}

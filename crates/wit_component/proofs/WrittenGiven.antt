@@ -9,8 +9,8 @@ use Rattle.component_value_types.specs.Combinators.{NamedValue}
 use Rattle.component_instances.specs.declared.instances.CoreItem.{CoreItem}
 use Rattle.known_definitions.specs.Definition.{InlineExportValue, ArgumentValue}
 use Rattle.known_definitions.specs.Known.{named_function, named_argument}
-use Rattle.wit_resolve.specs.declared.world.Function.{Function}
-use Rattle.wit_resolve.specs.World.{function_item}
+use Rattle.plain_worlds.specs.declared.world.Function.{Function}
+use Rattle.plain_worlds.specs.World.{function_item}
 use Rattle.wit_component.specs.CoreNames.{root, standard}
 use Rattle.wit_component.specs.Linking.{Linking}
 use Rattle.wit_component.specs.Component.{given_under, instance_with, argument_for, arguments_for}

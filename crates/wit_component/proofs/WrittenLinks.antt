@@ -18,7 +18,7 @@ use Rattle.wit_component.specs.Linking.{core_export}
 use Rattle.std.proofs.lemmas.List.Concat.{flat_map-cons}
 use Rattle.distinct_names.specs.Names.{is_new}
 use Rattle.known_definitions.specs.Definition.{InlineExportValue}
-use Rattle.wit_resolve.specs.World.{FunctionItem}
+use Rattle.plain_worlds.specs.World.{FunctionItem}
 use Rattle.wit_component.specs.CoreNames.{root, standard, is_legacy_import, is_standard_import, is_import_name}
 use Rattle.wit_component.specs.Linking.{CoreImport, CoreExport, Linking}
 use Rattle.wit_component.specs.Table.{exported_by, is_needed, needed}

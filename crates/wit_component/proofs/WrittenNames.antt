@@ -7,7 +7,7 @@ use Rattle.std.proofs.lemmas.List.{map-append}
 use Rattle.std.proofs.lemmas.List.Folds.{list_any-append}
 use Rattle.std.proofs.lemmas.Slice.Eq.{bytes_eq-Decides}
 use Rattle.distinct_names.specs.Names.{is_new, all_new}
-use Rattle.wit_resolve.specs.World.{FunctionItem, name_key, function_keys, function_fits, functions_fit}
+use Rattle.plain_worlds.specs.World.{FunctionItem, name_key, function_keys, function_fits, functions_fit}
 
 pub not_or : (a b : Bool) → not (a || b) ≡ (not a && not b)
 not_or true b = refl

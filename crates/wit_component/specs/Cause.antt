@@ -3,7 +3,7 @@ use Rattle.std.specs.Prelude.{◌≡◌, ◌<◌, ◌⊎◌, List, [], ◌∷◌
 use Rattle.std.specs.List.{list_any}
 use Rattle.wit_component.specs.declared.fault.Fault.{Fault}
 use Rattle.wit_component.specs.declared.fault.Fault.TheVariants as faults
-use Rattle.wit_resolve.specs.World.{FunctionItem}
+use Rattle.plain_worlds.specs.World.{FunctionItem}
 use Rattle.wit_component.specs.Flat.{flat}
 use Rattle.wit_component.specs.CoreNames.{is_legacy_import, is_memory_name, is_initialize_name, is_post_return_name, is_hook_name, is_outer_memory}
 use Rattle.wit_component.specs.Linking.{CoreImport, CoreExport, Linking}

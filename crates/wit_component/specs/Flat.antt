@@ -3,9 +3,9 @@ use Rattle.std.specs.Prelude.{List, [], ◌∷◌, map, Option, Some, None}
 use Rattle.wasm_types.specs.declared.types.ValType.{ValType}
 use Rattle.wasm_types.specs.declared.types.ValType.TheVariants.{I32, I64}
 use Rattle.wasm_types.specs.Types.{FuncTypeValue}
-use Rattle.wit_resolve.specs.declared.world.PrimitiveType.{PrimitiveType}
-use Rattle.wit_resolve.specs.declared.world.PrimitiveType.TheVariants as primitives
-use Rattle.wit_resolve.specs.World.{FunctionTypeValue}
+use Rattle.plain_worlds.specs.declared.world.PrimitiveType.{PrimitiveType}
+use Rattle.plain_worlds.specs.declared.world.PrimitiveType.TheVariants as primitives
+use Rattle.plain_worlds.specs.World.{FunctionTypeValue}
 
 -- integers of 64 bits are i64, all else of this shape is i32
 abbrev pub flat_value : PrimitiveType → ValType

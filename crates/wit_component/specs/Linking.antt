@@ -3,7 +3,7 @@ use Rattle.std.specs.Prelude.{ℕ, List, map, Option, Bool}
 use Rattle.wasm_types.specs.Types.{FuncTypeValue}
 use Rattle.wasm_types.specs.Entries.{ImportValue, ExportValue}
 use Rattle.wasm_format.specs.Module.{ModuleValue, imported_type, exported_type}
-use Rattle.wit_resolve.specs.World.{WorldMeaning}
+use Rattle.plain_worlds.specs.World.{WorldMeaning}
 
 -- a core import, with its core type where it's a function
 pub record CoreImport : Type 0 where

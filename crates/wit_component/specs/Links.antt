@@ -13,7 +13,7 @@ use Rattle.wit_component.specs.declared.link.Owner.TheVariants.{Main, Adapter}
 use Rattle.wit_component.specs.declared.link.Link.{Link}
 use Rattle.wit_component.specs.declared.string_encoding.StringEncoding.{StringEncoding}
 use Rattle.wit_component.specs.CoreNames.{root}
-use Rattle.wit_resolve.specs.World.{FunctionItem}
+use Rattle.plain_worlds.specs.World.{FunctionItem}
 use Rattle.wit_component.specs.Linking.{CoreImport, Linking}
 use Rattle.wit_component.specs.Table.{imported_by, exported_by}
 

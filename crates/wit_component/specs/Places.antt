@@ -1,7 +1,7 @@
 -- The link table as places: for each core import the place of its function among the world's imports, for each exported
 -- function the place of its core export (Canonical ABI, canon lift and canon lower).
 use Rattle.std.specs.Prelude.{◌≡◌, ℕ, List, [], ◌∷◌, map, filter, slice_get, Option, Some, option_and_then, bytes_eq}
-use Rattle.wit_resolve.specs.World.{FunctionItem}
+use Rattle.plain_worlds.specs.World.{FunctionItem}
 use Rattle.wit_component.specs.CoreNames.{root, standard}
 use Rattle.wit_component.specs.Linking.{CoreImport, CoreExport, Linking}
 use Rattle.wit_component.specs.Table.{ImportLink, ExportLink}

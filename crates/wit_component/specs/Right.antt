@@ -1,7 +1,7 @@
 -- What has to hold of what a component stands for, one record a kind of finding (Component Model, Explainer, Component Definitions).
 use Rattle.std.specs.Prelude.{◌≡◌, ◌⊎◌, List, [], ◌∷◌, map, Option, Some, option_map}
 use Rattle.std.specs.List.{AllByRecursion as Each}
-use Rattle.wit_resolve.specs.World.{FunctionItem}
+use Rattle.plain_worlds.specs.World.{FunctionItem}
 use Rattle.wit_component.specs.Linking.{CoreImport, CoreExport, Linking}
 use Rattle.wit_component.specs.Table.{ImportLink, ExportLink, needed}
 use Rattle.wit_component.specs.Meaning.{Spaces, CoreFunction, ImportEntry, ExportEntry, lowering, import_with, lifted}

@@ -1,7 +1,7 @@
 -- The link table: what each core import and each exported function ends at (Canonical ABI, canon lift and canon lower).
 use Rattle.std.specs.Prelude.{◌≡◌, List, [], ◌∷◌, filter, Some, Bool, false}
 use Rattle.std.specs.List.{AllByRecursion as Each, list_any}
-use Rattle.wit_resolve.specs.World.{FunctionItem}
+use Rattle.plain_worlds.specs.World.{FunctionItem}
 use Rattle.wit_component.specs.Flat.{flat}
 use Rattle.wit_component.specs.CoreNames.{is_import_name, is_export_name, is_memory_name}
 use Rattle.wit_component.specs.Linking.{CoreImport, CoreExport, Linking}

@@ -2,7 +2,7 @@
 use Rattle.wit_component.specs.declared.linking.Linking.{Linking as Linked}
 use Rattle.wit_component.specs.declared.table.Table.{Table}
 use Rattle.wasm_format.specs.Module.{module_value}
-use Rattle.wit_resolve.specs.World.{world_meaning}
+use Rattle.plain_worlds.specs.World.{world_meaning}
 use Rattle.wit_component.specs.Linking.{Linking, main_of}
 use Rattle.wit_component.specs.Places.{Places}
 

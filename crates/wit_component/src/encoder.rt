@@ -8,7 +8,7 @@ ghost use Rattle.component_sections.specs.Component.{definition_value};
 ghost use Rattle.known_definitions.specs.Definition.{core_module_of, instantiation_of, alias_of, type_of, lift_of, lower_of, import_of, export_of};
 ghost use Rattle.known_definitions.specs.Known.{primitive_value, value_type as value_type_of, named_parameter, named_argument, named_function, definition_of};
 ghost use Rattle.known_definitions.specs.Component.{IsComponent, Fits};
-ghost use Rattle.wit_resolve.specs.World.{param_item, function_item, world_fits};
+ghost use Rattle.plain_worlds.specs.World.{param_item, function_item, world_fits};
 ghost use Rattle.wit_component.specs.Linking.{Linking as LinkingValue};
 ghost use Rattle.wit_component.specs.Table.{needed, exported_by};
 ghost use Rattle.wit_component.specs.Places.{ArePlaces, names_under};
@@ -29,9 +29,9 @@ use component_instances::{CoreArgument, CoreInstance, CoreItem, TypeDefinition};
 use component_sections::{Definition, Entry};
 use component_value_types::{DefinedType, FunctionType, Named, PrimitiveValueType, ValueType};
 use distinct_names::Names;
+use plain_worlds::{Function, Param, PrimitiveType};
 use std::alloc::{AllocError, Global};
 use wasm_types::ExportKind;
-use wit_resolve::{Function, Param, PrimitiveType};
 
 fn primitive_of(ty: PrimitiveType) -> PrimitiveValueType
     ensures { result ≡ primitive_value ty }

@@ -5,10 +5,10 @@ ghost use Rattle.wit_component.specs.Meaning.{same_values};
 ghost use Rattle.wasm_types.specs.Types.{func_type_value};
 ghost use Rattle.wasm_format.specs.Module.{module_value, imported_type, exported_type};
 ghost use Rattle.wit_component.specs.Flat.{flat_value, flat_result, flat};
-ghost use Rattle.wit_resolve.specs.World.{param_item, function_item};
+ghost use Rattle.plain_worlds.specs.World.{param_item, function_item};
 
+use plain_worlds::{Function, Param, PrimitiveType, World};
 use wasm_format::{CoreModule, Export, FuncType, Import, ValType};
-use wit_resolve::{Function, Param, PrimitiveType, World};
 
 /// The chosen world, the main module, and whether legacy names stand for nothing.
 #[derive(Drop)]

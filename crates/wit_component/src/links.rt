@@ -3,7 +3,7 @@
 ghost use Rattle.std.specs.Prelude.{◌≡◌, ◌<◌, ◌++◌, ◌∷◌, [], length, map, slice_get, Some, IfOk, IfErr};
 ghost use Rattle.wit_component.specs.Cause.{IsLinkable, IsLinkCause};
 ghost use Rattle.wit_component.specs.Linking.{CoreImport};
-ghost use Rattle.wit_resolve.specs.World.{FunctionItem};
+ghost use Rattle.plain_worlds.specs.World.{FunctionItem};
 ghost use Rattle.wit_component.specs.Links as spec;
 ghost use Rattle.wit_component.specs.Links.{AreLinks};
 ghost use Rattle.wit_component.specs.Places.{ArePlaces, target};
@@ -13,9 +13,9 @@ use crate::fault::Fault;
 use crate::link::{Link, LinkKind, LinkSide, Owner};
 use crate::linking::Linking;
 use crate::table::{ROOT, Table, table_of};
+use plain_worlds::Function;
 use std::alloc::{AllocError, Global};
 use wasm_format::Export;
-use wit_resolve::Function;
 
 /// The link of a core import that ends in the lowering of a function of the world.
 fn import_link(alloc: Global, place: &str, name: &str, function: &str) -> Result<Link, AllocError>

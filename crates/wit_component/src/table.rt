@@ -9,7 +9,7 @@ ghost use Rattle.wit_component.specs.CoreNames.{root, standard, is_export_name, 
 ghost use Rattle.wit_component.specs.Linking.{core_import};
 ghost use Rattle.wit_component.specs.Places.{ImportPlace, ExportPlace, Placed, names_under, ArePlaces};
 ghost use Rattle.wit_component.specs.Table.{needed};
-ghost use Rattle.wit_resolve.specs.World.{function_item};
+ghost use Rattle.plain_worlds.specs.World.{function_item};
 ghost use Rattle.wit_component.specs.View as view;
 ghost use Rattle.wasm_types.specs.Entries.{import_value, export_value};
 ghost use Rattle.wasm_format.specs.Module.{module_value};
@@ -18,9 +18,9 @@ use crate::fault::Fault;
 use crate::linking::{Linking, is_of_type};
 use distinct_names::Names;
 use indexmap::IndexMap;
+use plain_worlds::Function;
 use std::alloc::{AllocError, Global};
 use wasm_format::{Export, Import};
-use wit_resolve::Function;
 
 /// The import text of the world's own functions in the legacy mangling.
 pub const ROOT: &str = "$root";

@@ -5,7 +5,8 @@ use Rattle.std.proofs.lemmas.List.{take_more, take-append-drop, drop_more, map-a
 use Rattle.std.proofs.lemmas.List.Elements.{filter-append}
 use Rattle.wit_resolve.specs.declared.world.Side.{Side}
 use Rattle.wit_resolve.specs.declared.world.Side.TheVariants as sides
-use Rattle.wit_resolve.specs.World.{FunctionItem, SideItem, put, each_of, same_side, functions_of, sides_of, with_item, with_items, WorldMeaning}
+use Rattle.plain_worlds.specs.World.{FunctionItem, put, each_of, WorldMeaning}
+use Rattle.wit_resolve.specs.World.{SideItem, same_side, functions_of, sides_of, with_item, with_items}
 
 some_is : {B : Type 0} (ys zs : List B) → Some ys ≡ Some zs → ys ≡ zs
 some_is ys zs e = cc

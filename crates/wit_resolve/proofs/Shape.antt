@@ -3,7 +3,8 @@ use Rattle.std.proofs.Common.{◌≡◌, Bool, true, false, List, [], ◌∷◌,
 use Rattle.std.proofs.lemmas.List.{length-append}
 use Rattle.wit_syntax.specs.Ast.{GatedTree, FileItemTree, FileTree}
 use Rattle.wit_syntax.specs.WholeText.{IsText}
-use Rattle.wit_resolve.specs.World.{PackageMeaning, package_of, item_world, only_world, world_fits}
+use Rattle.plain_worlds.specs.World.{world_fits}
+use Rattle.wit_resolve.specs.World.{PackageMeaning, package_of, item_world, only_world}
 use Rattle.wit_resolve.specs.Shape.{IsShaped, IsInShape}
 
 some_is : (p q : PackageMeaning) → Some p ≡ Some q → p ≡ q

@@ -2,7 +2,8 @@
 use Rattle.std.specs.Prelude.{◌≡◌, ℕ, List, Some, true}
 use Rattle.wit_syntax.specs.Ast.{FileTree}
 use Rattle.wit_syntax.specs.WholeText.{IsText}
-use Rattle.wit_resolve.specs.World.{PackageMeaning, package_of, world_fits}
+use Rattle.plain_worlds.specs.World.{world_fits}
+use Rattle.wit_resolve.specs.World.{PackageMeaning, package_of}
 
 -- the file is of the shape, and this is its package
 pub record IsShaped (tree : FileTree) (p : PackageMeaning) : Type 0 where

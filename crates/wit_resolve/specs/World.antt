@@ -1,47 +1,24 @@
 -- The world meaning of a text: what the chosen world imports and exports, and each function's type
 -- (WIT, Packages, Worlds).
-use Rattle.std.specs.Prelude.{ℕ, nat_le, Bool, true, false, ◌&&◌, List, [], ◌∷◌, ◌++◌, map, filter, length, Option, Some, None, option_map, option_and_then, string_bytes}
-use Rattle.std.specs.List.{list_all}
-use Rattle.std.specs.Char.{to_ascii_lowercase}
-use Rattle.distinct_names.specs.Names.{all_new}
+use Rattle.std.specs.Prelude.{ℕ, Bool, true, false, List, [], ◌∷◌, ◌++◌, map, filter, Option, Some, None, option_map, option_and_then, string_bytes}
 use Rattle.wit_syntax.specs.Ast as ast
 use Rattle.wit_syntax.specs.Ast.{PackageNameTree, AttributeTree, GatedTree, ParamTree, FuncTree, NamedFuncTree, ExternTree, WorldItemTree, WorldTree, AstItemTree, FileItemTree, HeaderTree, FileTree}
 use Rattle.wit_syntax.specs.TypeTree as types
 use Rattle.wit_syntax.specs.TypeTree.{TypeTree, TypeShape}
-use Rattle.wit_resolve.specs.declared.world.PrimitiveType.{PrimitiveType}
-use Rattle.wit_resolve.specs.declared.world.PrimitiveType.TheVariants as primitives
-use Rattle.wit_resolve.specs.declared.world.Param.{Param}
-use Rattle.wit_resolve.specs.declared.world.Function.{Function}
+use Rattle.plain_worlds.specs.declared.world.PrimitiveType.{PrimitiveType}
+use Rattle.plain_worlds.specs.declared.world.PrimitiveType.TheVariants as primitives
+use Rattle.plain_worlds.specs.declared.world.Function.{Function}
+use Rattle.plain_worlds.specs.World.{ParameterValue, FunctionItem, WorldMeaning, function_item, world_meaning, each_of}
 use Rattle.wit_resolve.specs.declared.world.Side.{Side}
 use Rattle.wit_resolve.specs.declared.world.Side.TheVariants as sides
 use Rattle.wit_resolve.specs.declared.world.Sides.{Sides}
-use Rattle.wit_resolve.specs.declared.world.World.{World}
 use Rattle.wit_resolve.specs.declared.world.Package.{Package}
 use Rattle.wit_resolve.specs.declared.world.PackageName.{PackageName}
-
-pub record ParameterValue : Type 0 where
-  pub name : List ℕ
-  pub ty : PrimitiveType
-
-pub record FunctionTypeValue : Type 0 where
-  pub params : List ParameterValue
-  pub result : Option PrimitiveType
-
--- a function of a world: its name and its type
-pub record FunctionItem : Type 0 where
-  pub name : List ℕ
-  pub ty : FunctionTypeValue
 
 -- a function that is imported or exported
 pub record SideItem : Type 0 where
   pub side : Side
   pub function : FunctionItem
-
--- what a world imports and exports
-pub record WorldMeaning : Type 0 where
-  pub name : List ℕ
-  pub imports : List FunctionItem
-  pub exports : List FunctionItem
 
 pub record PackageMeaning : Type 0 where
   pub namespace : List ℕ
@@ -49,15 +26,6 @@ pub record PackageMeaning : Type 0 where
   pub world : WorldMeaning
 
 -- ---- what the Rust values stand for
-
-abbrev pub param_item : Param → ParameterValue
-param_item p = record { name = string_bytes p.name; ty = p.ty }
-
-abbrev pub function_item : Function → FunctionItem
-function_item f = record { name = string_bytes f.name; ty = record { params = map param_item f.params.items; result = f.result } }
-
-abbrev pub world_meaning : World → WorldMeaning
-world_meaning w = record { name = string_bytes w.name; imports = map function_item w.imports.items; exports = map function_item w.exports.items }
 
 abbrev pub package_meaning : Package → PackageMeaning
 package_meaning p = record { namespace = string_bytes p.name.namespace; name = string_bytes p.name.name; world = world_meaning p.world }
@@ -88,16 +56,6 @@ shape_type _ = None
 
 abbrev pub type_of : TypeTree → Option PrimitiveType
 type_of (types.standing span shape) = shape_type shape
-
-abbrev pub put : {A : Type 0} → Option A → Option (List A) → Option (List A)
-put (Some x) (Some xs) = Some (x ∷ xs)
-put (Some x) None = None
-put None xs = None
-
--- what each stands for, if each does for something
-abbrev pub each_of : {A B : Type 0} → (A → Option B) → List A → Option (List B)
-each_of f [] = Some []
-each_of f (x ∷ xs) = put (f x) (each_of f xs)
 
 abbrev pub parameter_of : ParamTree → Option ParameterValue
 parameter_of p = option_map (λ t. record { name = p.name.text; ty = t }) (type_of p.ty)
@@ -201,28 +159,3 @@ name_texts name = (name.namespace.text, name.name.text)
 -- the package of a file that is a header without a version and one world of functions over the integers and bool
 abbrev pub package_of : FileTree → Option PackageMeaning
 package_of d = option_and_then (λ name. option_map (in_package name) (option_and_then world_of (only_world d.items))) (header_of d.header)
-
--- ---- the shape
-
--- names with equal letters, of whatever case, are one name in a scope
-abbrev pub name_key : List ℕ → List ℕ
-name_key name = map to_ascii_lowercase name
-
--- each name's key, of functions
-abbrev pub function_keys : List FunctionItem → List (List ℕ)
-function_keys fs = map (λ f. name_key f.name) fs
-
--- and of parameters
-abbrev pub parameter_keys : List ParameterValue → List (List ℕ)
-parameter_keys ps = map (λ p. name_key p.name) ps
-
--- at most 16 parameters, no two alike
-abbrev pub function_fits : FunctionItem → Bool
-function_fits f = nat_le (length f.ty.params) 16 && all_new [] (parameter_keys f.ty.params)
-
-abbrev pub functions_fit : List FunctionItem → Bool
-functions_fit fs = list_all function_fits fs && all_new [] (function_keys fs)
-
--- at most 16 parameters a function, and no two names of a scope alike: imports, exports, parameters
-abbrev pub world_fits : WorldMeaning → Bool
-world_fits w = functions_fit w.imports && functions_fit w.exports

@@ -7,4 +7,4 @@ mod world;
 
 pub use fault::ResolveFault;
 pub use id::{Id, PackageId, WorldId};
-pub use world::{Function, Package, PackageName, Param, PrimitiveType, World, read_package};
+pub use world::{Package, PackageName, read_package};

@@ -1,8 +1,7 @@
 //! Packages and their worlds.
 
-ghost use Rattle.std.specs.Prelude.{◌≡◌, ◌⊎◌, [], map, string_bytes, option_map, IfOk, IfErr, OnOk, MatchResult};
-ghost use Rattle.std.specs.List.{list_all};
-ghost use Rattle.distinct_names.specs.Names.{all_new};
+ghost use Rattle.std.specs.Prelude.{◌≡◌, ◌⊎◌, map, option_map, IfOk, IfErr, OnOk, MatchResult};
+ghost use Rattle.plain_worlds.specs.World as plain;
 ghost use Rattle.wit_resolve.specs.Shape.{IsInShape, IsShaped};
 ghost use Rattle.wit_resolve.specs.World as spec;
 ghost use Rattle.wit_resolve.specs.World.{PackageMeaning};
@@ -12,58 +11,12 @@ ghost use Rattle.wit_syntax.specs.TypeView.{type_tree};
 ghost use Rattle.wit_syntax.specs.WholeText.{IsText};
 
 use crate::fault::ResolveFault;
-use distinct_names::Names;
+use plain_worlds::{Function, Param, PrimitiveType, World, world_fits};
 use std::alloc::{AllocError, Global};
 use wit_syntax::{
     AstItem, ExternKind, File, FileItem, Gated, NamedFunc, PackageHeader, SyntaxFault, Type,
     TypeKind, WorldItem, parse_file,
 };
-
-/// A type of one core value: `bool`, or an integer (WIT, Types).
-#[derive(Clone, Copy, Debug, PartialEq, Eq)]
-pub enum PrimitiveType {
-    /// `bool`
-    Bool,
-    /// `s8`
-    S8,
-    /// `u8`
-    U8,
-    /// `s16`
-    S16,
-    /// `u16`
-    U16,
-    /// `s32`
-    S32,
-    /// `u32`
-    U32,
-    /// `s64`
-    S64,
-    /// `u64`
-    U64,
-}
-
-/// A parameter of a function.
-#[derive(Debug, Drop)]
-pub struct Param {
-    pub name: String,
-    pub ty: PrimitiveType,
-}
-
-/// A function: its name, parameters in order, and result.
-#[derive(Debug, Drop)]
-pub struct Function {
-    pub name: String,
-    pub params: Vec<Param>,
-    pub result: Option<PrimitiveType>,
-}
-
-/// A world: the functions that it imports and those that it exports, in the order of the text.
-#[derive(Debug, Drop)]
-pub struct World {
-    pub name: String,
-    pub imports: Vec<Function>,
-    pub exports: Vec<Function>,
-}
 
 /// A package's name.
 #[derive(Debug, Drop)]
@@ -118,7 +71,7 @@ fn result_of(ty: &Option<Type>) -> Option<Option<PrimitiveType>>
 
 /// The parameters, if all are of those types.
 fn params_of(alloc: Global, params: &[wit_syntax::Param]) -> Result<Option<Vec<Param>>, AllocError>
-    ensures { IfOk result (λ o. option_map (λ v. map spec.param_item v.items) o ≡ spec.each_of spec.parameter_of (map view.param params.now)) }
+    ensures { IfOk result (λ o. option_map (λ v. map plain.param_item v.items) o ≡ plain.each_of spec.parameter_of (map view.param params.now)) }
 {
     let mut found = Vec::new(alloc);
     for param in params {
@@ -133,7 +86,7 @@ fn params_of(alloc: Global, params: &[wit_syntax::Param]) -> Result<Option<Vec<P
 
 /// A function that isn't `async`, if its types are of those.
 fn function_of(alloc: Global, named: &NamedFunc) -> Result<Option<Function>, AllocError>
-    ensures { IfOk result (λ o. option_map spec.function_item o ≡ spec.function_of (view.named_func named.now)) }
+    ensures { IfOk result (λ o. option_map plain.function_item o ≡ spec.function_of (view.named_func named.now)) }
 {
     if named.func.async_ {
         return Ok(None);
@@ -153,7 +106,7 @@ fn function_of(alloc: Global, named: &NamedFunc) -> Result<Option<Function>, All
 
 /// The function that is imported or exported, if it is one.
 fn extern_of(alloc: Global, kind: &ExternKind) -> Result<Option<Function>, AllocError>
-    ensures { (side : _) → IfOk result (λ o. option_map (spec.on_side side) (option_map spec.function_item o) ≡ spec.extern_of side (view.extern_kind kind.now)) }
+    ensures { (side : _) → IfOk result (λ o. option_map (spec.on_side side) (option_map plain.function_item o) ≡ spec.extern_of side (view.extern_kind kind.now)) }
 {
     match kind {
         ExternKind::Func(named) => function_of(alloc, named),
@@ -191,7 +144,7 @@ struct Sides {
 
 /// Adds a function behind those of its side.
 fn add(sides: &mut Sides, side: Side, function: Function) -> Result<(), AllocError>
-    ensures { OnOk result (spec.sides_value sides.new ≡ spec.with_item (spec.sides_value sides.old) (spec.on_side side (spec.function_item function))) }
+    ensures { OnOk result (spec.sides_value sides.new ≡ spec.with_item (spec.sides_value sides.old) (spec.on_side side (plain.function_item function))) }
 {
     match side {
         Side::Import => sides.imports.push(function)?,
@@ -202,7 +155,7 @@ fn add(sides: &mut Sides, side: Side, function: Function) -> Result<(), AllocErr
 
 /// The functions of a world's items, if all are of the shape.
 fn sides_of(alloc: Global, items: &[Gated<'_, WorldItem<'_>>]) -> Result<Option<Sides>, AllocError>
-    ensures { IfOk result (λ o. option_map spec.sides_value o ≡ option_map spec.sides_of (spec.each_of spec.item_of (map (view.gated view.world_item) items.now))) }
+    ensures { IfOk result (λ o. option_map spec.sides_value o ≡ option_map spec.sides_of (plain.each_of spec.item_of (map (view.gated view.world_item) items.now))) }
 {
     let mut found = Sides {
         imports: Vec::new(alloc),
@@ -220,7 +173,7 @@ fn sides_of(alloc: Global, items: &[Gated<'_, WorldItem<'_>>]) -> Result<Option<
 /// A world, if it is of the shape; its names are copied.
 #[tactic(auto, using(crate::proofs::Each::world_of_sides))]
 fn world_of(alloc: Global, world: wit_syntax::World) -> Result<Option<World>, AllocError>
-    ensures { IfOk result (λ o. option_map spec.world_meaning o ≡ spec.world_of (view.world world.entry)) }
+    ensures { IfOk result (λ o. option_map plain.world_meaning o ≡ spec.world_of (view.world world.entry)) }
 {
     let wit_syntax::World { name, items } = world;
     let Some(Sides { imports, exports }) = sides_of(alloc, &items)? else {
@@ -303,86 +256,6 @@ pub fn package_of(alloc: Global, file: File) -> Result<Option<Package>, AllocErr
         Some(world) => Ok(Some(Package { name, world })),
         None => Ok(None),
     }
-}
-
-/// The most parameters that a function of this stage has.
-const MOST_PARAMETERS: usize = 16;
-
-/// Whether no two keys are equal.
-fn are_distinct(alloc: Global, keys: &[String]) -> Result<bool, AllocError>
-    ensures { IfOk result (λ b. b ≡ all_new [] (map string_bytes keys.now)) }
-{
-    let mut seen = Names::new(alloc);
-    for key in keys {
-        let name = key.as_str();
-        if !seen.is_new(name) {
-            return Ok(false);
-        }
-        seen.add(name)?;
-    }
-    Ok(true)
-}
-
-/// The keys of parameters' names: names that differ in the case of their letters alone have one key.
-fn parameter_keys(alloc: Global, params: &[Param]) -> Result<Vec<String>, AllocError>
-    ensures { IfOk result (λ v. map string_bytes v.items ≡ spec.parameter_keys (map spec.param_item params.now)) }
-{
-    let mut keys = Vec::new(alloc);
-    for param in params {
-        keys.push(param.name.to_ascii_lowercase(alloc)?)?;
-    }
-    Ok(keys)
-}
-
-/// The keys of functions' names.
-fn function_keys(alloc: Global, functions: &[Function]) -> Result<Vec<String>, AllocError>
-    ensures { IfOk result (λ v. map string_bytes v.items ≡ spec.function_keys (map spec.function_item functions.now)) }
-{
-    let mut keys = Vec::new(alloc);
-    for function in functions {
-        keys.push(function.name.to_ascii_lowercase(alloc)?)?;
-    }
-    Ok(keys)
-}
-
-fn function_fits(alloc: Global, function: &Function) -> Result<bool, AllocError>
-    ensures { IfOk result (λ b. b ≡ spec.function_fits (spec.function_item function.now)) }
-{
-    if function.params.len() > MOST_PARAMETERS {
-        return Ok(false);
-    }
-    are_distinct(alloc, &parameter_keys(alloc, &function.params)?)
-}
-
-/// Whether each function fits by itself.
-fn each_fits(alloc: Global, functions: &[Function]) -> Result<bool, AllocError>
-    ensures { IfOk result (λ b. b ≡ list_all spec.function_fits (map spec.function_item functions.now)) }
-{
-    for function in functions {
-        if !function_fits(alloc, function)? {
-            return Ok(false);
-        }
-    }
-    Ok(true)
-}
-
-fn functions_fit(alloc: Global, functions: &[Function]) -> Result<bool, AllocError>
-    ensures { IfOk result (λ b. b ≡ spec.functions_fit (map spec.function_item functions.now)) }
-{
-    if !each_fits(alloc, functions)? {
-        return Ok(false);
-    }
-    are_distinct(alloc, &function_keys(alloc, functions)?)
-}
-
-/// Whether no function has more than 16 parameters, and no two names of one scope have equal letters.
-pub fn world_fits(alloc: Global, world: &World) -> Result<bool, AllocError>
-    ensures { IfOk result (λ b. b ≡ spec.world_fits (spec.world_meaning world.now)) }
-{
-    if !functions_fit(alloc, &world.imports)? {
-        return Ok(false);
-    }
-    functions_fit(alloc, &world.exports)
 }
 
 /// The tree of a text; a text without one is X1.

@@ -1,5 +1,5 @@
 use Rattle.std.proofs.Common.{◌≡◌, map, true}
-use Rattle.wit_resolve.specs.World.{function_item}
+use Rattle.plain_worlds.specs.World.{function_item}
 use Rattle.component_audit.specs.SpacesView.{import_entry}
 use Rattle.component_audit.specs.Judged.{is_listed}
 use Rattle.component_audit.proofs.Searching.{Going}

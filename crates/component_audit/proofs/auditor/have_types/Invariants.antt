@@ -2,7 +2,7 @@ use Rattle.std.proofs.Common.{◌≡◌, drop, map}
 use Rattle.std.specs.Cmp.Lexicographic.{pointwise}
 use Rattle.known_definitions.specs.Definition.{parameter_value}
 use Rattle.wit_component.specs.Meaning.{same_parameter}
-use Rattle.wit_resolve.specs.World.{param_item}
+use Rattle.plain_worlds.specs.World.{param_item}
 use Rattle.component_audit.proofs.auditor.have_types.Given as goal
 
 abbrev pub invariant-loop-place : goal.invariant-loop-place

@@ -1,8 +1,8 @@
 use Rattle.std.proofs.Common.{◌≡◌, [], Bor, map, sym, ap, subst, ◌∙◌, true}
 use Rattle.std.proofs.lemmas.Bool.{and_parts}
 use Rattle.distinct_names.specs.Names.{all_new}
-use Rattle.wit_resolve.specs.declared.world.Function.{Function}
-use Rattle.wit_resolve.specs.World.{function_item, functions_fit}
+use Rattle.plain_worlds.specs.declared.world.Function.{Function}
+use Rattle.plain_worlds.specs.World.{function_item, functions_fit}
 use Rattle.wit_component.specs.Table.{needed}
 use Rattle.wit_component.specs.Right.{IsIn}
 use Rattle.component_audit.specs.Judged.{Finds, IsOutside}

@@ -3,7 +3,7 @@ use Rattle.std.specs.Prelude.{option_map}
 use Rattle.std.proofs.lemmas.Bool.Decides.{Decides-at}
 use Rattle.wasm_types.specs.Entries.{import_value}
 use Rattle.wasm_format.specs.Module.{module_value}
-use Rattle.wit_resolve.specs.World.{FunctionItem, function_item}
+use Rattle.plain_worlds.specs.World.{FunctionItem, function_item}
 use Rattle.wit_component.specs.Linking.{core_import}
 use Rattle.wit_component.specs.Meaning.{is_of_core_type}
 use Rattle.component_audit.specs.Judged.{is_lowering_of}

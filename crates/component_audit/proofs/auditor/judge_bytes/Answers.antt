@@ -3,7 +3,7 @@ use Rattle.std.specs.Prelude.{option_map, IfSome}
 use Rattle.std.specs.List.{All}
 use Rattle.component_sections.specs.declared.section.PlacedDefinition.{PlacedDefinition}
 use Rattle.component_sections.specs.Component.{placed_value, StandsIn}
-use Rattle.wit_resolve.specs.World.{each_of}
+use Rattle.plain_worlds.specs.World.{each_of}
 use Rattle.known_definitions.specs.declared.definition.KnownDefinition.{KnownDefinition}
 use Rattle.known_definitions.specs.Definition.{definition_values, AreWithin}
 use Rattle.known_definitions.specs.Known.{known_of}

@@ -1,7 +1,7 @@
 use Rattle.std.proofs.Common.{◌≡◌, true, [], map, sym, ap, subst, ◌∙◌, inr, refl}
 use Rattle.std.proofs.lemmas.Bool.{and_parts}
 use Rattle.distinct_names.specs.Names.{all_new}
-use Rattle.wit_resolve.specs.World.{function_item, functions_fit}
+use Rattle.plain_worlds.specs.World.{function_item, functions_fit}
 use Rattle.wit_component.specs.Right.{ImportsRight, ExportsRight}
 use Rattle.component_audit.specs.Judged.{IsOnce}
 use Rattle.component_audit.specs.SpacesView as seen

@@ -1,5 +1,5 @@
 use Rattle.std.proofs.Common.{arith, map, sym, ◌∙◌}
-use Rattle.wit_resolve.specs.World.{function_item}
+use Rattle.plain_worlds.specs.World.{function_item}
 use Rattle.component_audit.specs.SpacesView.{import_entry}
 use Rattle.component_audit.proofs.Judged.{outside_is, not_known, not_there, names_seen}
 use Rattle.component_audit.proofs.auditor.outside_finding.Goals as goal

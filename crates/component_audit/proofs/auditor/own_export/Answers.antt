@@ -8,7 +8,7 @@ use Rattle.name_places.specs.FirstPlaces.{place_of}
 use Rattle.wit_component.specs.Linking.{core_export}
 use Rattle.wit_component.specs.Table.{ExportLink}
 use Rattle.wit_component.specs.View as view
-use Rattle.wit_resolve.specs.World.{function_item}
+use Rattle.plain_worlds.specs.World.{function_item}
 use Rattle.wit_component.proofs.WrittenNames.{names_of}
 use Rattle.wit_component.proofs.PlacesLists.{view_at}
 use Rattle.component_audit.proofs.Judged.{named_nowhere, places_named}

@@ -1,7 +1,7 @@
 use Rattle.std.proofs.Common.{◌<◌, length, map, rules, refl, sym, ap, ◌∙◌}
 use Rattle.std.specs.Prelude.{option_map}
 use Rattle.std.proofs.lemmas.List.{map_push}
-use Rattle.wit_resolve.proofs.Each.{each_step, each_stop}
+use Rattle.known_definitions.proofs.Each.{each_step, each_stop}
 use Rattle.component_value_types.specs.Names.{named_value}
 use Rattle.known_definitions.specs.Definition.{inline_export_value}
 use Rattle.known_definitions.specs.Known.{known_export}

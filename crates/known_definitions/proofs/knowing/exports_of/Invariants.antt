@@ -1,5 +1,5 @@
 use Rattle.std.proofs.Common.{◌≡◌, Some, map, take}
-use Rattle.wit_resolve.specs.World.{each_of}
+use Rattle.plain_worlds.specs.World.{each_of}
 use Rattle.component_value_types.specs.Names.{named_value}
 use Rattle.known_definitions.specs.Definition.{inline_export_value}
 use Rattle.known_definitions.specs.Known.{known_export}

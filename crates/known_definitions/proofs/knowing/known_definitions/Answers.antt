@@ -1,7 +1,7 @@
 use Rattle.std.proofs.Common.{map, List, ◌<◌, length, rules, refl, sym, ap, subst, ◌∙◌}
 use Rattle.std.specs.Prelude.{option_map}
 use Rattle.std.proofs.lemmas.List.{map_push}
-use Rattle.wit_resolve.proofs.Each.{each_step, each_stop}
+use Rattle.known_definitions.proofs.Each.{each_step, each_stop}
 use Rattle.component_sections.specs.Component.{placed_value}
 use Rattle.known_definitions.specs.declared.definition.KnownDefinition.{KnownDefinition}
 use Rattle.known_definitions.specs.Definition.{definition_value, definition_values, kind_value, AreWithin}

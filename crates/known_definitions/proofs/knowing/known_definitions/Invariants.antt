@@ -1,6 +1,6 @@
 use Rattle.std.proofs.Common.{◌≡◌, ℕ, List, length, Some, map, take}
 use Rattle.std.specs.List.{All}
-use Rattle.wit_resolve.specs.World.{each_of}
+use Rattle.plain_worlds.specs.World.{each_of}
 use Rattle.component_sections.specs.Component.{placed_value, StandsIn}
 use Rattle.known_definitions.specs.Definition.{definition_values, AreWithin}
 use Rattle.known_definitions.specs.Known.{known_of}

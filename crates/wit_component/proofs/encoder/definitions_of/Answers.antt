@@ -1,7 +1,7 @@
 use Rattle.std.proofs.Common.{◌≡◌, ◌++◌, ℕ, List, length, map, ap, ◌∙◌, inr, refl, arith, Bor}
 use Rattle.std.proofs.lemmas.List.{length-map}
-use Rattle.wit_resolve.specs.declared.world.Function.{Function}
-use Rattle.wit_resolve.specs.World.{function_item}
+use Rattle.plain_worlds.specs.declared.world.Function.{Function}
+use Rattle.plain_worlds.specs.World.{function_item}
 use Rattle.wit_component.specs.Table.{needed}
 use Rattle.wit_component.specs.View as view
 use Rattle.wit_component.specs.Written.{written, among}

@@ -1,7 +1,7 @@
 use Rattle.std.proofs.Common.{◌≡◌, map, take}
 use Rattle.component_value_types.specs.Names.{named_value}
 use Rattle.known_definitions.specs.Known.{named_parameter}
-use Rattle.wit_resolve.specs.World.{param_item}
+use Rattle.plain_worlds.specs.World.{param_item}
 use Rattle.wit_component.proofs.encoder.parameters_of.Given as goal
 
 abbrev pub invariant-loop-param : goal.invariant-loop-param

@@ -1,5 +1,5 @@
 use Rattle.std.proofs.Common.{◌≡◌, map, take}
-use Rattle.wit_resolve.specs.World.{param_item}
+use Rattle.plain_worlds.specs.World.{param_item}
 use Rattle.wit_component.specs.Flat.{flat_value}
 use Rattle.wit_component.proofs.linking.are_flat.Given as goal
 

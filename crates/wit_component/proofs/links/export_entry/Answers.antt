@@ -2,7 +2,7 @@ use Rattle.wasm_types.specs.Entries.{export_value}
 use Rattle.wasm_format.specs.Module.{module_value}
 use Rattle.wit_component.specs.Linking.{core_export}
 use Rattle.wit_component.specs.View as view
-use Rattle.wit_resolve.specs.World.{function_item}
+use Rattle.plain_worlds.specs.World.{function_item}
 use Rattle.wit_component.proofs.LinkLines.{get_once, target_twice, export_entry_read}
 use Rattle.wit_component.proofs.links.export_entry.Goals as goal
 

@@ -4,7 +4,7 @@ use Rattle.wasm_format.specs.Module.{module_value}
 use Rattle.wit_component.specs.Linking.{core_export}
 use Rattle.wit_component.specs.Places.{ExportPlace}
 use Rattle.wit_component.specs.View as view
-use Rattle.wit_resolve.specs.World.{function_item}
+use Rattle.plain_worlds.specs.World.{function_item}
 use Rattle.wit_component.proofs.LinkLines.{placed_there, export_place_there, target_read, length_once, length_twice}
 use Rattle.wit_component.proofs.links.export_target.Goals as goal
 

@@ -8,7 +8,7 @@ use Rattle.wit_component.specs.CoreNames.{root, standard}
 use Rattle.wit_component.specs.Linking.{CoreImport, core_import}
 use Rattle.wit_component.specs.Places.{Placed, ImportPlace}
 use Rattle.wit_component.specs.View as view
-use Rattle.wit_resolve.specs.World.{FunctionItem}
+use Rattle.plain_worlds.specs.World.{FunctionItem}
 use Rattle.wit_component.proofs.PlacesCauses.{import_cause, name_cause}
 use Rattle.wit_component.proofs.PlacesLists.{looked_up, any_seen, seen_more, seen_parts, placed_push}
 use Rattle.wit_component.proofs.PlacesRepeats.{legacy_more, standard_more, distinct_more}

@@ -5,7 +5,7 @@ use Rattle.wasm_format.specs.Module.{module_value}
 use Rattle.wit_component.specs.CoreNames.{is_export_name, is_memory_name}
 use Rattle.wit_component.specs.Linking.{CoreExport, core_export}
 use Rattle.wit_component.specs.View as view
-use Rattle.wit_resolve.specs.World.{function_item}
+use Rattle.plain_worlds.specs.World.{function_item}
 use Rattle.wit_component.proofs.PlacesLists.{view_at, item_at, the_one, any_only}
 use Rattle.wit_component.proofs.table.export_place.Goals as goal
 

@@ -6,7 +6,7 @@ use Rattle.wit_component.specs.Candidates.{candidates, named_by}
 use Rattle.wit_component.specs.Linking.{CoreExport, core_export}
 use Rattle.wit_component.specs.Places.{ExportPlace}
 use Rattle.wit_component.specs.View as view
-use Rattle.wit_resolve.specs.World.{function_item}
+use Rattle.plain_worlds.specs.World.{function_item}
 use Rattle.wit_component.proofs.PlacesLists.{notes_map, placed_more}
 use Rattle.wit_component.proofs.PlacesNames.{named_stands}
 use Rattle.wit_component.proofs.table.export_places.Goals as goal

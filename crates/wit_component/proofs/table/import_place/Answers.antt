@@ -7,7 +7,7 @@ use Rattle.wit_component.specs.Candidates.{Stands}
 use Rattle.wit_component.specs.CoreNames.{is_import_name}
 use Rattle.wit_component.specs.Linking.{core_import}
 use Rattle.wit_component.specs.View as view
-use Rattle.wit_resolve.specs.World.{FunctionItem, function_item}
+use Rattle.plain_worlds.specs.World.{FunctionItem, function_item}
 use Rattle.wit_component.proofs.PlacesLists.{item_at, the_one, the_one_there}
 use Rattle.wit_component.proofs.PlacesNames.{no_name, legacy_meaning, import_stands}
 use Rattle.wit_component.proofs.table.import_place.Goals as goal

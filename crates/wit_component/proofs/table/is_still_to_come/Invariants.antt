@@ -1,6 +1,6 @@
 use Rattle.std.proofs.Common.{◌≡◌, map, drop}
 use Rattle.std.specs.List.{list_any}
-use Rattle.wit_resolve.specs.World.{FunctionItem, function_item}
+use Rattle.plain_worlds.specs.World.{FunctionItem, function_item}
 use Rattle.wit_component.specs.Candidates.{candidates, has_post_return}
 use Rattle.wit_component.proofs.table.is_still_to_come.Given as goal
 

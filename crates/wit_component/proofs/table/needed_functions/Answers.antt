@@ -1,7 +1,7 @@
 use Rattle.std.proofs.Common.{◌≤◌, length, map, ap, ◌∙◌, arith}
 use Rattle.std.specs.Prelude.{filter}
 use Rattle.std.proofs.lemmas.List.{take_all}
-use Rattle.wit_resolve.specs.World.{function_item}
+use Rattle.plain_worlds.specs.World.{function_item}
 use Rattle.wit_component.specs.View as view
 use Rattle.wit_component.proofs.WrittenLinks.{wanted, wanted_are_needed}
 use Rattle.wit_component.proofs.table.needed_functions.Goals as goal

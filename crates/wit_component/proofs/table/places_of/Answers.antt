@@ -1,5 +1,5 @@
 use Rattle.std.proofs.Common.{arith, rules}
-use Rattle.wit_resolve.specs.World.{FunctionItem, function_item}
+use Rattle.plain_worlds.specs.World.{FunctionItem, function_item}
 use Rattle.wit_component.specs.Candidates.{candidates}
 use Rattle.wit_component.proofs.PlacesLists.{notes_more, notes_all}
 use Rattle.wit_component.proofs.table.places_of.Goals as goal

@@ -1,5 +1,5 @@
 use Rattle.std.proofs.Common.{◌≡◌, map, take}
-use Rattle.wit_resolve.specs.World.{function_item}
+use Rattle.plain_worlds.specs.World.{function_item}
 use Rattle.wit_component.proofs.table.references.Given as goal
 
 abbrev pub invariant-loop-function : goal.invariant-loop-function

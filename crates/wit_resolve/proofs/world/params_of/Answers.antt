@@ -1,7 +1,8 @@
 use Rattle.std.proofs.Common.{◌≡◌, ◌<◌, length, map, Some, None, rules, refl, sym, ◌∙◌}
 use Rattle.std.proofs.lemmas.List.{map_push}
-use Rattle.wit_resolve.specs.declared.world.Param.{Param}
-use Rattle.wit_resolve.specs.World.{parameter_of, param_item, type_of}
+use Rattle.plain_worlds.specs.declared.world.Param.{Param}
+use Rattle.plain_worlds.specs.World.{param_item}
+use Rattle.wit_resolve.specs.World.{parameter_of, type_of}
 use Rattle.wit_syntax.specs.AstView as view
 use Rattle.wit_syntax.specs.TypeView.{type_tree}
 use Rattle.wit_resolve.proofs.Each.{each_step, each_stop}

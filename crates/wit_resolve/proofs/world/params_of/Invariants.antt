@@ -1,5 +1,6 @@
 use Rattle.std.proofs.Common.{◌≡◌, Some, map, take}
-use Rattle.wit_resolve.specs.World.{each_of, parameter_of, param_item}
+use Rattle.plain_worlds.specs.World.{each_of, param_item}
+use Rattle.wit_resolve.specs.World.{parameter_of}
 use Rattle.wit_syntax.specs.AstView as view
 use Rattle.wit_resolve.proofs.world.params_of.Given as goal
 

@@ -1,6 +1,7 @@
 use Rattle.std.proofs.Common.{◌≡◌, ◌<◌, length, None, Some, rules, sym, ap, ◌∙◌}
 use Rattle.std.specs.Prelude.{option_map}
-use Rattle.wit_resolve.specs.World.{item_of, function_item, side_item, on_side, sides_of, sides_value}
+use Rattle.plain_worlds.specs.World.{function_item}
+use Rattle.wit_resolve.specs.World.{item_of, side_item, on_side, sides_of, sides_value}
 use Rattle.wit_syntax.specs.AstView as view
 use Rattle.wit_resolve.proofs.Each.{each_stop, sides_step}
 use Rattle.wit_resolve.proofs.world.sides_of.Goals as goal

@@ -1,6 +1,7 @@
 use Rattle.std.proofs.Common.{◌≡◌, Some, map, take}
 use Rattle.std.specs.Prelude.{option_map}
-use Rattle.wit_resolve.specs.World.{each_of, item_of, sides_of, sides_value}
+use Rattle.plain_worlds.specs.World.{each_of}
+use Rattle.wit_resolve.specs.World.{item_of, sides_of, sides_value}
 use Rattle.wit_syntax.specs.AstView as view
 use Rattle.wit_resolve.proofs.world.sides_of.Given as goal
 

@@ -1,5 +1,5 @@
 use Rattle.std.proofs.Common.{◌∙◌, map}
-use Rattle.wit_resolve.specs.World.{function_item}
+use Rattle.plain_worlds.specs.World.{function_item}
 use Rattle.component_audit.proofs.Judged.{named_at, named_nowhere, places_named}
 use Rattle.component_audit.proofs.auditor.Listed.find.Goals as goal
 
