@@ -73,7 +73,7 @@ def types(count):
         for number in range(1, count)
     ]
     yield from block("world v", [first, *others])
-    names = "".join(f"t{number} as u{number}, " for number in range(count))
+    names = "".join(f"t{number} as n{number}, " for number in range(count))
     yield from block("world w", [f"    include v with {{ {names}}}\n"])
 
 
