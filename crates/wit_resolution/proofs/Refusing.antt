@@ -1,5 +1,8 @@
 -- Why calls refuse.
-use Rattle.std.proofs.Common.{◌≡◌, ◌+◌, ◌^◌, ◌≤◌, ◌⊎◌, Bool, List, inl, inr, subst}
+use Rattle.std.proofs.Common.{◌≡◌, ℕ, zero, suc, ◌+◌, ◌^◌, ◌≤◌, ◌⊎◌, Bool, List, [], ◌∷◌, ◌++◌, take, inl, inr, refl, sym, subst, ap, ◌∙◌}
+use Rattle.std.proofs.lemmas.List.{append-nil}
+use Rattle.std.specs.List.{AllZip, flat_map}
+use Rattle.std.specs.Prelude.{Result, Ok, Err, OnErr}
 use Rattle.wit_words.specs.Sources.{SourceText, total}
 use Rattle.wit_order.specs.Order.{Has}
 use Rattle.wit_types.specs.declared.«package».PackageName.{PackageName}
@@ -9,16 +12,12 @@ use Rattle.wit_package.specs.declared.group.UnresolvedPackageGroup.{UnresolvedPa
 use Rattle.wit_groups.specs.Pushed.{IsTogetherCause}
 use Rattle.wit_groups.specs.declared.fault.GroupFault.{GroupFault}
 use Rattle.wit_resolution.specs.Errors.{IsOfTexts, IsSizeError, of_group}
-use Rattle.wit_resolution.specs.Groups.{SomePass, packages_behind}
-use Rattle.wit_resolution.specs.Pushes.{Resolved, IsGroupsError, AreTextsError}
-use Rattle.wit_resolution.specs.Texts.{IsUnread}
+use Rattle.wit_resolution.specs.Groups.{packages_behind, texts_of}
+use Rattle.wit_resolution.specs.Pushes.{Resolved, IsGroupsError, AreGroupsRefused, AreTextsError, AreTextsRefused}
+use Rattle.wit_resolution.specs.Texts.{AreTextsLeft, IsGroupOf, IsUnread}
 use Rattle.wit_resolution.specs.declared.error.ResolveErrorKind.{ResolveErrorKind}
 
 module _ (eq : PackageName → PackageName → Bool) (old : Resolved) where
-  pub size_error : (gs : List UnresolvedPackageGroup) (kind : ResolveErrorKind) → IsSizeError (SomePass old.texts gs) kind → IsGroupsError eq old gs kind
-  size_error gs kind (inl memory) = IsGroupsError.no_memory memory
-  size_error gs kind (inr large) = IsGroupsError.too_large large.0 large.1
-
   pub together_error : (gs : List UnresolvedPackageGroup) (ps : List UnresolvedPackage) (kind : ResolveErrorKind) → ps ≡ packages_behind old.texts gs
       → ((fault : GroupFault) × IsTogetherCause eq old.features old.graph ps fault × (kind ≡ of_group fault)) → IsGroupsError eq old gs kind
   together_error gs ps kind same (fault, cause, is) =
@@ -29,3 +28,34 @@ module _ (eq : PackageName → PackageName → Bool) (old : Resolved) where
   texts_error files fs read fault kind has unread (inl of_texts) = AreTextsError.unread fs fault has unread.cause of_texts
   texts_error files fs read fault kind has unread (inr (inl memory)) = AreTextsError.no_memory memory
   texts_error files fs read fault kind has unread (inr (inr large)) = AreTextsError.too_large fs read has unread.beginning large.0 large.1
+
+-- ---- what stays of texts
+
+-- the texts of the first groups are those of the first packages
+texts_alike : (files : List (List SourceText)) (gs : List UnresolvedPackageGroup) (k : ℕ) → AllZip IsGroupOf files gs → texts_of (take k gs) ≡ flat_map (λ (ts : List SourceText). ts) (take k files)
+texts_alike files gs zero zip = refl
+texts_alike [] [] (suc k) zip = refl
+texts_alike [] (g ∷ gs) (suc k) zip = absurd zip
+texts_alike (f ∷ fs) [] (suc k) zip = absurd zip
+texts_alike (f ∷ fs) (g ∷ gs) (suc k) zip = ap (λ (ts : List SourceText). ts ++ texts_of (take k gs)) zip.0.texts ∙ ap (λ (ts : List SourceText). f ++ ts) (texts_alike fs gs k zip.1)
+
+pub groups_left : (eq : PackageName → PackageName → Bool) (old new : Resolved) (files : List (List SourceText)) (gs : List UnresolvedPackageGroup) → AllZip IsGroupOf files gs → AreGroupsRefused eq old gs new → AreTextsRefused eq old files new
+groups_left eq old new files gs zip h = record {
+  kept = h.kept;
+  texts = AreTextsLeft.of_some h.texts.0 (h.texts.1 ∙ ap (λ (ts : List SourceText). old.texts ++ ts) (texts_alike files gs h.texts.0 zip));
+}
+
+pub texts_left : (eq : PackageName → PackageName → Bool) (old new : Resolved) (files : List (List SourceText)) (fs read : List SourceText) (fault : PackageFault) → Has files fs → IsUnread fs read fault
+    → (new ≡ old) ⊎ (new ≡ record old { texts = old.texts ++ read }) → AreTextsRefused eq old files new
+texts_left eq old new files fs read fault has unread (inl same) = record {
+  kept = record { features = ap (λ (r : Resolved). r.features) same; graph = ap (λ (r : Resolved). r.graph) same };
+  texts = AreTextsLeft.of_some 0 (ap (λ (r : Resolved). r.texts) same ∙ sym (append-nil old.texts));
+}
+texts_left eq old new files fs read fault has unread (inr more) = record {
+  kept = record { features = ap (λ (r : Resolved). r.features) more; graph = ap (λ (r : Resolved). r.graph) more };
+  texts = AreTextsLeft.of_one fs read has unread.beginning (ap (λ (r : Resolved). r.texts) more);
+}
+
+pub on_err_weaker : {T E : Type 0} (r : Result T E) (P Q : Type 0) → (P → Q) → OnErr r P → OnErr r Q
+on_err_weaker (Ok x) P Q f h = tt
+on_err_weaker (Err e) P Q f h = f h

@@ -16,7 +16,7 @@ use Rattle.wit_graph_parts.specs.declared.fault.PushFault.{PushFault}
 use Rattle.wit_groups.specs.Pushed.{AreTogether, IsTogetherCause}
 use Rattle.wit_groups.specs.declared.fault.GroupFault.{GroupFault}
 use Rattle.wit_resolution.specs.Errors.{of_push, of_group, IsOfTexts}
-use Rattle.wit_resolution.specs.Texts.{IsGroupOf}
+use Rattle.wit_resolution.specs.Texts.{IsGroupOf, AreTextsLeft}
 use Rattle.wit_resolution.specs.Groups.{packages_behind, texts_of, AllFit, SomePass, BeginBehind}
 use Rattle.wit_resolution.specs.declared.error.ResolveErrorKind.{ResolveErrorKind}
 use Rattle.wit_resolution.specs.declared.error.ResolveErrorKind.TheVariants.{TooLarge, OutOfMemory}
@@ -80,8 +80,7 @@ module _ (eq : PackageName → PackageName → Bool) (old : Resolved) where
     unread : (texts : List SourceText) (fault : PackageFault) → Has files texts → IsTextsFault texts fault → IsOfTexts (total old.texts) fault kind → AreTextsError files kind
     refused : (groups : List UnresolvedPackageGroup) → AllZip IsGroupOf files groups → IsGroupsError groups kind → AreTextsError files kind
 
-  -- nothing is there of them but maybe texts
-  pub record AreTextsRefused (new : Resolved) : Type 0 where
+  -- nothing is there of them but maybe texts: the first of a package, or all of the first packages
+  pub record AreTextsRefused (files : List (List SourceText)) (new : Resolved) : Type 0 where
     pub kept : IsKept old new
-    pub more : List SourceText
-    pub texts : new.texts ≡ old.texts ++ more
+    pub texts : AreTextsLeft old.texts files new.texts

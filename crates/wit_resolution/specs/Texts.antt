@@ -1,6 +1,7 @@
 -- Texts of packages (WIT, Packages).
-use Rattle.std.specs.Prelude.{◌≡◌, List, [], ◌∷◌, map}
+use Rattle.std.specs.Prelude.{◌≡◌, ℕ, List, [], ◌∷◌, ◌++◌, map, flat_map, take}
 use Rattle.wit_words.specs.Sources.{SourceText}
+use Rattle.wit_order.specs.Order.{Has}
 use Rattle.wit_rules.specs.declared.fault.PackageFault.{PackageFault}
 use Rattle.wit_package.specs.declared.group.UnresolvedPackageGroup.{UnresolvedPackageGroup}
 use Rattle.wit_package.specs.Group.{AreParsed, IsBeginning, IsTextsFault}
@@ -18,3 +19,8 @@ pub record IsGroupOf (files : List SourceText) (g : UnresolvedPackageGroup) : Ty
 pub record IsUnread (files read : List SourceText) (fault : PackageFault) : Type 0 where
   pub beginning : IsBeginning files read
   pub cause : IsTextsFault files fault
+
+-- the first files of a package have come behind those texts, or all files of the first packages
+pub data AreTextsLeft (old : List SourceText) (files : List (List SourceText)) (new : List SourceText) : Type 0 where
+  of_one : (texts read : List SourceText) → Has files texts → IsBeginning texts read → new ≡ old ++ read → AreTextsLeft old files new
+  of_some : (k : ℕ) → new ≡ old ++ flat_map (λ (texts : List SourceText). texts) (take k files) → AreTextsLeft old files new

@@ -83,7 +83,7 @@ pub enum ResolveErrorKind {
     /// G10: a handle is of what turns out to be no resource, or the result of a function holds what is lent, by a type of another package.
     #[error("G10 ForeignShape")]
     ForeignShape {
-        /// The item that has the handle or the result.
+        /// The type that is the handle, or the function.
         span: Span,
     },
     /// A request for memory was refused.

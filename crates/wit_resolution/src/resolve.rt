@@ -248,7 +248,7 @@ impl Resolve {
         ensures ok { IfOk result (spec.AreTextsPushed ⟦<PackageName as PartialEq>⟧.eq self.old (files_of (texts main.now) (texts deps.now)) self.new) }
         ensures more { OnOk result (HasMorePackages self.old.graph self.new.graph) }
         ensures cause { IfErr result (spec.AreTextsError ⟦<PackageName as PartialEq>⟧.eq self.old (files_of (texts main.now) (texts deps.now))) }
-        ensures err { OnErr result (spec.AreTextsRefused ⟦<PackageName as PartialEq>⟧.eq self.old self.new) }
+        ensures err { OnErr result (spec.AreTextsRefused ⟦<PackageName as PartialEq>⟧.eq self.old (files_of (texts main.now) (texts deps.now)) self.new) }
     {
         law_parsed_packages_are_well_formed();
         match groups_of_texts(self.alloc, main, deps) {
@@ -262,7 +262,7 @@ impl Resolve {
         ensures ok { IfOk result (spec.AreTextsPushed ⟦<PackageName as PartialEq>⟧.eq self.old (files_of (record { path = path.now; contents = contents.now } ∷ []) []) self.new) }
         ensures more { OnOk result (HasMorePackages self.old.graph self.new.graph) }
         ensures cause { IfErr result (spec.AreTextsError ⟦<PackageName as PartialEq>⟧.eq self.old (files_of (record { path = path.now; contents = contents.now } ∷ []) [])) }
-        ensures err { OnErr result (spec.AreTextsRefused ⟦<PackageName as PartialEq>⟧.eq self.old self.new) }
+        ensures err { OnErr result (spec.AreTextsRefused ⟦<PackageName as PartialEq>⟧.eq self.old (files_of (record { path = path.now; contents = contents.now } ∷ []) []) self.new) }
     {
         self.push_texts([(path, contents)].as_slice(), [].as_slice())
     }
