@@ -142,6 +142,6 @@ functions_of is = filter_map item_of is
 abbrev pub with_exports : WitWorld → List FunctionItem → WorldMeaning
 with_exports w exports = record { name = string_bytes w.name; imports = functions_of (values w.imports); exports = exports }
 
--- the plain functions that it imports, and its exports, if they are plain functions alone
+-- the plain functions that it imports, and its exports, if they are plain functions alone and no two names of a side are alike
 abbrev pub plain_world : WitWorld → Option WorldMeaning
 plain_world w = if_so world_fits (option_map (with_exports w) (each_of item_of (values w.exports)))
