@@ -4,4 +4,4 @@ mod ImportPlaces
 mod ExportPlaces
 mod Growing
 mod Naming
-mod There
+mod OnSide

@@ -20,7 +20,7 @@ use Rattle.wit_core_names.specs.Exports.{IsExportName, IsExportNamed, IsTextOf, 
 use Rattle.wit_core_names.specs.Imports.{IsImportName, IsImportNamed, IsInterfaceNamed, IsModuleOf, side_module, interface_module, intrinsic_name}
 use Rattle.wit_core_names.specs.Items.{CoreImport, CoreExport}
 use Rattle.wit_core_names.specs.Texts.{Known, IsKeyNamed, IsNameOf, HasName, interface_text_in}
-use Rattle.wit_core_items.specs.Named.{is_export_named, IsExportThere, is_named, is_key_named, is_interface_named, is_type_named, is_import_named, IsImportThere}
+use Rattle.wit_core_items.specs.Named.{is_export_named, is_named, is_key_named, is_interface_named, is_type_named, is_import_named, IsImportOnSide}
 use Rattle.wit_core_items.specs.Growing.{Name, Pair, pair_eq, name_eq}
 use Rattle.wit_core_items.proofs.Placing.{there_below}
 
@@ -102,9 +102,9 @@ module _ (k : Known) where
   one_module m of_key None a b one two = one ∙ sym two
   one_module m of_key (Some key) a b (t, is, e) (u, is_u, e_u) = e ∙ ap of_key (one_text k.packages k.interfaces (interface_text_in m) key t u is is_u) ∙ sym e_u
 
-  pub import_has_name : ArePackagesKnown k.packages k.interfaces → (x : CoreImport) → IsImportThere k x → is_import_named k x ≡ true → IsImportNamed k x
-  import_has_name known (CoreImport.func o own) there is = interface_has_text known o is
-  import_has_name known (CoreImport.intrinsic o r what) (at, side, below) is =
+  pub import_has_name : ArePackagesKnown k.packages k.interfaces → (x : CoreImport) → IsImportOnSide x → is_import_named k x ≡ true → IsImportNamed k x
+  import_has_name known (CoreImport.func o own) side is = interface_has_text known o is
+  import_has_name known (CoreImport.intrinsic o r what) side is =
       let (a, b) = and_parts (is_interface_named k.interfaces o) (is_type_named (slice_get k.types r)) is in
       (interface_has_text known o a, side, type_has_name k.types r b)
 
@@ -147,14 +147,14 @@ module _ (k : Known) where
   one_text_of m None a b one two = one ∙ sym two
   one_text_of m (Some key) a b (t, is, e) (u, is_u, e_u) = e ∙ ap (λ (x : List ℕ). Some x) (one_text k.packages k.interfaces (interface_text_in m) key t u is is_u) ∙ sym e_u
 
-  pub export_has_name : ArePackagesKnown k.packages k.interfaces → (x : CoreExport) → IsExportThere k x → is_export_named k x ≡ true → IsExportNamed k x
-  export_has_name known (CoreExport.func o own kind) there is = interface_has_text known o is
-  export_has_name known (CoreExport.destructor key r) there is =
+  pub export_has_name : ArePackagesKnown k.packages k.interfaces → (x : CoreExport) → is_export_named k x ≡ true → IsExportNamed k x
+  export_has_name known (CoreExport.func o own kind) is = interface_has_text known o is
+  export_has_name known (CoreExport.destructor key r) is =
       let (a, b) = and_parts (is_key_named k.interfaces key) (is_type_named (slice_get k.types r)) is in
       (key_has_text k.packages k.interfaces known key a, type_has_name k.types r b)
-  export_has_name known CoreExport.memory there is = tt
-  export_has_name known CoreExport.initialize there is = tt
-  export_has_name known CoreExport.realloc there is = tt
+  export_has_name known CoreExport.memory is = tt
+  export_has_name known CoreExport.initialize is = tt
+  export_has_name known CoreExport.realloc is = tt
 
   pub export_has_none : (m : Mangling) (x : CoreExport) → is_export_named k x ≡ false → (a : List ℕ) → IsExportName m k x a → ⊥
   export_has_none m (CoreExport.func o own kind) isnt a (of, (found, is, e), named) = text_has_none m o found isnt is

@@ -1,10 +1,9 @@
 -- What core modules import and export by a name: what is of no interface, or of one whose key has a text, and is no resource without a name.
-use Rattle.std.specs.Prelude.{◌<◌, Bool, true, false, ◌&&◌, List, Option, Some, None, is_some, length, slice_get}
+use Rattle.std.specs.Prelude.{Bool, true, false, ◌&&◌, List, Option, Some, None, is_some, slice_get}
 use Rattle.wit_types.specs.declared.interface.Interface.{Interface}
 use Rattle.wit_types.specs.declared.interface.TypeDef.{TypeDef}
 use Rattle.wit_types.specs.declared.world_key.WorldKey.{WorldKey}
 use Rattle.wit_types.specs.declared.world_key.WorldKey.TheVariants as key
-use Rattle.wit_names.specs.Names.{IsKeyThere}
 use Rattle.wit_core_names.specs.Imports.{IsOnSide}
 use Rattle.wit_core_names.specs.Items.{CoreImport, CoreExport}
 use Rattle.wit_core_names.specs.Texts.{Known}
@@ -28,9 +27,10 @@ abbrev pub is_type_named : Option TypeDef → Bool
 is_type_named None = false
 is_type_named (Some d) = is_some d.name
 
-abbrev pub IsInterfaceThere : List Interface → Option WorldKey → Type 0
-IsInterfaceThere interfaces None = Unit {0}
-IsInterfaceThere interfaces (Some key) = IsKeyThere interfaces key
+-- only an interface has exported resources of which modules import something
+abbrev pub IsImportOnSide : CoreImport → Type 0
+IsImportOnSide (CoreImport.func interface own) = Unit {0}
+IsImportOnSide (CoreImport.intrinsic interface r what) = IsOnSide what interface
 
 module _ (k : Known) where
   -- ---- imports
@@ -38,11 +38,6 @@ module _ (k : Known) where
   abbrev pub is_import_named : CoreImport → Bool
   is_import_named (CoreImport.func interface own) = is_interface_named k.interfaces interface
   is_import_named (CoreImport.intrinsic interface r what) = is_interface_named k.interfaces interface && is_type_named (slice_get k.types r)
-
-  -- its ids are known, and only an interface has exported resources
-  abbrev pub IsImportThere : CoreImport → Type 0
-  IsImportThere (CoreImport.func interface own) = IsInterfaceThere k.interfaces interface
-  IsImportThere (CoreImport.intrinsic interface r what) = IsInterfaceThere k.interfaces interface × IsOnSide what interface × (r < length k.types)
 
   -- ---- exports
 
@@ -52,10 +47,3 @@ module _ (k : Known) where
   is_export_named CoreExport.memory = true
   is_export_named CoreExport.initialize = true
   is_export_named CoreExport.realloc = true
-
-  abbrev pub IsExportThere : CoreExport → Type 0
-  IsExportThere (CoreExport.func interface own kind) = IsInterfaceThere k.interfaces interface
-  IsExportThere (CoreExport.destructor interface r) = IsKeyThere k.interfaces interface × (r < length k.types)
-  IsExportThere CoreExport.memory = Unit {0}
-  IsExportThere CoreExport.initialize = Unit {0}
-  IsExportThere CoreExport.realloc = Unit {0}

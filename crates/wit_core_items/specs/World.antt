@@ -1,7 +1,6 @@
 -- What core modules may import and export of a world, in its order (Component Model, Build Targets).
-use Rattle.std.specs.Prelude.{◌≡◌, ◌⊎◌, ℕ, ◌<◌, Bool, true, false, List, [], ◌∷◌, ◌++◌, length, Option, Some, None, String, map, filter, flat_map, string_bytes, slice_get}
+use Rattle.std.specs.Prelude.{◌≡◌, ◌⊎◌, ℕ, Bool, true, false, List, [], ◌∷◌, ◌++◌, Option, Some, None, String, map, filter, flat_map, string_bytes, slice_get}
 use Rattle.std.specs.declared.alloc.Global.{Global}
-use Rattle.wit_order.specs.Order.{Has}
 use Rattle.wit_types.specs.declared.function.Function.{Function}
 use Rattle.wit_types.specs.declared.interface.Interface.{Interface}
 use Rattle.wit_types.specs.declared.interface.TypeDef.{TypeDef}
@@ -12,7 +11,6 @@ use Rattle.wit_types.specs.declared.world.World.{World}
 use Rattle.wit_types.specs.declared.world.WorldItem.{WorldItem}
 use Rattle.wit_types.specs.declared.world.WorldItem.TheVariants as item
 use Rattle.wit_types.specs.declared.world_key.WorldKey.{WorldKey}
-use Rattle.wit_names.specs.Names.{ArePackagesKnown, IsKeyThere}
 use Rattle.wit_core_tables.specs.declared.table.Meaning.{Meaning}
 use Rattle.wit_core_tables.specs.declared.table.Meaning.TheVariants.{One, Ambiguous}
 use Rattle.wit_core_names.specs.Exports.{IsExportName}
@@ -123,17 +121,3 @@ pub record IsReadAs (StandsFor : ℕ → Type 0) (found : Option Meaning) : Type
   pub none : found ≡ None → (i : ℕ) → StandsFor i → ⊥
   pub one : (i : ℕ) → found ≡ Some (One i) → StandsFor i × ((j : ℕ) → StandsFor j → j ≡ i)
   pub several : found ≡ Some Ambiguous → (i j : ℕ) × StandsFor i × StandsFor j × (i ≡ j → ⊥)
-
--- ids of a world's items are known
-abbrev pub IsItemKnown : Known → WorldItem → Type 0
-IsItemKnown k (item.Interface id stability span) = (d : Interface) × (slice_get k.interfaces id ≡ Some d) × ((e : String Global × ℕ) → Has d.types.entries e → e.1 < length k.types)
-IsItemKnown k (item.Function f) = Unit {0}
-IsItemKnown k (item.TypeItem id span) = id < length k.types
-
--- so are those of its keys, and packages of interfaces
-pub record IsWorldKnown (k : Known) (w : World) : Type 0 where
-  pub packages : ArePackagesKnown k.packages k.interfaces
-  pub import_keys : (e : WorldKey × WorldItem) → Has w.imports.entries e → IsKeyThere k.interfaces e.0
-  pub imports : (e : WorldKey × WorldItem) → Has w.imports.entries e → IsItemKnown k e.1
-  pub export_keys : (e : WorldKey × WorldItem) → Has w.exports.entries e → IsKeyThere k.interfaces e.0
-  pub exports : (e : WorldKey × WorldItem) → Has w.exports.entries e → IsItemKnown k e.1

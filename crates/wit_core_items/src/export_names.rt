@@ -8,9 +8,8 @@ ghost use Rattle.wit_core_names.specs.Items.{export_of, CoreExport};
 ghost use Rattle.wit_core_names.specs.Texts.{known};
 ghost use Rattle.wit_core_items.specs.ExportPlaces as spec;
 ghost use Rattle.wit_core_items.specs.Growing.{Grows, Reads, name_eq};
-ghost use Rattle.wit_core_items.specs.Named.{IsExportThere};
 ghost use Rattle.wit_core_items.specs.Places.{AreAt};
-ghost use Rattle.wit_core_items.specs.World.{IsWorldKnown, IsExportedAs, ExportStandsFor, core_exports};
+ghost use Rattle.wit_core_items.specs.World.{IsExportedAs, ExportStandsFor, core_exports};
 
 use crate::export_places::{ExportPlace, export_at};
 use crate::named::is_export_named;
@@ -33,7 +32,6 @@ fn add_spelling(
     place: usize,
 ) -> Result<(), AllocError>
     requires packages { ArePackagesKnown tables.now.packages.now tables.now.interfaces.now }
-    requires there { IsExportThere (known tables.now) (export_of «export».now) }
     ensures { OnOk result (Grows name_eq (λ q i. (i ≡ place) × IsExportName mangling (known tables.now) (export_of «export».now) (cow_str_bytes q)) names.old names.new) }
 {
     if is_export_named(tables, export) {
@@ -53,7 +51,6 @@ fn add_export(
     place: usize,
 ) -> Result<(), AllocError>
     requires packages { ArePackagesKnown tables.now.packages.now tables.now.interfaces.now }
-    requires there { IsExportThere (known tables.now) (export_of «export».now) }
     ensures { OnOk result (Grows name_eq (λ q i. (i ≡ place) × IsExportedAs (known tables.now) legacy (export_of «export».now) (cow_str_bytes q)) names.old names.new) }
 {
     add_spelling(alloc, names, tables, Mangling::Standard32, export, place)?;
@@ -74,7 +71,7 @@ fn add_at<'a>(
     place: usize,
 ) -> Result<(), AllocError>
     requires packages { ArePackagesKnown tables.now.packages.now tables.now.interfaces.now }
-    requires there { (x : CoreExport) × (spec.export_at (known tables.now) world.now at ≡ Some x) × IsExportThere (known tables.now) x }
+    requires there { (x : CoreExport) × (spec.export_at (known tables.now) world.now at ≡ Some x) }
     ensures { OnOk result ((x : CoreExport) → spec.export_at (known tables.now) world.now at ≡ Some x → Grows name_eq (λ q i. (i ≡ place) × IsExportedAs (known tables.now) legacy x (cow_str_bytes q)) names.old names.new) }
 {
     // The borrow check is to know the types of what an export lends.
@@ -92,7 +89,7 @@ pub fn export_names<'a>(
     legacy: bool,
     places: &[ExportPlace],
 ) -> Result<ExportNames, AllocError>
-    requires known { IsWorldKnown (known tables.now) world.now }
+    requires packages { ArePackagesKnown tables.now.packages.now tables.now.interfaces.now }
     requires places { AreAt (spec.export_at (known tables.now) world.now) places.now (core_exports (known tables.now) world.now) }
     ensures { IfOk result (Reads name_eq (λ q i. ExportStandsFor (known tables.now) world.now legacy (cow_str_bytes q) i)) }
 {

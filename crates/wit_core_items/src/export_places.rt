@@ -7,8 +7,9 @@ ghost use Rattle.wit_core_names.specs.Items.{export_of};
 ghost use Rattle.wit_core_names.specs.Texts.{known};
 ghost use Rattle.wit_core_items.specs.ExportPlaces as spec;
 ghost use Rattle.wit_core_items.specs.Places.{AreAt, Adds, counted};
-ghost use Rattle.wit_core_items.specs.World.{IsItemKnown, IsWorldKnown, of_export, core_exports};
+ghost use Rattle.wit_core_items.specs.World.{of_export, core_exports};
 
+use crate::known::interface_at;
 use crate::resources::resources;
 use crate::sides::{entry_at, interface_function, own_function};
 use std::alloc::{AllocError, Global};
@@ -134,12 +135,13 @@ fn push_export(
     entry: usize,
     item: &WorldItem,
 ) -> Result<(), AllocError>
-    requires { IsItemKnown (known tables.now) item.now }
     ensures { OnOk result ((w : World) (key : WorldKey) → slice_get w.exports.entries entry ≡ Some (key, item.now) → Adds (spec.export_at (known tables.now) w) places.old.items places.new.items (of_export (known tables.now) key item.now)) }
 {
     match item {
         WorldItem::Interface { id, .. } => {
-            let interface = tables.interfaces.get(*id);
+            let Some(interface) = interface_at(tables.interfaces, *id) else {
+                return Ok(());
+            };
             let found = resources(alloc, tables, &interface.types)?;
             push_functions(places, entry, interface.functions.len())?;
             push_destructors(places, entry, found.as_slice())?;
@@ -157,7 +159,6 @@ fn push_exports(
     tables: &Tables<'_>,
     world: &World,
 ) -> Result<(), AllocError>
-    requires { IsWorldKnown (known tables.now) world.now }
     ensures { OnOk result (Adds (spec.export_at (known tables.now) world.now) places.old.items places.new.items (spec.of_exports (known tables.now) world.now.exports.entries)) }
 {
     for entry in 0..world.exports.len() {
@@ -173,7 +174,6 @@ pub fn export_places(
     tables: &Tables<'_>,
     world: &World,
 ) -> Result<Vec<ExportPlace>, AllocError>
-    requires { IsWorldKnown (known tables.now) world.now }
     ensures { IfOk result (λ places. AreAt (spec.export_at (known tables.now) world.now) places.items (core_exports (known tables.now) world.now)) }
 {
     let mut places = Vec::new(alloc);

@@ -2,10 +2,11 @@
 
 ghost use Rattle.std.specs.Prelude.{◌≡◌, ◌<◌, Bool, Some, length, slice_get, IfOk};
 ghost use Rattle.wit_types.specs.declared.world.World.{World};
+ghost use Rattle.wit_names.specs.Names.{ArePackagesKnown};
 ghost use Rattle.wit_core_names.specs.Items.{export_of};
 ghost use Rattle.wit_core_names.specs.Texts.{Known, known};
 ghost use Rattle.wit_core_items.specs.Readers.{IsReaderOfExports};
-ghost use Rattle.wit_core_items.specs.World.{IsWorldKnown, IsReadAs, ExportStandsFor, core_exports};
+ghost use Rattle.wit_core_items.specs.World.{IsReadAs, ExportStandsFor, core_exports};
 
 use crate::export_names::{ExportNames, export_names};
 use crate::export_places::{ExportPlace, export_at, export_places};
@@ -32,7 +33,7 @@ impl CoreExports {
         world: &World,
         legacy: bool,
     ) -> Result<CoreExports, AllocError>
-        requires { IsWorldKnown (known tables.now) world.now }
+        requires { ArePackagesKnown tables.now.packages.now tables.now.interfaces.now }
         ensures { IfOk result (λ r. IsReaderOfExports (known tables.now) world.now legacy r) }
     {
         let places = export_places(alloc, tables, world)?;

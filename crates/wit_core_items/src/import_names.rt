@@ -7,10 +7,10 @@ ghost use Rattle.wit_core_names.specs.Imports.{IsImportName};
 ghost use Rattle.wit_core_names.specs.Items.{import_of, CoreImport};
 ghost use Rattle.wit_core_names.specs.Texts.{known};
 ghost use Rattle.wit_core_items.specs.Growing.{Grows, Reads, pair_eq};
-ghost use Rattle.wit_core_items.specs.Named.{IsImportThere};
+ghost use Rattle.wit_core_items.specs.Named.{IsImportOnSide};
 ghost use Rattle.wit_core_items.specs.ImportPlaces as spec;
 ghost use Rattle.wit_core_items.specs.Places.{AreAt};
-ghost use Rattle.wit_core_items.specs.World.{IsWorldKnown, IsImportedAs, ImportStandsFor, core_imports};
+ghost use Rattle.wit_core_items.specs.World.{IsImportedAs, ImportStandsFor, core_imports};
 
 use crate::import_places::{ImportPlace, import_at};
 use crate::named::is_import_named;
@@ -33,7 +33,7 @@ fn add_spelling(
     place: usize,
 ) -> Result<(), AllocError>
     requires packages { ArePackagesKnown tables.now.packages.now tables.now.interfaces.now }
-    requires there { IsImportThere (known tables.now) (import_of «import».now) }
+    requires side { IsImportOnSide (import_of «import».now) }
     ensures { OnOk result (Grows pair_eq (λ q i. (i ≡ place) × IsImportName mangling (known tables.now) (import_of «import».now) (cow_str_bytes q.0) (cow_str_bytes q.1)) names.old names.new) }
 {
     if is_import_named(tables, import) {
@@ -53,7 +53,7 @@ fn add_import(
     place: usize,
 ) -> Result<(), AllocError>
     requires packages { ArePackagesKnown tables.now.packages.now tables.now.interfaces.now }
-    requires there { IsImportThere (known tables.now) (import_of «import».now) }
+    requires side { IsImportOnSide (import_of «import».now) }
     ensures { OnOk result (Grows pair_eq (λ q i. (i ≡ place) × IsImportedAs (known tables.now) legacy (import_of «import».now) (cow_str_bytes q.0) (cow_str_bytes q.1)) names.old names.new) }
 {
     add_spelling(alloc, names, tables, Mangling::Standard32, import, place)?;
@@ -74,7 +74,7 @@ fn add_at<'a>(
     place: usize,
 ) -> Result<(), AllocError>
     requires packages { ArePackagesKnown tables.now.packages.now tables.now.interfaces.now }
-    requires there { (x : CoreImport) × (spec.import_at (known tables.now) world.now at ≡ Some x) × IsImportThere (known tables.now) x }
+    requires there { (x : CoreImport) × (spec.import_at (known tables.now) world.now at ≡ Some x) × IsImportOnSide x }
     ensures { OnOk result ((x : CoreImport) → spec.import_at (known tables.now) world.now at ≡ Some x → Grows pair_eq (λ q i. (i ≡ place) × IsImportedAs (known tables.now) legacy x (cow_str_bytes q.0) (cow_str_bytes q.1)) names.old names.new) }
 {
     // The borrow check is to know the types of what an import lends.
@@ -91,7 +91,7 @@ pub fn import_names<'a>(
     legacy: bool,
     places: &[ImportPlace],
 ) -> Result<ImportNames, AllocError>
-    requires known { IsWorldKnown (known tables.now) world.now }
+    requires packages { ArePackagesKnown tables.now.packages.now tables.now.interfaces.now }
     requires places { AreAt (spec.import_at (known tables.now) world.now) places.now (core_imports (known tables.now) world.now) }
     ensures { IfOk result (Reads pair_eq (λ q i. ImportStandsFor (known tables.now) world.now legacy (cow_str_bytes q.0) (cow_str_bytes q.1) i)) }
 {

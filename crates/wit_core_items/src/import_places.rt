@@ -7,8 +7,9 @@ ghost use Rattle.wit_core_names.specs.Items.{import_of};
 ghost use Rattle.wit_core_names.specs.Texts.{known};
 ghost use Rattle.wit_core_items.specs.ImportPlaces as spec;
 ghost use Rattle.wit_core_items.specs.Places.{AreAt, Adds, counted};
-ghost use Rattle.wit_core_items.specs.World.{IsItemKnown, IsWorldKnown, of_import, of_exported, core_imports};
+ghost use Rattle.wit_core_items.specs.World.{of_import, of_exported, core_imports};
 
+use crate::known::interface_at;
 use crate::resources::{is_resource, resources};
 use crate::sides::{entry_at, interface_function, own_function};
 use std::alloc::{AllocError, Global};
@@ -119,12 +120,13 @@ fn push_import(
     entry: usize,
     item: &WorldItem,
 ) -> Result<(), AllocError>
-    requires { IsItemKnown (known tables.now) item.now }
     ensures { OnOk result ((w : World) (key : WorldKey) → slice_get w.imports.entries entry ≡ Some (key, item.now) → Adds (spec.import_at (known tables.now) w) places.old.items places.new.items (of_import (known tables.now) key item.now)) }
 {
     match item {
         WorldItem::Interface { id, .. } => {
-            let interface = tables.interfaces.get(*id);
+            let Some(interface) = interface_at(tables.interfaces, *id) else {
+                return Ok(());
+            };
             let found = resources(alloc, tables, &interface.types)?;
             push_functions(places, entry, interface.functions.len())?;
             push_drops(places, entry, found.as_slice())?;
@@ -147,11 +149,13 @@ fn push_export(
     entry: usize,
     item: &WorldItem,
 ) -> Result<(), AllocError>
-    requires { IsItemKnown (known tables.now) item.now }
     ensures { OnOk result ((w : World) (key : WorldKey) → slice_get w.exports.entries entry ≡ Some (key, item.now) → Adds (spec.import_at (known tables.now) w) places.old.items places.new.items (of_exported (known tables.now) key item.now)) }
 {
     if let WorldItem::Interface { id, .. } = item {
-        let found = resources(alloc, tables, &tables.interfaces.get(*id).types)?;
+        let Some(interface) = interface_at(tables.interfaces, *id) else {
+            return Ok(());
+        };
+        let found = resources(alloc, tables, &interface.types)?;
         push_exported(places, entry, found.as_slice())?;
     }
     Ok(())
@@ -164,7 +168,6 @@ fn push_imports(
     tables: &Tables<'_>,
     world: &World,
 ) -> Result<(), AllocError>
-    requires { IsWorldKnown (known tables.now) world.now }
     ensures { OnOk result (Adds (spec.import_at (known tables.now) world.now) places.old.items places.new.items (spec.imported (known tables.now) world.now.imports.entries)) }
 {
     for entry in 0..world.imports.len() {
@@ -181,7 +184,6 @@ fn push_exports(
     tables: &Tables<'_>,
     world: &World,
 ) -> Result<(), AllocError>
-    requires { IsWorldKnown (known tables.now) world.now }
     ensures { OnOk result (Adds (spec.import_at (known tables.now) world.now) places.old.items places.new.items (spec.exported (known tables.now) world.now.exports.entries)) }
 {
     for entry in 0..world.exports.len() {
@@ -197,7 +199,6 @@ pub fn import_places(
     tables: &Tables<'_>,
     world: &World,
 ) -> Result<Vec<ImportPlace>, AllocError>
-    requires { IsWorldKnown (known tables.now) world.now }
     ensures { IfOk result (λ places. AreAt (spec.import_at (known tables.now) world.now) places.items (core_imports (known tables.now) world.now)) }
 {
     let mut places = Vec::new(alloc);

@@ -2,10 +2,11 @@
 
 ghost use Rattle.std.specs.Prelude.{◌≡◌, ◌<◌, Bool, Some, length, slice_get, IfOk};
 ghost use Rattle.wit_types.specs.declared.world.World.{World};
+ghost use Rattle.wit_names.specs.Names.{ArePackagesKnown};
 ghost use Rattle.wit_core_names.specs.Items.{import_of};
 ghost use Rattle.wit_core_names.specs.Texts.{Known, known};
 ghost use Rattle.wit_core_items.specs.Readers.{IsReaderOfImports};
-ghost use Rattle.wit_core_items.specs.World.{IsWorldKnown, IsReadAs, ImportStandsFor, core_imports};
+ghost use Rattle.wit_core_items.specs.World.{IsReadAs, ImportStandsFor, core_imports};
 
 use crate::import_names::{ImportNames, import_names};
 use crate::import_places::{ImportPlace, import_at, import_places};
@@ -32,7 +33,7 @@ impl CoreImports {
         world: &World,
         legacy: bool,
     ) -> Result<CoreImports, AllocError>
-        requires { IsWorldKnown (known tables.now) world.now }
+        requires { ArePackagesKnown tables.now.packages.now tables.now.interfaces.now }
         ensures { IfOk result (λ r. IsReaderOfImports (known tables.now) world.now legacy r) }
     {
         let places = import_places(alloc, tables, world)?;

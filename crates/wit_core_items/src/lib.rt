@@ -7,6 +7,7 @@ mod exports;
 mod import_names;
 mod import_places;
 mod imports;
+mod known;
 mod named;
 mod resources;
 mod sides;

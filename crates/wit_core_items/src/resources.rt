@@ -1,11 +1,10 @@
 //! Resources among types.
 
-ghost use Rattle.std.specs.Prelude.{◌≡◌, ◌<◌, ℕ, length, IfOk, String, slice_get};
-ghost use Rattle.std.specs.declared.alloc.Global.{Global};
-ghost use Rattle.wit_order.specs.Order.{Has};
+ghost use Rattle.std.specs.Prelude.{◌≡◌, IfOk, slice_get};
 ghost use Rattle.wit_core_names.specs.Texts.{known};
 ghost use Rattle.wit_core_items.specs.World as spec;
 
+use crate::known::type_at;
 use indexmap::IndexMap;
 use std::alloc::{AllocError, Global};
 use wit_core_names::Tables;
@@ -13,10 +12,12 @@ use wit_types::{Arena, TypeDef, TypeDefKind, TypeId};
 
 /// Whether a type defines a resource.
 pub fn is_resource(types: &Arena<TypeDef>, id: TypeId) -> bool
-    requires { id < length types.now }
     ensures { result ≡ spec.is_resource_def (slice_get types.now id) }
 {
-    matches!(&types.get(id).kind, TypeDefKind::Resource)
+    match type_at(types, id) {
+        Some(def) => matches!(&def.kind, TypeDefKind::Resource),
+        None => false,
+    }
 }
 
 /// The resources among types, in their order.
@@ -25,7 +26,6 @@ pub fn resources(
     tables: &Tables<'_>,
     types: &IndexMap<String, TypeId>,
 ) -> Result<Vec<TypeId>, AllocError>
-    requires { (e : String Global × ℕ) → Has types.now.entries e → e.1 < length tables.now.types.now }
     ensures { IfOk result (λ found. found.items ≡ spec.resources (known tables.now) types.now.entries) }
 {
     let mut found = Vec::new(alloc);

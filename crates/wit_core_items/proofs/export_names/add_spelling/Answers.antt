@@ -10,7 +10,7 @@ use Rattle.wit_core_items.proofs.Naming.{export_has_name, export_has_none, expor
 use Rattle.wit_core_items.proofs.export_names.add_spelling.Goals as goal
 
 pub wasm_export_name-requires-clause-named : goal.wasm_export_name-requires-clause-named
-wasm_export_name-requires-clause-named c = export_has_name (known c.args.tables.now) c.requires.packages (export_of c.args.«export».now) c.requires.there (sym c.is_export_named.ensures ∙ c.if-is_export_named.true)
+wasm_export_name-requires-clause-named c = export_has_name (known c.args.tables.now) c.requires.packages (export_of c.args.«export».now) (sym c.is_export_named.ensures ∙ c.if-is_export_named.true)
 
 pub returns-in_ok-add : goal.returns-in_ok-add
 returns-in_ok-add c =

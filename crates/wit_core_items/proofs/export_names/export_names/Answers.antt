@@ -7,9 +7,7 @@ use Rattle.wit_core_items.specs.Growing.{Name, name_eq}
 use Rattle.wit_core_items.specs.ExportPlaces.{export_at}
 use Rattle.wit_core_items.specs.World.{IsExportedAs, core_exports}
 use Rattle.wit_core_items.proofs.Growing.{reads_first, reads_next, reads_all}
-use Rattle.wit_core_items.proofs.Lists.{has_at}
 use Rattle.wit_core_items.proofs.Placing.{are_there, as_many}
-use Rattle.wit_core_items.proofs.There.{exports_there}
 use Rattle.wit_core_items.proofs.export_names.export_names.Goals as goal
 
 pub add_at-requires-clause-there : goal.add_at-requires-clause-there
@@ -18,7 +16,7 @@ add_at-requires-clause-there c =
     let w = c.args.world.now in
     let at = slice_get-get_or c.args.places.now c.loop-place.place c.index-places-place.result c.loop-place-test.true ∙ ap Some (sym c.index-places-place.is) in
     let (x, is, there) = are_there (export_at k w) c.args.places.now (core_exports k w) c.requires.places c.loop-place.place c.index-places-place.result at in
-    (x, is, exports_there k w c.requires.known x (has_at (core_exports k w) c.loop-place.place x there))
+    (x, is)
 
 pub loop-place-init : goal.loop-place-init
 loop-place-init c =

@@ -3,12 +3,8 @@ use Rattle.wit_types.specs.declared.world.WorldItem.{WorldItem}
 use Rattle.wit_types.specs.declared.world_key.WorldKey.{WorldKey}
 use Rattle.wit_core_items.specs.ExportPlaces.{export_at}
 use Rattle.wit_core_items.specs.World.{of_export}
-use Rattle.wit_core_items.proofs.Lists.{has_at}
 use Rattle.wit_core_items.proofs.Placing.{adds_next}
 use Rattle.wit_core_items.proofs.export_places.push_exports.Goals as goal
-
-pub push_export-requires : goal.push_export-requires
-push_export-requires c = c.requires.exports _ (has_at c.args.world.now.exports.entries c.loop-entry.entry (c.entry_at.result.0.now, c.entry_at.result.1.now) c.entry_at.ensures)
 
 pub loop-entry-preserved : goal.loop-entry-preserved
 loop-entry-preserved c =

@@ -10,7 +10,7 @@ use Rattle.wit_core_items.proofs.Naming.{import_has_name, import_has_none, impor
 use Rattle.wit_core_items.proofs.import_names.add_spelling.Goals as goal
 
 pub wasm_import_name-requires-clause-named : goal.wasm_import_name-requires-clause-named
-wasm_import_name-requires-clause-named c = import_has_name (known c.args.tables.now) c.requires.packages (import_of c.args.«import».now) c.requires.there (sym c.is_import_named.ensures ∙ c.if-is_import_named.true)
+wasm_import_name-requires-clause-named c = import_has_name (known c.args.tables.now) c.requires.packages (import_of c.args.«import».now) c.requires.side (sym c.is_import_named.ensures ∙ c.if-is_import_named.true)
 
 pub returns-in_ok-add : goal.returns-in_ok-add
 returns-in_ok-add c =

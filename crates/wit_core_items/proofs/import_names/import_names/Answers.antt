@@ -9,7 +9,7 @@ use Rattle.wit_core_items.specs.World.{IsImportedAs, core_imports}
 use Rattle.wit_core_items.proofs.Growing.{reads_first, reads_next, reads_all}
 use Rattle.wit_core_items.proofs.Lists.{has_at}
 use Rattle.wit_core_items.proofs.Placing.{are_there, as_many}
-use Rattle.wit_core_items.proofs.There.{imports_there}
+use Rattle.wit_core_items.proofs.OnSide.{imports_on_side}
 use Rattle.wit_core_items.proofs.import_names.import_names.Goals as goal
 
 pub add_at-requires-clause-there : goal.add_at-requires-clause-there
@@ -18,7 +18,7 @@ add_at-requires-clause-there c =
     let w = c.args.world.now in
     let at = slice_get-get_or c.args.places.now c.loop-place.place c.index-places-place.result c.loop-place-test.true ∙ ap Some (sym c.index-places-place.is) in
     let (x, is, there) = are_there (import_at k w) c.args.places.now (core_imports k w) c.requires.places c.loop-place.place c.index-places-place.result at in
-    (x, is, imports_there k w c.requires.known x (has_at (core_imports k w) c.loop-place.place x there))
+    (x, is, imports_on_side k w x (has_at (core_imports k w) c.loop-place.place x there))
 
 pub loop-place-init : goal.loop-place-init
 loop-place-init c =

@@ -1,9 +1,7 @@
-use Rattle.std.proofs.Common.{◌≡◌, ◌<◌, ◌++◌, ℕ, length, filter}
-use Rattle.wit_order.specs.Order.{Has}
+use Rattle.std.proofs.Common.{◌≡◌, ◌++◌, filter}
 use Rattle.wit_core_names.specs.Texts.{known}
 use Rattle.wit_core_items.specs.World.{is_resource, resources}
 use Rattle.wit_core_items.proofs.resources.resources.Given as goal
 
 abbrev pub invariant-loop-id : goal.invariant-loop-id
-invariant-loop-id l =
-    ((id : ℕ) → Has l.id-iterator id → id < length l.tables.types.now) × (l.found.items ++ filter (is_resource (known l.tables)) l.id-iterator ≡ resources (known l.tables) l.types.entries)
+invariant-loop-id l = l.found.items ++ filter (is_resource (known l.tables)) l.id-iterator ≡ resources (known l.tables) l.types.entries
