@@ -10,7 +10,7 @@ mod texts;
 
 pub use error::{ResolveError, ResolveErrorKind, ResolveResult};
 pub use resolve::Resolve;
-pub use wit_core_names::{ResourceIntrinsic, WasmExport, WasmExportKind, WasmImport};
+pub use wit_core_names::{ResourceIntrinsic, Tables, WasmExport, WasmExportKind, WasmImport};
 pub use wit_features::Features;
 pub use wit_graph::Graph;
 pub use wit_package::UnresolvedPackageGroup;

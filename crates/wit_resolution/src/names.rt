@@ -31,20 +31,20 @@ fn known(resolve: &Resolve) -> Known<'_>
     }
 }
 
-/// All that core names name.
-fn tables(resolve: &Resolve) -> Tables<'_>
-    ensures tables { core_names.known result ≡ known_of resolve.entry.now.graph.tables }
-    ensures known { spec.ArePackagesKnown result.packages.now result.interfaces.now }
-{
-    resolve.graph().law_is_graph();
-    Tables {
-        packages: resolve.packages(),
-        interfaces: resolve.interfaces(),
-        types: resolve.types(),
-    }
-}
-
 impl Resolve {
+    /// Where what core names name is known, by its ids: the interfaces belong to packages that are there.
+    pub fn tables(&self) -> Tables<'_>
+        ensures tables { core_names.known result ≡ known_of self.entry.now.graph.tables }
+        ensures known { spec.ArePackagesKnown result.packages.now result.interfaces.now }
+    {
+        self.graph().law_is_graph();
+        Tables {
+            packages: self.packages(),
+            interfaces: self.interfaces(),
+            types: self.types(),
+        }
+    }
+
     /// The text of an interface: `namespace:name/interface`, with `@` and the version of its package behind it, if there is one; none of
     /// an interface without a name (WIT, Package Names).
     pub fn id_of(&self, id: InterfaceId) -> Result<Option<String>, AllocError>
@@ -142,7 +142,7 @@ impl Resolve {
         requires { IsImportNamed (known_of self.now.graph.tables) (import_of «import».now) }
         ensures { IfOk result (λ n. IsImportName mangling (known_of self.now.graph.tables) (import_of «import».now) (string_bytes n.0) (string_bytes n.1)) }
     {
-        wit_core_names::wasm_import_name(self.allocator(), &tables(self), mangling, import)
+        wit_core_names::wasm_import_name(self.allocator(), &self.tables(), mangling, import)
     }
 
     /// The name by which a core module exports something (Component Model, Build Targets). An interface has a name and a package, or is
@@ -155,6 +155,6 @@ impl Resolve {
         requires { IsExportNamed (known_of self.now.graph.tables) (export_of «export».now) }
         ensures { IfOk result (λ n. IsExportName mangling (known_of self.now.graph.tables) (export_of «export».now) (string_bytes n)) }
     {
-        wit_core_names::wasm_export_name(self.allocator(), &tables(self), mangling, export)
+        wit_core_names::wasm_export_name(self.allocator(), &self.tables(), mangling, export)
     }
 }

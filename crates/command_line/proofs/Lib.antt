@@ -1,0 +1,4 @@
+pub mod Simple
+pub mod LineWords
+pub mod Added
+pub mod Flags

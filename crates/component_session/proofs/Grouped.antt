@@ -1,0 +1,49 @@
+-- Groups that were read from their texts.
+use Rattle.std.proofs.Common.{◌≡◌, ◌∙◌, ℕ, zero, suc, Bool, List, [], ◌∷◌, ◌++◌, map, take, Result, Ok, Err, IfOk, IfErr, OnErr, refl, sym, subst, ap, inl, inr}
+use Rattle.std.specs.List.{AllZip, flat_map}
+use Rattle.wit_order.specs.Order.{Has}
+use Rattle.wit_package.specs.declared.group.UnresolvedPackageGroup.{UnresolvedPackageGroup}
+use Rattle.wit_graph_parts.specs.Own.{IsWellFormed}
+use Rattle.wit_well_formed.specs.Law.{ParsedPackagesAreWellFormed}
+use Rattle.wit_resolution.specs.Groups.{packages_of, texts_of}
+use Rattle.wit_types.specs.declared.«package».UnresolvedPackage.{UnresolvedPackage}
+use Rattle.wit_resolution.specs.Pushes.{Resolved, AreGroupsPushed, IsGroupsError, AreGroupsRefused, AreTextsPushed, AreTextsError, AreTextsRefused}
+use Rattle.wit_resolution.specs.Texts.{IsGroupOf, AreTextsLeft}
+use Rattle.wit_resolution.specs.declared.error.ResolveErrorKind.{ResolveErrorKind}
+use Rattle.wit_types.specs.declared.«package».PackageName.{PackageName}
+use Rattle.wit_words.specs.Sources.{SourceText}
+use Rattle.component_session.specs.Coming.{files_of_groups}
+
+-- each was
+abbrev pub AreRead : List UnresolvedPackageGroup → Type 0
+AreRead gs = (g : UnresolvedPackageGroup) → Has gs g → IsGroupOf g.source_map g
+
+pub are_groups : (gs : List UnresolvedPackageGroup) → AreRead gs → AllZip IsGroupOf (files_of_groups gs) gs
+are_groups [] all = tt
+are_groups (g ∷ gs) all = (all g (inl refl), are_groups gs (λ h i. all h (inr i)))
+
+left_of : (k : ℕ) (gs : List UnresolvedPackageGroup) → texts_of (take k gs) ≡ flat_map (λ (ts : List SourceText). ts) (take k (files_of_groups gs))
+left_of zero gs = refl
+left_of (suc k) [] = refl
+left_of (suc k) (g ∷ gs) = ap (λ (ts : List SourceText). g.source_map ++ ts) (left_of k gs)
+
+module _ (eq : PackageName → PackageName → Bool) (old new : Resolved) (gs : List UnresolvedPackageGroup) (all : AreRead gs) where
+  pub pushed : (r : Result ℕ ResolveErrorKind) → IfOk r (AreGroupsPushed eq old gs new) → IfOk r (AreTextsPushed eq old (files_of_groups gs) new)
+  pushed (Ok id) h = record { groups = gs; are_groups = are_groups gs all; pushed = h }
+  pushed (Err e) h = h
+
+  pub cause : (r : Result ℕ ResolveErrorKind) → IfErr r (IsGroupsError eq old gs) → IfErr r (AreTextsError eq old (files_of_groups gs))
+  cause (Ok id) h = h
+  cause (Err e) h = AreTextsError.refused gs (are_groups gs all) h
+
+  pub refused : (r : Result ℕ ResolveErrorKind) → OnErr r (AreGroupsRefused eq old gs new) → OnErr r (AreTextsRefused eq old (files_of_groups gs) new)
+  refused (Ok id) h = h
+  refused (Err e) h = record { kept = h.kept; texts = AreTextsLeft.of_some h.texts.0 (h.texts.1 ∙ ap (λ (ts : List SourceText). old.texts ++ ts) (left_of h.texts.0 gs)) }
+
+pub each_read : (g : UnresolvedPackageGroup) (gs : List UnresolvedPackageGroup) → IsGroupOf g.source_map g → AreRead gs → AreRead (g ∷ gs)
+each_read g gs first others x (inl here) = subst (λ (y : UnresolvedPackageGroup). IsGroupOf y.source_map y) (sym here) first
+each_read g gs first others x (inr later) = others x later
+
+-- so its packages may be put into a graph
+pub each_well_formed : ParsedPackagesAreWellFormed → (gs : List UnresolvedPackageGroup) → AreRead gs → (g : UnresolvedPackageGroup) → Has gs g → (p : UnresolvedPackage) → Has (packages_of g) p → IsWellFormed p
+each_well_formed law gs all g has p own = law g.source_map g.main g.nested.items (all g has).parsed p own

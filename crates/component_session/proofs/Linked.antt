@@ -1,0 +1,97 @@
+-- What is linked.
+use Rattle.std.proofs.Common.{◌≡◌, ℕ, Bool, true, false, List, Any, Option, Some, None, map, slice_get, refl, sym, ap, subst, ◌∙◌}
+use Rattle.std.proofs.lemmas.Option.{same_Some}
+use Rattle.std.specs.Prelude.{option_and_then, option_map, if◌then◌else◌}
+use Rattle.std.specs.Option.{ForSome}
+use Rattle.indexmap.specs.IndexMap.{values}
+use Rattle.plain_imports.specs.Imports.{IsBeyond, names_of}
+use Rattle.plain_worlds.specs.World.{WorldMeaning, plain_world, if_so, world_fits, with_exports, each_of, item_of, function_item}
+use Rattle.plain_worlds.specs.declared.world.Function.{Function}
+use Rattle.wasm_format.specs.declared.fault.ModuleFault.{ModuleFault}
+use Rattle.wasm_format.specs.declared.fault.ModuleFault.TheVariants as modules
+use Rattle.wasm_format.specs.Module.{ModuleValue}
+use Rattle.wasm_format.specs.Grammar.{IsModule}
+use Rattle.wasm_format.proofs.Modules.{one_module}
+use Rattle.wasm_types.specs.Entries.{import_value}
+use Rattle.wasm_types.specs.declared.entries.Import.{Import}
+use Rattle.wit_component.specs.declared.fault.Fault.{Fault}
+use Rattle.wit_core_names.specs.Texts.{Known}
+use Rattle.wit_resolution.specs.Names.{known_of}
+use Rattle.wit_types.specs.declared.world.World.{World}
+use Rattle.component_session.specs.ModuleCause.{refusal_of}
+use Rattle.component_session.specs.Input.{Input, ModuleInput, world_at, worlds_of}
+use Rattle.component_session.specs.Linking.{IsChosen}
+use Rattle.component_session.specs.Cause.{AsksBeyond, ImportsBeyond, IsCause}
+
+-- reading the main module again fails for want of memory alone
+pub memory_alone : (input : Input) (handed : ModuleInput) (fault : ModuleFault) → ForSome input.main (λ m. (core : ModuleValue) × IsModule m.bytes core) → input.main ≡ Some handed
+    → ((m : ModuleValue) → IsModule handed.bytes m → fault ≡ modules.OutOfMemory) → (r : Fault) → r ≡ refusal_of fault → IsCause input r
+memory_alone input handed fault was is only r r-is =
+    let read = was handed is in
+    let same : r ≡ refusal_of modules.OutOfMemory = r-is ∙ ap refusal_of (only read.0 read.1) in
+    rw same tt
+
+-- a plain world fits
+so_fits : {A : Type 0} (p : A → Bool) (o : Option A) (x : A) → if_so p o ≡ Some x → p x ≡ true
+so_fits p None x e = absurd cc
+so_fits p (Some y) x e = by_test (p y) refl e
+  where
+    by_test : (b : Bool) → p y ≡ b → (if b then Some y else None) ≡ Some x → p x ≡ true
+    by_test true is same = let here : y ≡ x = cc in ap p (sym here) ∙ is
+    by_test false is same = absurd cc
+
+pub plain_fits : (w : World) (m : WorldMeaning) → plain_world w ≡ Some m → world_fits m ≡ true
+plain_fits w m e = so_fits world_fits (option_map (with_exports w) (each_of item_of (values w.exports))) m e
+
+-- ---- what stands in the way
+
+pub chosen_is : (input : Input) (w : ℕ) (plain : WorldMeaning) → IsChosen input plain → input.world ≡ Some w → world_at input w ≡ Some plain
+chosen_is input w plain (k, chooses, at) is = ap (world_at input) (same_Some w k (sym is ∙ chooses)) ∙ at
+
+module _ (input : Input) (w : ℕ) (plain : WorldMeaning) (handed : ModuleInput) (core : ModuleValue) where
+  abbrev Beyond : World → WorldMeaning → ModuleValue → Type 0
+  Beyond v p m = Any (IsBeyond (known_of input.resolved.graph.tables) v (names_of p.imports)) m.imports
+
+  pub no_imports : input.world ≡ Some w → world_at input w ≡ Some plain → input.main ≡ Some handed → IsModule handed.bytes core
+      → ((v : World) → slice_get (worlds_of input.resolved) w ≡ Some v → Beyond v plain core → ⊥) → ImportsBeyond input → ⊥
+  no_imports chooses world hands reads none h =
+      let chosen : w ≡ h.chosen = same_Some w h.chosen (sym chooses ∙ h.chooses) in
+      let at : slice_get (worlds_of input.resolved) w ≡ Some h.world = ap (slice_get (worlds_of input.resolved)) chosen ∙ h.world_is in
+      let same : plain ≡ h.plain = same_Some plain h.plain (sym world ∙ (ap (option_and_then plain_world) at ∙ h.plain_is)) in
+      let given : handed ≡ h.handed = same_Some handed h.handed (sym hands ∙ h.hands) in
+      let one : core ≡ h.core = one_module h.handed.bytes core h.core (subst (λ (x : ModuleInput). IsModule x.bytes core) given reads) h.reads in
+      none h.world at (subst (λ (p : WorldMeaning). Beyond h.world p core) (sym same) (subst (λ (m : ModuleValue). Beyond h.world h.plain m) (sym one) h.beyond))
+
+  pub imports_beyond : (v : World) → input.world ≡ Some w → world_at input w ≡ Some plain → input.main ≡ Some handed → IsModule handed.bytes core
+      → slice_get (worlds_of input.resolved) w ≡ Some v → Beyond v plain core → ImportsBeyond input
+  imports_beyond v chooses world hands reads at beyond = record {
+    chosen = w;
+    world = v;
+    plain = plain;
+    handed = handed;
+    core = core;
+    chooses = chooses;
+    world_is = at;
+    plain_is = sym (ap (option_and_then plain_world) at) ∙ world;
+    hands = hands;
+    reads = reads;
+    beyond = beyond;
+  }
+
+  pub nothing_beyond : input.world ≡ Some w → world_at input w ≡ Some plain → (input.options.shim_return_call_ref ≡ false) × (input.options.debug_names ≡ false) → (ImportsBeyond input → ⊥) → AsksBeyond input → ⊥
+  nothing_beyond chooses world options none (AsksBeyond.by_stand_ins on) = let off = options.0 in absurd cc
+  nothing_beyond chooses world options none (AsksBeyond.by_names on) = let off = options.1 in absurd cc
+  nothing_beyond chooses world options none (AsksBeyond.by_world k chosen other) =
+      let same : k ≡ w = same_Some k w (sym chosen ∙ chooses) in
+      let bad : None ≡ Some plain = sym other ∙ (ap (world_at input) same ∙ world) in
+      absurd cc
+  nothing_beyond chooses world options none (AsksBeyond.by_import h) = none h
+
+-- core imports by what was read
+pub beyond_moved : (k k2 : Known) (w w2 : World) (fs fs2 : List Function) (is is2 : List Import) → k ≡ k2 → w ≡ w2 → fs ≡ fs2 → is ≡ is2
+    → Any (IsBeyond k w (names_of (map function_item fs))) (map import_value is) → Any (IsBeyond k2 w2 (names_of (map function_item fs2))) (map import_value is2)
+beyond_moved k k2 w w2 fs fs2 is is2 a b c d h =
+    subst (λ (x : List Import). Any (IsBeyond k2 w2 (names_of (map function_item fs2))) (map import_value x)) d
+    (subst (λ (x : List Function). Any (IsBeyond k2 w2 (names_of (map function_item x))) (map import_value is)) c
+    (subst (λ (x : World). Any (IsBeyond k2 x (names_of (map function_item fs))) (map import_value is)) b
+    (subst (λ (x : Known). Any (IsBeyond x w (names_of (map function_item fs))) (map import_value is)) a h)))

@@ -1,0 +1,68 @@
+-- Where nothing stands in the way of an input, no cause of a refusal holds.
+use Rattle.std.proofs.Common.{◌≡◌, List, ℕ, refl, sym, ap, subst, ◌∙◌, arith, inl, inr}
+use Rattle.std.proofs.lemmas.Option.{same_Some}
+use Rattle.wasm_format.specs.declared.fault.ModuleFault.{ModuleFault}
+use Rattle.wasm_format.specs.declared.fault.ModuleFault.TheVariants as modules
+use Rattle.wasm_format.specs.Module.{ModuleValue}
+use Rattle.wasm_format.specs.Grammar.{IsModule, IsModuleFault}
+use Rattle.wasm_format.proofs.Modules.{one_break, one_module}
+use Rattle.known_definitions.specs.Component.{Fits}
+use Rattle.wit_component.specs.declared.fault.Fault.{Fault}
+use Rattle.wit_component.specs.declared.fault.Fault.TheVariants as faults
+use Rattle.wit_component.specs.Linking.{Linking, main_of}
+use Rattle.wit_component.specs.Component.{component_of}
+use Rattle.wit_component.specs.Cause.{IsLinkCause}
+use Rattle.wit_component.proofs.NoCause.{no_link_cause}
+use Rattle.component_session.specs.Input.{Input, ModuleInput, world_at}
+use Rattle.component_session.specs.ModuleCause.{refusal_of}
+use Rattle.component_session.specs.Linking.{Links}
+use Rattle.component_session.specs.Cause.{IsCause, IsBuildCause}
+use Rattle.component_session.specs.Answered.{IsReady, IsBuilt}
+
+-- ---- an input is linked in one way
+
+pub one_linking : (input : Input) (l m : Linking) → Links input l → Links input m → l ≡ m
+one_linking input l m h k =
+    let chosen = same_Some h.chosen k.chosen (sym h.chooses ∙ k.chooses) in
+    let world = same_Some l.world m.world (sym h.world ∙ ap (world_at input) chosen ∙ k.world) in
+    let handed = same_Some h.handed k.handed (sym h.hands ∙ k.hands) in
+    let core = one_module k.handed.bytes h.core k.core (subst (λ (x : ModuleInput). IsModule x.bytes h.core) handed h.reads) k.reads in
+    let main : l.main ≡ m.main = h.main ∙ ap (λ (x : ModuleInput). main_of x.bytes h.core) handed ∙ ap (main_of k.handed.bytes) core ∙ sym k.main in
+    let rejects : l.rejects_legacy ≡ m.rejects_legacy = h.rejects ∙ sym k.rejects in
+    λ i. record { world = world i; main = main i; rejects_legacy = rejects i }
+
+-- ---- of an input
+
+no_module_cause : (bytes : List ℕ) (core : ModuleValue) → IsModule bytes core → (m : ModuleFault) → IsModuleFault bytes m → m ≡ modules.OutOfMemory
+no_module_cause bytes core h modules.OutOfMemory cause = refl
+no_module_cause bytes core h modules.TooLarge cause = absurd (omega (arith, h.small))
+no_module_cause bytes core h modules.Malformed (small, e, breaks, is) = absurd ((one_break bytes e breaks).0 core h)
+no_module_cause bytes core h modules.Unsupported (small, e, breaks, is) = absurd ((one_break bytes e breaks).0 core h)
+
+no_bad_module : (input : Input) (l : Linking) → Links input l → (m : ModuleFault) → IsCause input (faults.BadModule m) → ⊥
+no_bad_module input l h m (handed, hands, (n, is, cause)) =
+    let same = same_Some h.handed handed (sym h.hands ∙ hands) in
+    let read = subst (λ (x : ModuleInput). IsModule x.bytes h.core) same h.reads in
+    let memory = no_module_cause handed.bytes h.core read n cause in
+    let bad : refusal_of modules.OutOfMemory ≡ faults.BadModule m = ap refusal_of (sym memory) ∙ is in
+    absurd cc
+
+linked_cause : (input : Input) (l : Linking) → IsReady input l → (fault : Fault) → ((m : Linking) × Links input m × IsLinkCause m fault) → fault ≡ faults.OutOfMemory
+linked_cause input l h fault (m, links, cause) =
+    no_link_cause l h.linkable fault (subst (λ (x : Linking). IsLinkCause x fault) (one_linking input m l links h.links_input) cause)
+
+pub no_cause : (input : Input) (l : Linking) → IsReady input l → (fault : Fault) → IsCause input fault → fault ≡ faults.OutOfMemory
+no_cause input l h faults.NoModule cause = let bad = sym h.links_input.hands ∙ cause in absurd cc
+no_cause input l h faults.NoWorld cause = let bad = sym h.links_input.chooses ∙ cause in absurd cc
+no_cause input l h (faults.BadModule m) cause = absurd (no_bad_module input l h.links_input m cause)
+no_cause input l h faults.NotYet (inl beyond) = absurd (h.plain beyond)
+no_cause input l h faults.NotYet (inr cause) = linked_cause input l h faults.NotYet cause
+no_cause input l h faults.OutOfMemory cause = refl
+no_cause input l h fault cause = linked_cause input l h fault (cause.0, cause.1, cause.3)
+
+-- ---- of a component that is built
+
+pub no_build_cause : (input : Input) (bytes : List ℕ) → IsBuilt input bytes → (fault : Fault) → IsBuildCause input fault → fault ≡ faults.OutOfMemory
+no_build_cause input bytes h faults.TooLarge (m, links, plain, linkable, large) =
+    absurd (large (subst (λ (l : Linking). Fits (component_of l)) (one_linking input h.linking m h.ready.links_input links) h.fits))
+no_build_cause input bytes h fault cause = no_cause input h.linking h.ready fault cause

@@ -1,0 +1,5 @@
+use Rattle.component_session.proofs.Right.{written_right}
+use Rattle.component_session.proofs.law.law_written_is_right.Goals as goal
+
+pub returns : goal.returns
+returns c = written_right

@@ -1,0 +1,50 @@
+-- The input of a session: all that was handed in.
+use Rattle.std.specs.Prelude.{ℕ, Bool, true, false, List, [], Option, None, option_and_then, slice_get}
+use Rattle.wit_component.specs.declared.string_encoding.StringEncoding.{StringEncoding}
+use Rattle.plain_worlds.specs.World.{WorldMeaning, plain_world}
+use Rattle.wit_resolution.specs.Pushes.{Resolved, nothing_resolved}
+use Rattle.wit_types.specs.declared.world.World.{World}
+
+-- a handed module
+pub record ModuleInput : Type 0 where
+  pub bytes : List ℕ
+  pub world : ℕ
+  pub encoding : StringEncoding
+
+pub record OptionsInput : Type 0 where
+  pub merge_imports_based_on_semver : Bool
+  pub emit_canonical_names : Bool
+  pub reject_legacy_names : Bool
+  pub shim_return_call_ref : Bool
+  pub debug_names : Bool
+  pub validate : Bool
+  pub import_name_map : List (List ℕ × List ℕ)
+
+pub record Input : Type 0 where
+  -- the packages, with the features that are active and all texts
+  pub resolved : Resolved
+  pub world : Option ℕ
+  pub main : Option ModuleInput
+  pub options : OptionsInput
+
+abbrev pub first_options : OptionsInput
+first_options = record {
+  merge_imports_based_on_semver = true;
+  emit_canonical_names = false;
+  reject_legacy_names = false;
+  shim_return_call_ref = false;
+  debug_names = false;
+  validate = false;
+  import_name_map = [];
+}
+
+abbrev pub empty_input : Input
+empty_input = record { resolved = nothing_resolved; world = None; main = None; options = first_options }
+
+-- the worlds, each with all that it imports in the end
+abbrev pub worlds_of : Resolved → List World
+worlds_of r = r.graph.tables.worlds.elaborated
+
+-- the plain functions of a world, if it is linked so far
+abbrev pub world_at : Input → ℕ → Option WorldMeaning
+world_at input w = option_and_then plain_world (slice_get (worlds_of input.resolved) w)

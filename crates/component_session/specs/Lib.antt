@@ -1,0 +1,11 @@
+pub mod Input
+pub mod Names
+pub mod Coming
+pub mod Kept
+pub mod Handed
+pub mod ModuleCause
+pub mod Linking
+pub mod Cause
+pub mod Right
+pub mod Answered
+pub mod Judged

@@ -1,0 +1,513 @@
+//! A session: texts, a chosen world, modules and options.
+
+ghost use Rattle.std.specs.Prelude.{◌≡◌, ℕ, ◌<◌, ◌⊎◌, ◌∷◌, [], true, false, length, Some, None, Err, IfOk, OnOk, OnErr, IfErr, MatchResult, Any, map, slice_get, option_map};
+ghost use Rattle.component_session.specs.Answered.{IsLinkTable, IsBuilt};
+ghost use Rattle.component_session.specs.Cause.{AsksBeyond, IsCause, IsBuildCause};
+ghost use Rattle.component_session.specs.Coming.{ComeOfTexts, files_of_groups};
+ghost use Rattle.component_session.specs.Judged.{IsJudged, IsAuditCause};
+ghost use Rattle.component_session.specs.Linking.{IsChosen, Links};
+ghost use Rattle.component_session.specs.ModuleCause.{refusal_of, IsModuleCause};
+ghost use Rattle.component_session.specs.Names.{pairs_of};
+ghost use Rattle.plain_imports.specs.Imports.{IsBeyond, names_of};
+ghost use Rattle.plain_worlds.specs.World.{WorldMeaning, world_meaning, world_fits, function_item};
+ghost use Rattle.wasm_format.specs.Grammar.{IsModule};
+ghost use Rattle.wasm_format.specs.Module.{ModuleValue, module_value};
+ghost use Rattle.wasm_types.specs.Entries.{import_value};
+ghost use Rattle.wit_component.specs.Links.{link_value};
+ghost use Rattle.wit_component.specs.View as view;
+ghost use Rattle.wit_features.specs.Features.{with_name};
+ghost use Rattle.wit_package.specs.GroupView.{texts};
+ghost use Rattle.wit_resolution.specs.Errors.{of_selection};
+ghost use Rattle.wit_resolution.specs.Names.{known_of};
+ghost use Rattle.wit_resolution.specs.Pushes.{AreTextsPushed, AreTextsError, AreTextsRefused};
+ghost use Rattle.wit_order.specs.Order.{Has};
+ghost use Rattle.wit_package.specs.declared.group.UnresolvedPackageGroup.{UnresolvedPackageGroup};
+ghost use Rattle.wit_resolution.specs.Texts.{files_of, IsGroupOf};
+ghost use Rattle.wit_types.specs.declared.world.World.{World as WitWorld};
+ghost use Rattle.wit_selection.specs.Selection.{IsSelected, IsSelectCause};
+ghost use Rattle.wit_selection.specs.declared.selection.SelectFault.{SelectFault};
+
+use crate::options::Options;
+use binary_grammar::ReadError;
+use component_audit::{Verdict, judge};
+use component_sections::read_definitions;
+use plain_imports::imports_fit;
+use plain_worlds::{World, plain_world};
+use std::alloc::{AllocError, Global};
+use std::collections::HashMap;
+use std::marker::Model;
+use wasm_format::{CoreModule, ModuleFault, read_module};
+use wit_component::{Fault, Link, Linking, StringEncoding, encode, links_of};
+use wit_package::UnresolvedPackageGroup;
+use wit_resolution::{Resolve, ResolveError};
+use wit_types::{PackageId, PackageName, WorldId};
+use wit_well_formed::law_parsed_packages_are_well_formed;
+
+/// A module that was handed in.
+#[derive(Clone, Copy)]
+pub struct HandedModule<'a> {
+    pub bytes: &'a [u8],
+    pub world: WorldId,
+    pub encoding: StringEncoding,
+}
+
+/// Texts, a chosen world, modules and options, from which a component is built, and against which one is
+/// judged. Contracts see it as its input.
+#[derive(Drop)]
+pub struct Session<'a> {
+    alloc: Global,
+    resolve: Resolve,
+    world: Option<WorldId>,
+    main: Option<HandedModule<'a>>,
+    options: Options,
+}
+
+impl<'a> Model for Session<'a> {
+    ghost use Rattle.std.specs.Coded.{codes};
+    ghost use Rattle.std.specs.Prelude.{option_map};
+    ghost use Rattle.component_session.specs.Handed.{module_input};
+    ghost use Rattle.component_session.specs.Input.{Input};
+    ghost use Rattle.component_session.specs.Kept.{WellKept};
+    ghost use Rattle.wit_resolution.specs.contracts.resolve.Resolve as all;
+
+    ghost Value = { Input };
+
+    ghost coded = { Prim.hlevel (codes, all.the_row.coded) };
+
+    ghost view = { λ s. record {
+      resolved = s.resolve;
+      world = s.world;
+      main = option_map module_input s.main;
+      options = s.options;
+    } };
+
+    ghost invariant = { λ s. WellKept ⟦<PackageName as PartialEq>⟧.eq s.resolve s.world (option_map module_input s.main) };
+}
+
+impl<'a> Session<'a> {
+    ghost use Rattle.std.specs.Option.{option_copied};
+    ghost use Rattle.component_session.specs.Handed.{module_input};
+    ghost use Rattle.component_session.specs.Input.{empty_input, world_at, worlds_of};
+
+    /// A session without texts, world and modules, with the options of `Options::new`.
+    pub fn new(alloc: Global) -> Session<'a>
+        ensures { result ≡ empty_input }
+    {
+        Session {
+            alloc,
+            resolve: Resolve::new(alloc),
+            world: None,
+            main: None,
+            options: Options::new(alloc),
+        }
+    }
+
+    /// The packages that were pushed, with the features that are active and all texts.
+    pub fn resolve(&self) -> &Resolve
+        ensures { result.now ≡ self.now.resolved }
+    {
+        &self.resolve
+    }
+
+    /// What holds of each session: its packages are those of the texts that were pushed, each with the features that were active then.
+    pub fn law_packages_come_of_texts(&self)
+        ensures { ComeOfTexts ⟦<PackageName as PartialEq>⟧.eq self.now.resolved }
+    {
+        let _ = &self.resolve;
+    }
+
+    /// The chosen world.
+    pub fn world(&self) -> Option<WorldId>
+        ensures { result ≡ self.now.world }
+    {
+        self.world
+    }
+
+    /// The main module.
+    pub fn main(&self) -> Option<&HandedModule<'a>>
+        ensures { option_map module_input (option_copied result) ≡ self.now.main }
+    {
+        self.main.as_ref()
+    }
+
+    /// The options.
+    pub fn options(&self) -> &Options
+        ensures { result.now ≡ self.now.options }
+    {
+        &self.options
+    }
+
+    /// Makes a feature active for what is pushed from now on. Where memory is wanting nothing changes.
+    pub fn add_feature(&mut self, name: &str) -> Result<(), AllocError>
+        ensures ok { OnOk result (self.new ≡ record self.old { resolved = record self.old.resolved { features = record self.old.resolved.features { names = with_name self.old.resolved.features.names name.now } } }) }
+        ensures err { OnErr result (self.new ≡ self.old) }
+    {
+        self.resolve.add_feature(name)
+    }
+
+    /// Makes all features active for what is pushed from now on, or those alone that were named.
+    pub fn all_features(&mut self, all: bool)
+        ensures { self.new ≡ record self.old { resolved = record self.old.resolved { features = record self.old.resolved.features { all = all } } } }
+    {
+        self.resolve.all_features(all);
+    }
+
+    /// Adds the packages of texts: of the texts that are the files of a package, and of each of the others, with those that are nested in
+    /// them, each behind all on which it depends. Answers the id of the first. Refuses a text that isn't read (S1 to S8), files that break
+    /// a rule (P1 to P11), and packages that don't come together (G1 to G7, G10), each with its place. A refused call leaves the packages
+    /// as they were; texts may be there (WIT, Packages).
+    pub fn push_texts(
+        &mut self,
+        main: &[(&str, &str)],
+        deps: &[(&str, &str)],
+    ) -> Result<PackageId, ResolveError>
+        ensures ok { IfOk result (AreTextsPushed ⟦<PackageName as PartialEq>⟧.eq self.old.resolved (files_of (texts main.now) (texts deps.now)) self.new.resolved) }
+        ensures cause { IfErr result (AreTextsError ⟦<PackageName as PartialEq>⟧.eq self.old.resolved (files_of (texts main.now) (texts deps.now))) }
+        ensures err { OnErr result (AreTextsRefused ⟦<PackageName as PartialEq>⟧.eq self.old.resolved (files_of (texts main.now) (texts deps.now)) self.new.resolved) }
+        ensures rest { self.new ≡ record self.old { resolved = self.new.resolved } }
+    {
+        self.resolve.push_texts(main, deps)
+    }
+
+    /// Adds the packages of a text, as `push_texts` of this text alone.
+    pub fn push_source(&mut self, path: &str, contents: &str) -> Result<PackageId, ResolveError>
+        ensures ok { IfOk result (AreTextsPushed ⟦<PackageName as PartialEq>⟧.eq self.old.resolved (files_of (record { path = path.now; contents = contents.now } ∷ []) []) self.new.resolved) }
+        ensures cause { IfErr result (AreTextsError ⟦<PackageName as PartialEq>⟧.eq self.old.resolved (files_of (record { path = path.now; contents = contents.now } ∷ []) [])) }
+        ensures err { OnErr result (AreTextsRefused ⟦<PackageName as PartialEq>⟧.eq self.old.resolved (files_of (record { path = path.now; contents = contents.now } ∷ []) []) self.new.resolved) }
+        ensures rest { self.new ≡ record self.old { resolved = self.new.resolved } }
+    {
+        self.push_texts([(path, contents)].as_slice(), [].as_slice())
+    }
+
+    /// Adds the packages of groups, each of which was read from its texts, as `push_texts` does of texts.
+    pub fn push_groups(
+        &mut self,
+        main: UnresolvedPackageGroup,
+        deps: Vec<UnresolvedPackageGroup>,
+    ) -> Result<PackageId, ResolveError>
+        requires main { IsGroupOf main.source_map main }
+        requires deps { (g : UnresolvedPackageGroup) → Has deps.items g → IsGroupOf g.source_map g }
+        ensures ok { IfOk result (AreTextsPushed ⟦<PackageName as PartialEq>⟧.eq self.old.resolved (files_of_groups (main ∷ deps.items)) self.new.resolved) }
+        ensures cause { IfErr result (AreTextsError ⟦<PackageName as PartialEq>⟧.eq self.old.resolved (files_of_groups (main ∷ deps.items))) }
+        ensures err { OnErr result (AreTextsRefused ⟦<PackageName as PartialEq>⟧.eq self.old.resolved (files_of_groups (main ∷ deps.items)) self.new.resolved) }
+        ensures rest { self.new ≡ record self.old { resolved = self.new.resolved } }
+    {
+        law_parsed_packages_are_well_formed();
+        self.resolve.push_groups(main, deps)
+    }
+
+    /// Adds the packages of a group that was read from its texts, as `push_groups` does without others.
+    pub fn push_group(&mut self, group: UnresolvedPackageGroup) -> Result<PackageId, ResolveError>
+        requires { IsGroupOf group.source_map group }
+        ensures ok { IfOk result (AreTextsPushed ⟦<PackageName as PartialEq>⟧.eq self.old.resolved (group.source_map ∷ []) self.new.resolved) }
+        ensures cause { IfErr result (AreTextsError ⟦<PackageName as PartialEq>⟧.eq self.old.resolved (group.source_map ∷ [])) }
+        ensures err { OnErr result (AreTextsRefused ⟦<PackageName as PartialEq>⟧.eq self.old.resolved (group.source_map ∷ []) self.new.resolved) }
+        ensures rest { self.new ≡ record self.old { resolved = self.new.resolved } }
+    {
+        self.push_groups(group, Vec::new(self.alloc))
+    }
+
+    /// Chooses the world of the component, and answers it: the one that a name chooses, where there are such main packages. A plain name is
+    /// one of the only main package; a path is of the package that it names, one without a version also of the only version of it that
+    /// there is. Without a name it is the only world of the only main package. G8 where that is no single world (WIT, Package Names).
+    pub fn select_world(
+        &mut self,
+        main: &[PackageId],
+        name: Option<&str>,
+    ) -> Result<WorldId, ResolveError>
+        ensures ok { IfOk result (λ id. self.new ≡ record self.old { world = Some id }) }
+        ensures selected { IfOk result (IsSelected self.old.resolved.graph.tables.packages main.now (option_map (λ t. t.now) name.entry)) }
+        ensures there { IfOk result (λ id. id < length (worlds_of self.old.resolved)) }
+        ensures cause { IfErr result (λ e. (fault : SelectFault) × IsSelectCause self.old.resolved.graph.tables.packages main.now (option_map (λ t. t.now) name.entry) fault × (e ≡ of_selection fault)) }
+        ensures err { OnErr result (self.new ≡ self.old) }
+    {
+        let world = self.world_named(main, name)?;
+        self.world = Some(world);
+        Ok(world)
+    }
+
+    /// The world that a name chooses, as `select_world` does; the choice stays.
+    pub fn world_named(
+        &self,
+        main: &[PackageId],
+        name: Option<&str>,
+    ) -> Result<WorldId, ResolveError>
+        ensures selected { IfOk result (IsSelected self.now.resolved.graph.tables.packages main.now (option_map (λ t. t.now) name.entry)) }
+        ensures there { IfOk result (λ id. id < length (worlds_of self.now.resolved)) }
+        ensures cause { IfErr result (λ e. (fault : SelectFault) × IsSelectCause self.now.resolved.graph.tables.packages main.now (option_map (λ t. t.now) name.entry) fault × (e ≡ of_selection fault)) }
+    {
+        self.resolve.graph().law_is_graph();
+        self.resolve.select_world(main, name)
+    }
+
+    /// Hands in the main module, with the world whose exports it supplies and the encoding of its strings; one
+    /// handed in before is replaced.
+    ///
+    /// Answers B6 where the module reader refuses the bytes, and X1 where they have a part that is still to come.
+    pub fn module(
+        &mut self,
+        bytes: &'a [u8],
+        world: WorldId,
+        encoding: StringEncoding,
+    ) -> Result<(), Fault>
+        requires { world < length (worlds_of self.old.resolved) }
+        ensures ok { OnOk result (self.new ≡ record self.old { main = Some (record { bytes = bytes.entry.now; world = world; encoding = encoding }) }) }
+        ensures read { OnOk result ((m : ModuleValue) × IsModule bytes.entry.now m) }
+        ensures only { (m : ModuleValue) → IsModule bytes.entry.now m → MatchResult result (λ _. Unit {0}) (λ e. e ≡ Fault.OutOfMemory) }
+        ensures cause { IfErr result (IsModuleCause bytes.entry.now) }
+        ensures err { OnErr result (self.new ≡ self.old) }
+    {
+        if let Err(fault) = read_module(self.alloc, bytes) {
+            return Err(module_refusal(fault));
+        }
+        self.main = Some(HandedModule {
+            bytes,
+            world,
+            encoding,
+        });
+        Ok(())
+    }
+
+    /// Hands in an adapter: still to come.
+    pub fn adapter(
+        &mut self,
+        _name: &str,
+        _bytes: &'a [u8],
+        _world: WorldId,
+        _encoding: StringEncoding,
+    ) -> Result<(), Fault>
+        ensures refused { result ≡ Err Fault.NotYet }
+        ensures same { self.new ≡ self.old }
+    {
+        Err(Fault::NotYet)
+    }
+
+    /// Hands in a library: still to come.
+    pub fn library(
+        &mut self,
+        _name: &str,
+        _bytes: &'a [u8],
+        _world: WorldId,
+        _encoding: StringEncoding,
+    ) -> Result<(), Fault>
+        ensures refused { result ≡ Err Fault.NotYet }
+        ensures same { self.new ≡ self.old }
+    {
+        Err(Fault::NotYet)
+    }
+
+    /// The plain functions of the chosen world, or why nothing can be linked.
+    #[tactic(auto, using(crate::proofs::Linked::plain_fits))]
+    fn chosen_world(&self) -> Result<World, Fault>
+        ensures found { IfOk result (λ w. IsChosen self.now (world_meaning w)) }
+        ensures fits { IfOk result (λ w. world_fits (world_meaning w) ≡ true) }
+        ensures options { IfOk result (λ _. (self.now.options.shim_return_call_ref ≡ false) × (self.now.options.debug_names ≡ false)) }
+        ensures cause { IfErr result (IsCause self.now) }
+        ensures first { self.now.main ≡ None → result ≡ Err Fault.NoModule }
+    {
+        if self.main.is_none() {
+            return Err(Fault::NoModule);
+        }
+        if self.options.shim_return_call_ref || self.options.debug_names {
+            return Err(Fault::NotYet);
+        }
+        let Some(world) = self.world() else {
+            return Err(Fault::NoWorld);
+        };
+        match plain_world(self.alloc, self.resolve().worlds().get(world))? {
+            Some(world) => Ok(world),
+            None => Err(Fault::NotYet),
+        }
+    }
+
+    /// Whether each core import of a module stands for one of the plain functions of the chosen world, or for nothing.
+    fn imports_fit(
+        &self,
+        world: WorldId,
+        plain: &World,
+        core: &CoreModule,
+    ) -> Result<bool, AllocError>
+        requires { world < length (worlds_of self.now.resolved) }
+        ensures yes { IfOk result (λ b. b ≡ true → (w : WitWorld) → slice_get (worlds_of self.now.resolved) world ≡ Some w → Any (IsBeyond (known_of self.now.resolved.graph.tables) w (names_of (world_meaning plain.now).imports)) (module_value core.now).imports → ⊥) }
+        ensures no { IfOk result (λ b. b ≡ false → (w : WitWorld) × (slice_get (worlds_of self.now.resolved) world ≡ Some w) × Any (IsBeyond (known_of self.now.resolved.graph.tables) w (names_of (world_meaning plain.now).imports)) (module_value core.now).imports) }
+    {
+        let world = self.resolve.worlds().get(world);
+        imports_fit(
+            self.alloc,
+            &self.resolve.tables(),
+            world,
+            &plain.imports,
+            &core.imports,
+        )
+    }
+
+    /// What is linked, where the chosen world has these plain functions and the options ask for nothing else, or why nothing can be.
+    fn linking<'s>(&'s self, plain: &'s World) -> Result<Linking<'s, 'a>, Fault>
+        requires chosen { IsChosen self.now (world_meaning plain.now) }
+        requires fits { world_fits (world_meaning plain.now) ≡ true }
+        requires options { (self.now.options.shim_return_call_ref ≡ false) × (self.now.options.debug_names ≡ false) }
+        ensures found { IfOk result (λ l. Links self.now (view.linking l)) }
+        ensures fits { IfOk result (λ l. world_fits (view.linking l).world ≡ true) }
+        ensures plain { IfOk result (λ l. AsksBeyond self.now → ⊥) }
+        ensures cause { IfErr result (IsCause self.now) }
+    {
+        let Some(main) = &self.main else {
+            return Err(Fault::NoModule);
+        };
+        let Some(world) = self.world() else {
+            return Err(Fault::NoWorld);
+        };
+        let core = match read_module(self.alloc, main.bytes) {
+            Ok(core) => core,
+            Err(fault) => return Err(module_refusal(fault)),
+        };
+        if !self.imports_fit(world, plain, &core)? {
+            return Err(Fault::NotYet);
+        }
+        Ok(Linking {
+            world: plain,
+            bytes: main.bytes,
+            main: core,
+            rejects_legacy: self.options.reject_legacy_names,
+        })
+    }
+
+    /// The link table: what each core import of the main module and each exported function of the world ends at,
+    /// imports first, by module text and then by name.
+    ///
+    /// Answers B1 before any other cause, X1, B2, and B7 to B12.
+    pub fn links(&self) -> Result<Vec<Link>, Fault>
+        ensures links { IfOk result (λ v. IsLinkTable self.now (map link_value v.items)) }
+        ensures cause { IfErr result (IsCause self.now) }
+        ensures first { self.now.main ≡ None → result ≡ Err Fault.NoModule }
+    {
+        let world = self.chosen_world()?;
+        links_of(self.alloc, &self.linking(&world)?)
+    }
+
+    /// The bytes of the component that joins the main module with the chosen world.
+    ///
+    /// Answers B1 before any other cause, X1, B2, B7 to B12, and B25 where none of the others holds.
+    #[tactic(auto, using(crate::proofs::Causes::encode_cause_is, crate::proofs::Causes::build_cause_is))]
+    pub fn build(&self) -> Result<Vec<u8>, Fault>
+        ensures right { IfOk result (λ v. IsBuilt self.now v.items) }
+        ensures cause { IfErr result (IsBuildCause self.now) }
+        ensures first { self.now.main ≡ None → result ≡ Err Fault.NoModule }
+    {
+        let world = self.chosen_world()?;
+        let linking = self.linking(&world)?;
+        let bytes = encode(self.alloc, &linking)?;
+        if self.options.validate {
+            self.validated(&bytes)?;
+        }
+        Ok(bytes)
+    }
+
+    /// Reads bytes that were written; what is read changes no answer.
+    fn validated(&self, bytes: &[u8]) -> Result<(), Fault>
+        ensures { IfErr result (λ e. e ≡ Fault.OutOfMemory) }
+    {
+        match read_definitions(self.alloc, bytes) {
+            Err(ReadError::Memory) => Err(Fault::OutOfMemory),
+            Ok(_) | Err(_) => Ok(()),
+        }
+    }
+
+    /// Judges bytes against the input.
+    pub(crate) fn audit(&self, bytes: &[u8]) -> Result<Verdict, Fault>
+        ensures verdict { IfOk result (IsJudged self.now bytes.now) }
+        ensures cause { IfErr result (IsAuditCause self.now bytes.now) }
+        ensures first { self.now.main ≡ None → result ≡ Err Fault.NoModule }
+    {
+        let world = self.chosen_world()?;
+        judge(self.alloc, &self.linking(&world)?, bytes)
+    }
+
+    /// Whether imported interfaces of one version track are merged; at first they are.
+    pub fn merge_imports_based_on_semver(&mut self, on: bool) -> &mut Session<'a>
+        ensures same_reference { result.ghost_name ≡ self.entry.ghost_name }
+        ensures value { result.now ≡ record self.old { options = record self.old.options { merge_imports_based_on_semver = on } } }
+    {
+        self.options.merge_imports_based_on_semver = on;
+        self
+    }
+
+    /// Whether imports and exports are named by version track; at first they aren't.
+    pub fn emit_canonical_names(&mut self, on: bool) -> &mut Session<'a>
+        ensures same_reference { result.ghost_name ≡ self.entry.ghost_name }
+        ensures value { result.now ≡ record self.old { options = record self.old.options { emit_canonical_names = on } } }
+    {
+        self.options.emit_canonical_names = on;
+        self
+    }
+
+    /// Whether core names of the legacy mangling stand for nothing; at first they stand for their items.
+    pub fn reject_legacy_names(&mut self, on: bool) -> &mut Session<'a>
+        ensures same_reference { result.ghost_name ≡ self.entry.ghost_name }
+        ensures value { result.now ≡ record self.old { options = record self.old.options { reject_legacy_names = on } } }
+    {
+        self.options.reject_legacy_names = on;
+        self
+    }
+
+    /// Whether stand-ins call through references; at first they don't.
+    pub fn shim_return_call_ref(&mut self, on: bool) -> &mut Session<'a>
+        ensures same_reference { result.ghost_name ≡ self.entry.ghost_name }
+        ensures value { result.now ≡ record self.old { options = record self.old.options { shim_return_call_ref = on } } }
+    {
+        self.options.shim_return_call_ref = on;
+        self
+    }
+
+    /// Whether generated modules carry names; at first they don't.
+    pub fn debug_names(&mut self, on: bool) -> &mut Session<'a>
+        ensures same_reference { result.ghost_name ≡ self.entry.ghost_name }
+        ensures value { result.now ≡ record self.old { options = record self.old.options { debug_names = on } } }
+    {
+        self.options.debug_names = on;
+        self
+    }
+
+    /// Whether the component reader looks at the bytes before they are answered; at first it doesn't.
+    pub fn validate(&mut self, on: bool) -> &mut Session<'a>
+        ensures same_reference { result.ghost_name ≡ self.entry.ghost_name }
+        ensures value { result.now ≡ record self.old { options = record self.old.options { validate = on } } }
+    {
+        self.options.validate = on;
+        self
+    }
+
+    /// New names of imported instances, by their keys; at first there are none.
+    pub fn import_name_map(&mut self, names: HashMap<String, String>) -> &mut Session<'a>
+        ensures same_reference { result.ghost_name ≡ self.entry.ghost_name }
+        ensures value { result.now ≡ record self.old { options = record self.old.options { import_name_map = pairs_of names.entries } } }
+    {
+        self.options.import_name_map = names;
+        self
+    }
+}
+
+/// What a module reader's refusal becomes.
+fn module_refusal(fault: ModuleFault) -> Fault
+    ensures { result ≡ refusal_of fault }
+{
+    match fault {
+        ModuleFault::OutOfMemory => Fault::OutOfMemory,
+        other => Fault::BadModule(other),
+    }
+}
+
+/// Judges any bytes against a session's input, whatever order, numbering or spare definitions they use.
+///
+/// Answers yes exactly where they are right for the input, and else a finding: a condition that fails of them, and
+/// where, counted in bytes from the start, or their length where something is absent.
+///
+/// Answers X1 where the bytes have a definition that isn't judged yet, or a core module that wasn't handed in, and refuses as
+/// `Session::links` does.
+pub fn audit(session: &Session, bytes: &[u8]) -> Result<Verdict, Fault>
+    ensures verdict { IfOk result (IsJudged session.now bytes.now) }
+    ensures cause { IfErr result (IsAuditCause session.now bytes.now) }
+    ensures first { session.now.main ≡ None → result ≡ Err Fault.NoModule }
+{
+    session.audit(bytes)
+}
