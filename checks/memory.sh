@@ -96,3 +96,12 @@ for action in links build audit; do
     check_program "$folder/$action" "$action" --world w "text=$example/a.wit" "main==$example/m.wasm" \
         ${component:+"$component"}
 done
+
+# A world over two packages, with a feature.
+two=$top/examples/two_packages
+for name in show tint toggle; do
+    printf 'import main $root %s lower $root %s - - - - -\n' "$name" "$name"
+done >"$folder/two"
+printf 'export main $root tick core main tick - - - - -\n' >>"$folder/two"
+check_program "$folder/two" links --world lamp --features colours "text=$two/lamp.wit" "dep=$two/house.wit" \
+    "main==$two/lamp.wasm"

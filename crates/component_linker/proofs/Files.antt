@@ -12,21 +12,21 @@ use Rattle.std.proofs.lemmas.List.{get_or_default, take-append-le, take-append-d
 use Rattle.std.proofs.lemmas.Grind.{flat_map-append}
 use Rattle.std.specs.Result.{is_err}
 use Rattle.std.proofs.lemmas.Str.{IsUtf8-from_is_utf8, is_utf8-from_IsUtf8}
-use Rattle.component_linker.specs.declared.line.Input.{Input}
-use Rattle.component_linker.specs.declared.line.Input.TheVariants as inputs
-use Rattle.wit_component.specs.declared.fault.Fault.{Fault}
-use Rattle.component_linker.specs.declared.line.Line.{Line}
+use Rattle.command_line.specs.declared.line.Input.{Input}
+use Rattle.command_line.specs.declared.line.Input.TheVariants as inputs
 use Rattle.component_builder.specs.declared.output.EmitFault.{EmitFault}
 use Rattle.component_linker.specs.declared.program.Stop.{Stop}
 use Rattle.component_linker.specs.declared.program.Stop.TheVariants as stops
-use Rattle.component_linker.specs.Program.{file_at, missing_path, textless_path, input_fault, file_fault}
-use Rattle.component_linker.specs.Stops.{AppendsFront, HasCause, IsInputStop, IsFileStop, IsHandCause, IsHandStop, IsPrepareStop, IsComponentStop}
-use Rattle.component_linker.specs.Line.{is_component}
+use Rattle.component_linker.specs.Program.{Files, file_at, missing_path, textless_path, input_fault, file_fault}
+use Rattle.component_linker.specs.Stops.{AppendsFront, IsInputStop, IsFileStop, IsHandStop, IsTextsStop, IsComponentStop}
+use Rattle.wit_resolution.specs.Pushes.{Resolved}
+use Rattle.wit_resolution.specs.declared.error.ResolveErrorKind.{ResolveErrorKind}
+use Rattle.command_line.specs.Line.{is_component}
 use Rattle.wit_component.proofs.PlacesLists.{filter_no}
 
 -- ---- the file at a path
 
-module _ (files : List (Bor (List ℕ) × Bor (List ℕ))) (path : List ℕ) (k : ℕ) (d : Bor (List ℕ) × Bor (List ℕ)) (within : k < length files) where
+module _ (files : Files) (path : List ℕ) (k : ℕ) (d : Bor (List ℕ) × Bor (List ℕ)) (within : k < length files) where
   first_left : file_at (drop k files) path ≡ file_at (get_or files k d ∷ drop (suc k) files) path
   first_left = ap (λ fs. file_at fs path) (drop-cons files k d within)
 
@@ -56,7 +56,7 @@ or_none : (a b : Option (List ℕ)) → option_or a b ≡ None → b ≡ None
 or_none None b h = h
 or_none (Some x) b h = cc
 
-module _ (files : List (Bor (List ℕ) × Bor (List ℕ))) where
+module _ (files : Files) where
   item_left : (is : List Input) (k : ℕ) (x : Input) → k < length is → x ≡ get_or is k x → drop k is ≡ x ∷ drop (suc k) is
   item_left is k x lt at = drop-cons is k x lt ∙ ap (λ y. y ∷ drop (suc k) is) (sym at)
 
@@ -68,6 +68,7 @@ module _ (files : List (Bor (List ℕ) × Bor (List ℕ))) where
   pub fault_here : (is : List Input) (k : ℕ) (x : Input) (s : Stop) → k < length is → x ≡ get_or is k x → file_fault files is ≡ file_fault files (drop k is)
       → IsFileStop (λ p. input_fault files x ≡ Some p) s → IsFileStop (λ p. file_fault files is ≡ Some p) s
   fault_here is k x (stops.Refused fault) lt at left why = why
+  fault_here is k x (stops.Unresolved error text) lt at left why = why
   fault_here is k x (stops.File path) lt at left why = left ∙ ap (file_fault files) (item_left is k x lt at) ∙ ap (λ o. option_or o (file_fault files (drop (suc k) is))) why
   fault_here is k x stops.Usage lt at left why = why
 
@@ -76,29 +77,36 @@ module _ (files : List (Bor (List ℕ) × Bor (List ℕ))) where
   faulty (i ∷ is) zero d p lt some none = let bad : Some p ≡ None = sym (rw some refl) ∙ none in cc
   faulty (i ∷ is) (suc k) d p lt some none = faulty is k d p (omega arith) some (or_none (input_fault files i) (file_fault files is) none)
 
-  pub hand_at : (Cause : List Input → Fault → Input → Type 0) (is : List Input) (k : ℕ) (x : Input) (s : Stop) → k < length is → x ≡ get_or is k x → IsInputStop files (Cause (take k is)) x s → IsHandStop files Cause is s
-  hand_at Cause is k x (stops.Refused fault) lt at why = (k, lt, λ e. subst (Cause (take k is) fault) (at ∙ get_or_default is k x e lt) why)
-  hand_at Cause is k x (stops.File path) lt at why = faulty is k x path.now lt (ap (input_fault files) (sym at) ∙ why)
-  hand_at Cause is k x stops.Usage lt at why = why
+  pub hand_at : (r : Resolved) (main : ℕ) (chosen : List ℕ) (is : List Input) (k : ℕ) (x : Input) (s : Stop) → k < length is → x ≡ get_or is k x
+      → IsInputStop files r main chosen x s → IsHandStop files r main chosen is s
+  hand_at r main chosen is k x (stops.Refused fault) lt at (inl memory) = inl memory
+  hand_at r main chosen is k x (stops.Refused fault) lt at (inr why) = inr (k, x, lt, sym at, why)
+  hand_at r main chosen is k x (stops.Unresolved error text) lt at why = (k, x, lt, sym at, why)
+  hand_at r main chosen is k x (stops.File path) lt at why = faulty is k x path.now lt (ap (input_fault files) (sym at) ∙ why)
+  hand_at r main chosen is k x stops.Usage lt at why = why
+
+  -- the text of an input isn't there
+  pub text_missing : (IsWanted : ResolveErrorKind → Type 0) (is : List Input) (k : ℕ) (x : Input) (path : List ℕ) (s : Stop) → k < length is → x ≡ get_or is k x → input_fault files x ≡ textless_path path (file_at files path)
+      → IsFileStop (λ p. textless_path path (file_at files path) ≡ Some p) s → IsTextsStop files IsWanted is s
+  text_missing IsWanted is k x path (stops.Refused fault) lt at of why = absurd why
+  text_missing IsWanted is k x path (stops.Unresolved error text) lt at of why = absurd why
+  text_missing IsWanted is k x path (stops.File p) lt at of why = faulty is k x p.now lt (ap (input_fault files) (sym at) ∙ of ∙ why)
+  text_missing IsWanted is k x path stops.Usage lt at of why = why
 
   pub no_component_file : {T : Type 0} (is : List Input) (k : ℕ) (x : Input) (path : String Global) (p : List ℕ) (r : Result T Stop) → k < length is → x ≡ get_or is k x → x ≡ inputs.Component path
       → p ≡ string_bytes path → IfErr r (IsFileStop (λ q. missing_path p (file_at files p) ≡ Some q)) → IfErr r (IsComponentStop files is)
   no_component_file is k x path p (Ok b) lt at this same why = why
   no_component_file is k x path p (Err (stops.Refused fault)) lt at this same why = why
+  no_component_file is k x path p (Err (stops.Unresolved error text)) lt at this same why = why
   no_component_file is k x path p (Err (stops.File q)) lt at this same why =
       faulty is k x q.now lt (ap (input_fault files) (sym at ∙ this) ∙ ap (λ b. missing_path b (file_at files b)) (sym same) ∙ why)
   no_component_file is k x path p (Err stops.Usage) lt at this same why = absurd why
-
-  pub prepared : (Cause : List Input → Fault → Input → Type 0) (l : Line) (s : Stop) → file_fault files l.inputs.items ≡ None → ((fault : Fault) → HasCause Cause l.inputs.items fault → IsHandCause files l fault)
-      → IsHandStop files Cause l.inputs.items s → IsPrepareStop files l s
-  prepared Cause l (stops.Refused fault) none causes why = causes fault why
-  prepared Cause l (stops.File path) none causes why = absurd (why none)
-  prepared Cause l stops.Usage none causes why = why
 
 -- ---- components
 
 pub not_component : (x : Input) → ((path : String Global) → x ≡ inputs.Component path → ⊥) → is_component x ≡ false
 not_component (inputs.Text path) other = refl
+not_component (inputs.Dep path) other = refl
 not_component (inputs.Main world path) other = refl
 not_component (inputs.Component path) other = absurd (other path refl)
 

@@ -1,11 +1,6 @@
-pub mod Simple
-pub mod Choice
-pub mod Linked
-pub mod Right
-pub mod NoCause
-pub mod Causes
-pub mod Exact
-pub mod LineWords
 pub mod Files
+pub mod Texts
+pub mod Opened
 pub mod Handing
 pub mod Answering
+pub mod Performing

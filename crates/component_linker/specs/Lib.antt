@@ -1,15 +1,2 @@
-pub mod Input
-pub mod Names
-pub mod Choice
-pub mod Kept
-pub mod Handed
-pub mod Pushed
-pub mod ModuleCause
-pub mod Linking
-pub mod Cause
-pub mod Right
-pub mod Answered
-pub mod Judged
-pub mod Line
 pub mod Program
 pub mod Stops

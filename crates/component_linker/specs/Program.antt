@@ -1,30 +1,36 @@
 -- What the program writes.
-use Rattle.std.specs.Prelude.{◌≡◌, ℕ, ◌<◌, List, [], ◌∷◌, ◌++◌, Option, Some, None, if◌then◌else◌, length, map, fold, bytes_eq, string_bytes}
-use Rattle.std.specs.List.{AllByRecursion as Each, AllZip, HoldsAt, flat_map, range_with_len}
+use Rattle.std.specs.Prelude.{◌≡◌, ℕ, ◌<◌, Bool, not, List, [], ◌∷◌, ◌++◌, Option, Some, None, if◌then◌else◌, length, map, fold, bytes_eq, string_bytes}
+use Rattle.std.specs.List.{HoldsAt, flat_map}
 use Rattle.std.specs.Option.{option_or}
 use Rattle.std.specs.Str.{is_utf8}
 use Rattle.std.specs.Borrow.{Bor}
 use Rattle.std.specs.Io.KnownBytes.{Appends}
-use Rattle.component_linker.specs.declared.line.Action.{Action}
-use Rattle.component_linker.specs.declared.line.Action.TheVariants.{Build, Links, Audit}
-use Rattle.component_linker.specs.declared.line.Line.{Line}
-use Rattle.component_linker.specs.declared.line.LineFault.{LineFault}
-use Rattle.component_linker.specs.declared.line.LineFault.TheVariants as faults
-use Rattle.component_linker.specs.declared.line.Input.{Input as LineInput}
-use Rattle.component_linker.specs.declared.line.Input.TheVariants as inputs
-use Rattle.wit_component.specs.declared.link.Link.{Link}
-use Rattle.wit_component.specs.declared.string_encoding.StringEncoding.TheVariants.{UTF8}
-use Rattle.component_linker.specs.Input.{Input, SourceText, ModuleInput, first_options}
-use Rattle.wit_resolve.specs.World.{PackageMeaning}
-use Rattle.wit_resolve.specs.Shape.{IsInShape}
-use Rattle.component_linker.specs.Choice.{NamesWorld}
+use Rattle.command_line.specs.declared.line.Action.{Action}
+use Rattle.command_line.specs.declared.line.Action.TheVariants.{Build, Links, Audit}
+use Rattle.command_line.specs.declared.line.Encoding.{Encoding}
+use Rattle.command_line.specs.declared.line.Encoding.TheVariants as encodings
+use Rattle.command_line.specs.declared.line.Input.{Input as LineInput}
+use Rattle.command_line.specs.declared.line.Input.TheVariants as inputs
+use Rattle.command_line.specs.declared.line.Line.{Line}
+use Rattle.command_line.specs.declared.line.LineFault.{LineFault}
+use Rattle.command_line.specs.declared.line.LineFault.TheVariants as faults
+use Rattle.component_audit.specs.Texts.{verdict_text}
 use Rattle.component_audit.specs.declared.verdict.Verdict.{Verdict}
 use Rattle.component_audit.specs.declared.verdict.Verdict.TheVariants.{Yes, Finding}
-use Rattle.component_linker.specs.Answered.{IsBuilt, IsLinkTable}
-use Rattle.component_linker.specs.Judged.{IsJudged}
+use Rattle.component_session.specs.Answered.{IsBuilt, IsLinkTable}
+use Rattle.component_session.specs.Input.{Input, ModuleInput, OptionsInput, empty_input}
+use Rattle.component_session.specs.Judged.{IsJudged}
 use Rattle.wit_component.specs.Links.{link_value}
 use Rattle.wit_component.specs.Texts.{lines_text}
-use Rattle.component_audit.specs.Texts.{verdict_text}
+use Rattle.wit_component.specs.declared.link.Link.{Link}
+use Rattle.wit_component.specs.declared.string_encoding.StringEncoding.{StringEncoding}
+use Rattle.wit_component.specs.declared.string_encoding.StringEncoding.TheVariants.{UTF8, UTF16, CompactUTF16}
+use Rattle.wit_features.specs.Features.{FeatureSet, with_name}
+use Rattle.wit_resolution.specs.Pushes.{Resolved, nothing_resolved, AreTextsPushed}
+use Rattle.wit_resolution.specs.Texts.{files_of}
+use Rattle.wit_selection.specs.Selection.{IsSelected}
+use Rattle.wit_types.specs.declared.«package».PackageName.{PackageName}
+use Rattle.wit_words.specs.Sources.{SourceText}
 
 -- the exit status for words that are no line
 abbrev pub line_status : LineFault → ℕ
@@ -36,12 +42,16 @@ abbrev pub verdict_status : Verdict → ℕ
 verdict_status Yes = 0
 verdict_status (Finding kind offset) = 1
 
+-- files by their paths
+abbrev pub Files : Type 0
+Files = List (Bor (List ℕ) × Bor (List ℕ))
+
 -- the bytes of the first file under a path
-abbrev pub file_at : List (Bor (List ℕ) × Bor (List ℕ)) → List ℕ → Option (List ℕ)
+abbrev pub file_at : Files → List ℕ → Option (List ℕ)
 file_at [] path = None
 file_at (f ∷ files) path = if bytes_eq f.0.now path then Some f.1.now else file_at files path
 
-abbrev pub IsFile : List (Bor (List ℕ) × Bor (List ℕ)) → List ℕ → List ℕ → Type 0
+abbrev pub IsFile : Files → List ℕ → List ℕ → Type 0
 IsFile files path bytes = file_at files path ≡ Some bytes
 
 -- the path, if no file is there
@@ -55,58 +65,72 @@ textless_path path None = Some path
 textless_path path (Some bytes) = if is_utf8 bytes then None else Some path
 
 -- the path of an input whose file isn't there, or is to be a text and isn't one
-abbrev pub input_fault : List (Bor (List ℕ) × Bor (List ℕ)) → LineInput → Option (List ℕ)
+abbrev pub input_fault : Files → LineInput → Option (List ℕ)
 input_fault files (inputs.Text path) = textless_path (string_bytes path) (file_at files (string_bytes path))
+input_fault files (inputs.Dep path) = textless_path (string_bytes path) (file_at files (string_bytes path))
 input_fault files (inputs.Main world path) = missing_path (string_bytes path) (file_at files (string_bytes path))
 input_fault files (inputs.Component path) = missing_path (string_bytes path) (file_at files (string_bytes path))
 
 -- the first such path of the inputs
-abbrev pub file_fault : List (Bor (List ℕ) × Bor (List ℕ)) → List LineInput → Option (List ℕ)
+abbrev pub file_fault : Files → List LineInput → Option (List ℕ)
 file_fault files [] = None
 file_fault files (i ∷ is) = option_or (input_fault files i) (file_fault files is)
 
-abbrev pub text_path : LineInput → List (List ℕ)
-text_path (inputs.Text path) = string_bytes path ∷ []
-text_path (inputs.Main world path) = []
-text_path (inputs.Component path) = []
+-- ---- texts
 
--- the paths of the texts, in order
-abbrev pub text_paths : List LineInput → List (List ℕ)
-text_paths = flat_map text_path
+-- the text at a path, if a file is there
+abbrev pub text_of : List ℕ → Option (List ℕ) → List SourceText
+text_of path None = []
+text_of path (Some contents) = record { path = path; contents = contents } ∷ []
 
--- the texts of a line, with the contents of its files
-abbrev pub AreSources : List (Bor (List ℕ) × Bor (List ℕ)) → List LineInput → List SourceText → Type 0
-AreSources files is sources = (map (λ s. s.path) sources ≡ text_paths is) × Each (λ s. IsFile files s.path s.contents) sources
+-- a file of the main package
+abbrev pub main_text : Files → LineInput → List SourceText
+main_text files (inputs.Text path) = text_of (string_bytes path) (file_at files (string_bytes path))
+main_text files (inputs.Dep path) = []
+main_text files (inputs.Main world path) = []
+main_text files (inputs.Component path) = []
 
--- a source's text is of the shape, and this is its package
-abbrev pub IsPackage : SourceText → PackageMeaning → Type 0
-IsPackage s p = IsInShape s.contents p
+-- the text of another package
+abbrev pub dep_text : Files → LineInput → List SourceText
+dep_text files (inputs.Text path) = []
+dep_text files (inputs.Dep path) = text_of (string_bytes path) (file_at files (string_bytes path))
+dep_text files (inputs.Main world path) = []
+dep_text files (inputs.Component path) = []
 
--- the packages of sources, in order
-abbrev pub ArePackages : List SourceText → List PackageMeaning → Type 0
-ArePackages = AllZip IsPackage
+-- the files of each package of a line: all of its main package's, and each of the others' by itself
+abbrev pub packages_of : Files → List LineInput → List (List SourceText)
+packages_of files is = files_of (flat_map (main_text files) is) (flat_map (dep_text files) is)
 
--- an input that is a text adds its source and its package, and another changes nothing
-abbrev pub AddsSource : List (Bor (List ℕ) × Bor (List ℕ)) → LineInput → Input → Input → Type 0
-AddsSource files (inputs.Text path) old new =
-    (s : SourceText) × (p : PackageMeaning) × (new ≡ record old { sources = old.sources ++ s ∷ []; packages = old.packages ++ p ∷ [] })
-    × (s.path ≡ string_bytes path)
-    × IsFile files s.path s.contents
-    × IsPackage s p
-AddsSource files (inputs.Main world path) old new = new ≡ old
-AddsSource files (inputs.Component path) old new = new ≡ old
+-- ---- options
 
--- the places of packages, from 0
-abbrev pub places : List PackageMeaning → List ℕ
-places ps = range_with_len 0 (length ps)
+abbrev pub features_of : Line → FeatureSet
+features_of l = record { all = l.all_features; names = fold with_name [] (map string_bytes l.features.items) }
 
--- a text names this world, where each package is a main one
-abbrev pub IsNamed : Input → List ℕ → ℕ → Type 0
-IsNamed given text k = NamesWorld given (places given.packages) (Some text) k
+abbrev pub options_of : Line → OptionsInput
+options_of l = record {
+  merge_imports_based_on_semver = not l.no_merge;
+  emit_canonical_names = l.canonical;
+  reject_legacy_names = l.reject_legacy;
+  shim_return_call_ref = l.return_call_ref;
+  debug_names = l.debug_names;
+  validate = l.validate;
+  import_name_map = [];
+}
 
--- the chosen world is the one that a text names
-abbrev pub IsChosen : Input → List ℕ → Type 0
-IsChosen given text = (k : ℕ) × (given.world ≡ Some k) × IsNamed given text k
+abbrev pub encoding_of : Encoding → StringEncoding
+encoding_of encodings.Utf8 = UTF8
+encoding_of encodings.Utf16 = UTF16
+encoding_of encodings.Compact = CompactUTF16
+
+-- what a session is before it is handed something
+abbrev pub opened : Line → Input
+opened l = record empty_input { resolved = record nothing_resolved { features = features_of l }; options = options_of l }
+
+-- ---- worlds and modules
+
+-- a text names that world, where this is the main package
+abbrev pub Names : Resolved → ℕ → List ℕ → ℕ → Type 0
+Names r main text w = IsSelected r.graph.tables.packages (main ∷ []) (Some text) w
 
 -- what a line says of a module: the text that names its world, and its path
 pub record MainWords : Type 0 where
@@ -116,6 +140,7 @@ pub record MainWords : Type 0 where
 -- what is said of a module, where one is handed in later than what is there
 abbrev pub later_main : Option MainWords → LineInput → Option MainWords
 later_main old (inputs.Text path) = old
+later_main old (inputs.Dep path) = old
 later_main old (inputs.Main world path) = Some (record { world = string_bytes world; path = string_bytes path })
 later_main old (inputs.Component path) = old
 
@@ -128,36 +153,49 @@ abbrev pub text_or : List ℕ → List ℕ → List ℕ
 text_or [] chosen = chosen
 text_or (b ∷ bs) chosen = b ∷ bs
 
--- a module is what is said of it: it has the bytes of the file at the path, and the world that the text names
-abbrev pub IsMain : List (Bor (List ℕ) × Bor (List ℕ)) → Input → List ℕ → Option MainWords → Option ModuleInput → Type 0
-IsMain files given chosen None None = Unit {0}
-IsMain files given chosen None (Some m) = ⊥
-IsMain files given chosen (Some words) None = ⊥
-IsMain files given chosen (Some words) (Some m) = IsFile files words.path m.bytes × IsNamed given (text_or words.world chosen) m.world × (m.encoding ≡ UTF8)
+module _ (files : Files) (r : Resolved) («package» : ℕ) (line : Line) where
+  -- a module is what is said of it: it has the bytes of the file at the path, the world that the text names, and the line's encoding
+  abbrev pub IsMain : Option MainWords → Option ModuleInput → Type 0
+  IsMain None None = Unit {0}
+  IsMain None (Some m) = ⊥
+  IsMain (Some words) None = ⊥
+  IsMain (Some words) (Some m) = IsFile files words.path m.bytes × Names r «package» (text_or words.world (string_bytes line.world)) m.world × (m.encoding ≡ encoding_of line.encoding)
 
--- an input that is a module stands in the place of the old one, and another changes nothing
-abbrev pub ReplacesMain : List (Bor (List ℕ) × Bor (List ℕ)) → Input → List ℕ → LineInput → Option ModuleInput → Option ModuleInput → Type 0
-ReplacesMain files given chosen (inputs.Text path) old new = new ≡ old
-ReplacesMain files given chosen (inputs.Main world path) old new = IsMain files given chosen (later_main None (inputs.Main world path)) new
-ReplacesMain files given chosen (inputs.Component path) old new = new ≡ old
+  -- an input that is a module stands in the place of the old one, and another changes nothing
+  abbrev pub ReplacesMain : LineInput → Option ModuleInput → Option ModuleInput → Type 0
+  ReplacesMain (inputs.Text path) old new = new ≡ old
+  ReplacesMain (inputs.Dep path) old new = new ≡ old
+  ReplacesMain (inputs.Main world path) old new = IsMain (later_main None (inputs.Main world path)) new
+  ReplacesMain (inputs.Component path) old new = new ≡ old
 
--- What is handed to a session: the texts of a line with their packages, the world that the line names and the last
--- module, with the first options.
-pub record Handed (files : List (Bor (List ℕ) × Bor (List ℕ))) (line : Line) (given : Input) : Type 0 where
-  pub sources : AreSources files line.inputs.items given.sources
-  pub packages : ArePackages given.sources given.packages
-  pub world : IsChosen given (string_bytes line.world)
-  pub main : IsMain files given (string_bytes line.world) (last_main line.inputs.items) given.main
-  pub options : given.options ≡ first_options
+-- a session chooses the world of a line, and is handed its last module
+pub record IsCompleted (files : Files) («package» : ℕ) (line : Line) (old new : Input) : Type 0 where
+  pub chosen : ℕ
+  pub world : Names old.resolved «package» (string_bytes line.world) chosen
+  pub main : IsMain files old.resolved «package» line (last_main line.inputs.items) new.main
+  pub rest : new ≡ record old { world = Some chosen; main = new.main }
+
+-- What is handed to a session: the packages of a line's texts, with the features that it makes active, the world that it names and the
+-- last module, with its options; each file is there.
+pub record Handed (eq : PackageName → PackageName → Bool) (files : Files) (line : Line) (given : Input) : Type 0 where
+  pub there : file_fault files line.inputs.items ≡ None
+  pub «package» : ℕ
+  pub packages : AreTextsPushed eq (opened line).resolved (packages_of files line.inputs.items) given.resolved «package»
+  pub chosen : ℕ
+  pub chooses : given.world ≡ Some chosen
+  pub world : Names given.resolved «package» (string_bytes line.world) chosen
+  pub main : IsMain files given.resolved «package» line (last_main line.inputs.items) given.main
+  pub options : given.options ≡ options_of line
 
 -- an input is the component with these bytes
-abbrev pub IsComponentInput : List (Bor (List ℕ) × Bor (List ℕ)) → List ℕ → LineInput → Type 0
+abbrev pub IsComponentInput : Files → List ℕ → LineInput → Type 0
 IsComponentInput files bytes (inputs.Text path) = ⊥
+IsComponentInput files bytes (inputs.Dep path) = ⊥
 IsComponentInput files bytes (inputs.Main world path) = ⊥
 IsComponentInput files bytes (inputs.Component path) = IsFile files (string_bytes path) bytes
 
 -- one of the inputs is the component with these bytes
-abbrev pub HasComponent : List (Bor (List ℕ) × Bor (List ℕ)) → List LineInput → List ℕ → Type 0
+abbrev pub HasComponent : Files → List LineInput → List ℕ → Type 0
 HasComponent files is bytes = (k : ℕ) × (k < length is) × HoldsAt (IsComponentInput files bytes) is k
 
 -- the text is the bytes of a component that is right for the input
@@ -173,19 +211,20 @@ abbrev pub IsVerdictAnswer : Input → List ℕ → ℕ → List ℕ → Type 0
 IsVerdictAnswer given bytes status text = (verdict : Verdict) × IsJudged given bytes verdict × (status ≡ verdict_status verdict) × (text ≡ verdict_text verdict ++ 10 ∷ [])
 
 -- the text of an action's answer to an input, and its exit status
-abbrev pub IsAnswer : List (Bor (List ℕ) × Bor (List ℕ)) → List LineInput → Input → Action → ℕ → List ℕ → Type 0
+abbrev pub IsAnswer : Files → List LineInput → Input → Action → ℕ → List ℕ → Type 0
 IsAnswer files is given Build status text = IsComponentAnswer given status text
 IsAnswer files is given Links status text = IsLinksAnswer given status text
 IsAnswer files is given Audit status text = (bytes : List ℕ) × HasComponent files is bytes × IsVerdictAnswer given bytes status text
-
--- the text of a line's answer, to what is handed to a session, and its exit status
-abbrev pub IsLineAnswer : List (Bor (List ℕ) × Bor (List ℕ)) → Line → ℕ → List ℕ → Type 0
-IsLineAnswer files line status text = (given : Input) × Handed files line given × IsAnswer files line.inputs.items given line.action status text
 
 -- what the writer has more is such a text
 abbrev pub Writes : (List ℕ → Type 0) → Option (List ℕ) → Option (List ℕ) → Type 0
 Writes IsWanted old new = (text : List ℕ) × IsWanted text × Appends old new text
 
--- what the writer has more is the line's answer
-abbrev pub IsOutcome : List (Bor (List ℕ) × Bor (List ℕ)) → Line → ℕ → Option (List ℕ) → Option (List ℕ) → Type 0
-IsOutcome files line status old new = Writes (IsLineAnswer files line status) old new
+module _ (eq : PackageName → PackageName → Bool) (files : Files) where
+  -- the text of a line's answer, to what is handed to a session, and its exit status
+  abbrev pub IsLineAnswer : Line → ℕ → List ℕ → Type 0
+  IsLineAnswer line status text = (given : Input) × Handed eq files line given × IsAnswer files line.inputs.items given line.action status text
+
+  -- what the writer has more is the line's answer
+  abbrev pub IsOutcome : Line → ℕ → Option (List ℕ) → Option (List ℕ) → Type 0
+  IsOutcome line status old new = Writes (IsLineAnswer line status) old new

@@ -1,30 +1,31 @@
 -- Why the program ends without its answer, and what it writes then.
-use Rattle.std.specs.Prelude.{◌≡◌, ◌≢◌, ◌⊎◌, ℕ, ◌<◌, List, [], ◌∷◌, ◌++◌, Option, Some, None, codes, length, filter, take, String, string_bytes}
-use Rattle.std.specs.List.{HoldsAt}
-use Rattle.std.specs.Borrow.{Bor}
+use Rattle.std.specs.Prelude.{◌≡◌, ◌≢◌, ◌⊎◌, ℕ, ◌<◌, Bool, List, [], ◌∷◌, ◌++◌, Option, Some, None, Any, codes, length, filter, take, String, string_bytes}
 use Rattle.std.specs.Io.KnownBytes.{Appends}
 use Rattle.std.specs.declared.alloc.Global.{Global}
+use Rattle.command_line.specs.Line.{is_component}
+use Rattle.command_line.specs.declared.line.Action.{Action}
+use Rattle.command_line.specs.declared.line.Action.TheVariants.{Build, Links, Audit}
+use Rattle.command_line.specs.declared.line.Input.{Input as LineInput}
+use Rattle.command_line.specs.declared.line.Input.TheVariants as inputs
+use Rattle.command_line.specs.declared.line.Line.{Line}
+use Rattle.command_line.specs.declared.line.LineFault.{LineFault}
+use Rattle.command_line.specs.declared.line.LineFault.TheVariants as faults
+use Rattle.component_session.specs.Cause.{IsCause, IsBuildCause}
+use Rattle.component_session.specs.Input.{Input}
+use Rattle.component_session.specs.Judged.{IsAuditCause}
+use Rattle.component_session.specs.ModuleCause.{IsModuleCause}
+use Rattle.wit_component.specs.Code.{code, name, place}
 use Rattle.wit_component.specs.declared.fault.Fault.{Fault}
 use Rattle.wit_component.specs.declared.fault.Fault.TheVariants as causes
-use Rattle.component_linker.specs.declared.line.Action.{Action}
-use Rattle.component_linker.specs.declared.line.Action.TheVariants.{Build, Links, Audit}
-use Rattle.component_linker.specs.declared.line.Input.{Input as LineInput}
-use Rattle.component_linker.specs.declared.line.Input.TheVariants as inputs
-use Rattle.component_linker.specs.declared.line.Line.{Line}
-use Rattle.component_linker.specs.declared.line.LineFault.{LineFault}
-use Rattle.component_linker.specs.declared.line.LineFault.TheVariants as faults
+use Rattle.wit_resolution.specs.Errors.{of_selection}
+use Rattle.wit_resolution.specs.Pushes.{Resolved, AreTextsPushed, AreTextsError}
+use Rattle.wit_resolution.specs.declared.error.ResolveErrorKind.{ResolveErrorKind}
+use Rattle.wit_selection.specs.Selection.{IsSelectCause}
+use Rattle.wit_selection.specs.declared.selection.SelectFault.{SelectFault}
+use Rattle.wit_types.specs.declared.«package».PackageName.{PackageName}
+use Rattle.component_linker.specs.Program.{Files, IsFile, input_fault, file_fault, opened, packages_of, text_or, HasComponent, Handed, IsAnswer, IsLineAnswer}
 use Rattle.component_linker.specs.declared.program.Stop.{Stop}
 use Rattle.component_linker.specs.declared.program.Stop.TheVariants as stops
-use Rattle.component_linker.specs.Input.{Input}
-use Rattle.wit_component.specs.Code.{code, name, place}
-use Rattle.component_linker.specs.Cause.{IsCause, IsBuildCause}
-use Rattle.component_linker.specs.Judged.{IsAuditCause}
-use Rattle.component_linker.specs.ModuleCause.{IsModuleCause}
-use Rattle.component_linker.specs.Line.{is_component}
-use Rattle.component_linker.specs.Pushed.{CanPush}
-use Rattle.wit_resolve.specs.Shape.{IsInShape}
-use Rattle.wit_resolve.specs.World.{PackageMeaning}
-use Rattle.component_linker.specs.Program.{IsFile, input_fault, file_fault, text_paths, AreSources, ArePackages, IsNamed, text_or, HasComponent, Handed, IsAnswer, IsLineAnswer}
 
 -- ---- lines
 
@@ -48,6 +49,7 @@ fault_text fault = refusal_text (code fault) (name fault) (place fault)
 
 abbrev pub stop_text : Stop → List ℕ
 stop_text (stops.Refused fault) = fault_text fault
+stop_text (stops.Unresolved error text) = codes "error: " ++ (string_bytes text ++ 10 ∷ [])
 stop_text (stops.File path) = file_text path.now
 stop_text stops.Usage = usage_text
 
@@ -73,84 +75,97 @@ WritesPart IsWanted old new = (status : ℕ) × (text : List ℕ) × IsWanted st
 
 abbrev pub stop_status : Stop → ℕ
 stop_status (stops.Refused fault) = 1
+stop_status (stops.Unresolved error text) = 1
 stop_status (stops.File path) = 3
 stop_status stops.Usage = 2
 
 -- the stop names a path of which this is so
 abbrev pub IsFileStop : (List ℕ → Type 0) → Stop → Type 0
 IsFileStop IsWanted (stops.Refused fault) = ⊥
+IsFileStop IsWanted (stops.Unresolved error text) = ⊥
 IsFileStop IsWanted (stops.File path) = IsWanted path.now
 IsFileStop IsWanted stops.Usage = ⊥
 
--- the text names no world of what is handed in, and the fault is that
-abbrev pub IsUnnamed : Input → List ℕ → Fault → Type 0
-IsUnnamed given text fault = (fault ≡ causes.WorldNotFound) × ((k : ℕ) → IsNamed given text k → ⊥)
+-- packages can't be resolved for that, or memory is wanting
+abbrev pub IsResolveStop : (ResolveErrorKind → Type 0) → Stop → Type 0
+IsResolveStop IsWanted (stops.Refused fault) = fault ≡ causes.OutOfMemory
+IsResolveStop IsWanted (stops.Unresolved error text) = IsWanted error
+IsResolveStop IsWanted (stops.File path) = ⊥
+IsResolveStop IsWanted stops.Usage = ⊥
 
--- why a session doesn't take a text: want of memory, or no package can be pushed
-abbrev pub IsPushCause : List (Bor (List ℕ) × Bor (List ℕ)) → Input → Fault → LineInput → Type 0
-IsPushCause files given fault (inputs.Text path) =
-    (fault ≡ causes.OutOfMemory) ⊎ ((fault ≡ causes.NotYet) × ((text : List ℕ) (p : PackageMeaning) → IsFile files (string_bytes path) text → CanPush given text p → ⊥))
-IsPushCause files given fault (inputs.Main world path) = ⊥
-IsPushCause files given fault (inputs.Component path) = ⊥
+-- of all inputs together: as `IsResolveStop`, or a file isn't there
+abbrev pub IsTextsStop : Files → (ResolveErrorKind → Type 0) → List LineInput → Stop → Type 0
+IsTextsStop files IsWanted is (stops.Refused fault) = fault ≡ causes.OutOfMemory
+IsTextsStop files IsWanted is (stops.Unresolved error text) = IsWanted error
+IsTextsStop files IsWanted is (stops.File path) = file_fault files is ≢ None
+IsTextsStop files IsWanted is stops.Usage = ⊥
 
--- the text at a path is of the shape, and none stands among the inputs before it
-abbrev pub CanTake : List (Bor (List ℕ) × Bor (List ℕ)) → List LineInput → List ℕ → Type 0
-CanTake files before path = (text : List ℕ) × (p : PackageMeaning) × IsFile files path text × IsInShape text p × (text_paths before ≡ [])
+-- a text names no world, where that is the main package
+abbrev pub IsNameError : Resolved → ℕ → List ℕ → ResolveErrorKind → Type 0
+IsNameError r main text error = (fault : SelectFault) × IsSelectCause r.graph.tables.packages (main ∷ []) (Some text) fault × (error ≡ of_selection fault)
 
--- why a text behind these inputs isn't taken
-abbrev pub IsTextCause : List (Bor (List ℕ) × Bor (List ℕ)) → List LineInput → Fault → LineInput → Type 0
-IsTextCause files before fault (inputs.Text path) = (fault ≡ causes.OutOfMemory) ⊎ ((fault ≡ causes.NotYet) × (CanTake files before (string_bytes path) → ⊥))
-IsTextCause files before fault (inputs.Main world path) = ⊥
-IsTextCause files before fault (inputs.Component path) = ⊥
+-- the bytes of a module aren't read
+abbrev pub IsBytesCause : Files → Fault → LineInput → Type 0
+IsBytesCause files fault (inputs.Text path) = ⊥
+IsBytesCause files fault (inputs.Dep path) = ⊥
+IsBytesCause files fault (inputs.Main world path) = (bytes : List ℕ) × IsFile files (string_bytes path) bytes × IsModuleCause bytes fault
+IsBytesCause files fault (inputs.Component path) = ⊥
 
--- why a module isn't taken: want of memory, its world, or what is said of its bytes
-abbrev pub IsMainCause : List (Bor (List ℕ) × Bor (List ℕ)) → Input → List ℕ → Fault → LineInput → Type 0
-IsMainCause files given chosen fault (inputs.Text path) = ⊥
-IsMainCause files given chosen fault (inputs.Main world path) =
-    (fault ≡ causes.OutOfMemory)
-    ⊎ (IsUnnamed given (text_or (string_bytes world) chosen) fault ⊎ ((bytes : List ℕ) × IsFile files (string_bytes path) bytes × IsModuleCause bytes fault))
-IsMainCause files given chosen fault (inputs.Component path) = ⊥
+-- nor is its world there; an empty text stands for the chosen one's
+abbrev pub IsMainError : Resolved → ℕ → List ℕ → ResolveErrorKind → LineInput → Type 0
+IsMainError r main chosen error (inputs.Text path) = ⊥
+IsMainError r main chosen error (inputs.Dep path) = ⊥
+IsMainError r main chosen error (inputs.Main world path) = IsNameError r main (text_or (string_bytes world) chosen) error
+IsMainError r main chosen error (inputs.Component path) = ⊥
 
-abbrev pub IsInputStop : List (Bor (List ℕ) × Bor (List ℕ)) → (Fault → LineInput → Type 0) → LineInput → Stop → Type 0
-IsInputStop files Cause i (stops.Refused fault) = Cause fault i
-IsInputStop files Cause i (stops.File path) = input_fault files i ≡ Some path.now
-IsInputStop files Cause i stops.Usage = ⊥
+-- an input isn't taken
+abbrev pub IsInputStop : Files → Resolved → ℕ → List ℕ → LineInput → Stop → Type 0
+IsInputStop files r main chosen i (stops.Refused fault) = (fault ≡ causes.OutOfMemory) ⊎ IsBytesCause files fault i
+IsInputStop files r main chosen i (stops.Unresolved error text) = IsMainError r main chosen error i
+IsInputStop files r main chosen i (stops.File path) = input_fault files i ≡ Some path.now
+IsInputStop files r main chosen i stops.Usage = ⊥
 
--- one of the inputs isn't taken behind those before it
-abbrev pub HasCause : (List LineInput → Fault → LineInput → Type 0) → List LineInput → Fault → Type 0
-HasCause Cause is fault = (k : ℕ) × (k < length is) × HoldsAt (Cause (take k is) fault) is k
+-- one of the inputs isn't, or a file isn't there
+abbrev pub IsHandStop : Files → Resolved → ℕ → List ℕ → List LineInput → Stop → Type 0
+IsHandStop files r main chosen is (stops.Refused fault) = (fault ≡ causes.OutOfMemory) ⊎ Any (IsBytesCause files fault) is
+IsHandStop files r main chosen is (stops.Unresolved error text) = Any (IsMainError r main chosen error) is
+IsHandStop files r main chosen is (stops.File path) = file_fault files is ≢ None
+IsHandStop files r main chosen is stops.Usage = ⊥
 
--- the inputs aren't taken, or a file isn't there
-abbrev pub IsHandStop : List (Bor (List ℕ) × Bor (List ℕ)) → (List LineInput → Fault → LineInput → Type 0) → List LineInput → Stop → Type 0
-IsHandStop files Cause is (stops.Refused fault) = HasCause Cause is fault
-IsHandStop files Cause is (stops.File path) = file_fault files is ≢ None
-IsHandStop files Cause is stops.Usage = ⊥
+-- the chosen world isn't there, or an input isn't taken
+abbrev pub IsCompleteStop : Files → Resolved → ℕ → Line → Stop → Type 0
+IsCompleteStop files r main l (stops.Refused fault) = (fault ≡ causes.OutOfMemory) ⊎ Any (IsBytesCause files fault) l.inputs.items
+IsCompleteStop files r main l (stops.Unresolved error text) = IsNameError r main (string_bytes l.world) error ⊎ Any (IsMainError r main (string_bytes l.world) error) l.inputs.items
+IsCompleteStop files r main l (stops.File path) = file_fault files l.inputs.items ≢ None
+IsCompleteStop files r main l stops.Usage = ⊥
 
--- why the texts are taken and the rest isn't: the line's world isn't found, or a module isn't taken
-abbrev pub IsRestCause : List (Bor (List ℕ) × Bor (List ℕ)) → Line → Input → Fault → Type 0
-IsRestCause files l given fault = IsUnnamed given (string_bytes l.world) fault ⊎ HasCause (λ before. IsMainCause files given (string_bytes l.world)) l.inputs.items fault
+-- where the packages are those of the line's texts, the chosen world or one of a module isn't there
+pub record IsUnnamed (eq : PackageName → PackageName → Bool) (files : Files) (l : Line) (error : ResolveErrorKind) : Type 0 where
+  pub resolved : Resolved
+  pub main : ℕ
+  pub packages : AreTextsPushed eq (opened l).resolved (packages_of files l.inputs.items) resolved main
+  pub none : IsNameError resolved main (string_bytes l.world) error ⊎ Any (IsMainError resolved main (string_bytes l.world) error) l.inputs.items
 
--- why the inputs aren't taken: want of memory, a text, or, with the texts and their packages, what is left
-abbrev pub IsHandCause : List (Bor (List ℕ) × Bor (List ℕ)) → Line → Fault → Type 0
-IsHandCause files l fault =
-    (fault ≡ causes.OutOfMemory)
-    ⊎ (HasCause (IsTextCause files) l.inputs.items fault
-    ⊎ ((given : Input) × AreSources files l.inputs.items given.sources × ArePackages given.sources given.packages × IsRestCause files l given fault))
+-- the texts aren't taken, or what they say has no such world
+abbrev pub IsUnresolved : (PackageName → PackageName → Bool) → Files → Line → ResolveErrorKind → Type 0
+IsUnresolved eq files l error = AreTextsError eq (opened l).resolved (packages_of files l.inputs.items) error ⊎ IsUnnamed eq files l error
 
 -- the inputs aren't taken, or a file isn't there, the first at fault
-abbrev pub IsPrepareStop : List (Bor (List ℕ) × Bor (List ℕ)) → Line → Stop → Type 0
-IsPrepareStop files l (stops.Refused fault) = IsHandCause files l fault
-IsPrepareStop files l (stops.File path) = file_fault files l.inputs.items ≡ Some path.now
-IsPrepareStop files l stops.Usage = ⊥
+abbrev pub IsPrepareStop : (PackageName → PackageName → Bool) → Files → Line → Stop → Type 0
+IsPrepareStop eq files l (stops.Refused fault) = (fault ≡ causes.OutOfMemory) ⊎ Any (IsBytesCause files fault) l.inputs.items
+IsPrepareStop eq files l (stops.Unresolved error text) = IsUnresolved eq files l error
+IsPrepareStop eq files l (stops.File path) = file_fault files l.inputs.items ≡ Some path.now
+IsPrepareStop eq files l stops.Usage = ⊥
 
 -- no component is named, or its file isn't there
-abbrev pub IsComponentStop : List (Bor (List ℕ) × Bor (List ℕ)) → List LineInput → Stop → Type 0
+abbrev pub IsComponentStop : Files → List LineInput → Stop → Type 0
 IsComponentStop files is (stops.Refused fault) = ⊥
+IsComponentStop files is (stops.Unresolved error text) = ⊥
 IsComponentStop files is (stops.File path) = file_fault files is ≢ None
 IsComponentStop files is stops.Usage = filter is_component is ≡ []
 
 -- why an action has no answer to an input
-abbrev pub IsAnswerCause : List (Bor (List ℕ) × Bor (List ℕ)) → List LineInput → Input → Action → Fault → Type 0
+abbrev pub IsAnswerCause : Files → List LineInput → Input → Action → Fault → Type 0
 IsAnswerCause files is given Build fault = IsBuildCause given fault
 IsAnswerCause files is given Links fault = IsCause given fault
 IsAnswerCause files is given Audit fault = (bytes : List ℕ) × HasComponent files is bytes × IsAuditCause given bytes fault
@@ -167,27 +182,33 @@ out_path l = written_path l.out
 -- why an answer isn't written: nothing is and it is refused, or OUT can't be written and a part of it is
 abbrev pub IsWriteStop : (Fault → Type 0) → List ℕ → Type 0 → Type 0 → Stop → Type 0
 IsWriteStop Cause out Untouched Part (stops.Refused fault) = Untouched × Cause fault
+IsWriteStop Cause out Untouched Part (stops.Unresolved error text) = ⊥
 IsWriteStop Cause out Untouched Part (stops.File path) = (path.now ≡ out) × Part
 IsWriteStop Cause out Untouched Part stops.Usage = ⊥
 
 -- as `IsStop`, of what is handed to a session
-abbrev pub IsAnswerStop : List (Bor (List ℕ) × Bor (List ℕ)) → Line → Input → Type 0 → Option (List ℕ) → Option (List ℕ) → Stop → Type 0
+abbrev pub IsAnswerStop : Files → Line → Input → Type 0 → Option (List ℕ) → Option (List ℕ) → Stop → Type 0
 IsAnswerStop files l given Untouched old new (stops.Refused fault) = Untouched × IsAnswerCause files l.inputs.items given l.action fault
+IsAnswerStop files l given Untouched old new (stops.Unresolved error text) = ⊥
 IsAnswerStop files l given Untouched old new (stops.File path) = (path.now ≡ out_path l) × WritesPart (IsAnswer files l.inputs.items given l.action) old new
 IsAnswerStop files l given Untouched old new stops.Usage = Untouched × (l.action ≡ Audit) × (filter is_component l.inputs.items ≡ [])
 
--- why a line has no answer; only where OUT can't be written a part of the answer is
-abbrev pub IsStop : List (Bor (List ℕ) × Bor (List ℕ)) → Line → Type 0 → Option (List ℕ) → Option (List ℕ) → Stop → Type 0
-IsStop files l Untouched old new (stops.Refused fault) =
-    Untouched × (IsHandCause files l fault ⊎ ((given : Input) × Handed files l given × IsAnswerCause files l.inputs.items given l.action fault))
-IsStop files l Untouched old new (stops.File path) =
-    (Untouched × (file_fault files l.inputs.items ≡ Some path.now))
-    ⊎ ((file_fault files l.inputs.items ≡ None) × (path.now ≡ out_path l) × WritesPart (IsLineAnswer files l) old new)
-IsStop files l Untouched old new stops.Usage = Untouched × (l.action ≡ Audit) × (filter is_component l.inputs.items ≡ [])
+module _ (eq : PackageName → PackageName → Bool) (files : Files) (l : Line) (Untouched : Type 0) (old new : Option (List ℕ)) where
+  -- why a line has no answer; only where OUT can't be written a part of the answer is
+  abbrev pub IsStop : Stop → Type 0
+  IsStop (stops.Refused fault) =
+      Untouched
+      × (((fault ≡ causes.OutOfMemory) ⊎ Any (IsBytesCause files fault) l.inputs.items)
+      ⊎ ((given : Input) × Handed eq files l given × IsAnswerCause files l.inputs.items given l.action fault))
+  IsStop (stops.Unresolved error text) = Untouched × IsUnresolved eq files l error
+  IsStop (stops.File path) =
+      (Untouched × (file_fault files l.inputs.items ≡ Some path.now))
+      ⊎ ((file_fault files l.inputs.items ≡ None) × (path.now ≡ out_path l) × WritesPart (IsLineAnswer eq files l) old new)
+  IsStop stops.Usage = Untouched × (l.action ≡ Audit) × (filter is_component l.inputs.items ≡ [])
 
--- the program ends without its answer, with the status and the line of why
-pub record IsStopped (files : List (Bor (List ℕ) × Bor (List ℕ))) (l : Line) (Untouched : Type 0) (out_old out_new : Option (List ℕ)) (status : ℕ) (err_old err_new : Option (List ℕ)) : Type 0 where
-  pub stop : Stop
-  pub why : IsStop files l Untouched out_old out_new stop
-  pub status_is : status ≡ stop_status stop
-  pub says : AppendsFront err_old err_new (stop_text stop)
+  -- the program ends without its answer, with the status and the line of why
+  pub record IsStopped (status : ℕ) (err_old err_new : Option (List ℕ)) : Type 0 where
+    pub stop : Stop
+    pub why : IsStop stop
+    pub status_is : status ≡ stop_status stop
+    pub says : AppendsFront err_old err_new (stop_text stop)

@@ -1,28 +1,33 @@
 //! The program over two writers and the files that could be read.
 
-ghost use Rattle.std.specs.Prelude.{◌≡◌, ◌<◌, ◌⊎◌, [], None, Some, IfErr, OnErr, IfOk, OnOk, option_map};
+ghost use Rattle.std.specs.Prelude.{◌≡◌, ◌<◌, ◌⊎◌, ℕ, [], None, Some, string_bytes, IfErr, OnErr, IfOk, OnOk, option_map};
 ghost use Rattle.std.specs.List.{flat_map};
 ghost use Rattle.std.specs.Io.KnownBytes.{Appends};
-ghost use Rattle.component_linker.specs.Program.{line_status, verdict_status, IsFile, file_at, missing_path, textless_path, input_fault, file_fault, AreSources, ArePackages, AddsSource, places, text_or, ReplacesMain, last_main, IsMain, HasComponent, Handed, IsComponentAnswer, IsLinksAnswer, IsVerdictAnswer, IsAnswer, Writes, IsOutcome};
-ghost use Rattle.component_linker.specs.Stops.{AppendsFront, AppendsPart, WritesPart, refusal_text, fault_text, stop_text, stop_status, line_fault_text, out_path, IsFileStop, IsPushCause, IsTextCause, IsMainCause, IsInputStop, IsHandStop, IsPrepareStop, IsComponentStop, IsWriteStop, IsAnswerStop, IsStop, IsStopped};
-ghost use Rattle.component_linker.specs.Cause.{IsCause, IsBuildCause};
-ghost use Rattle.component_linker.specs.Judged.{IsAuditCause};
+ghost use Rattle.component_linker.specs.Program as spec;
+ghost use Rattle.component_linker.specs.Program.{line_status, verdict_status, IsFile, file_at, missing_path, textless_path, input_fault, file_fault, text_or, last_main, HasComponent, Handed, IsComponentAnswer, IsLinksAnswer, IsVerdictAnswer, IsAnswer, Writes, IsOutcome};
+ghost use Rattle.component_linker.specs.Stops.{AppendsFront, AppendsPart, WritesPart, refusal_text, fault_text, stop_text, stop_status, line_fault_text, out_path, IsFileStop, IsResolveStop, IsTextsStop, IsNameError, IsInputStop, IsHandStop, IsCompleteStop, IsPrepareStop, IsComponentStop, IsWriteStop, IsAnswerStop, IsStop, IsStopped};
+ghost use Rattle.component_session.specs.Cause.{IsCause, IsBuildCause};
+ghost use Rattle.component_session.specs.Judged.{IsAuditCause};
+ghost use Rattle.wit_package.specs.GroupView.{texts};
+ghost use Rattle.wit_resolution.specs.Pushes.{AreTextsPushed, AreTextsError};
 
-use crate::line::{Action, Input, Line, LineFault};
-use crate::session::{Session, audit};
-use component_audit::Verdict;
+use command_line::{Action, Encoding, Input, Line, LineFault};
 use component_builder::{EmitFault, emit};
+use component_session::{Session, Verdict, audit};
 use std::alloc::{AllocError, AllocFailed, Global};
 use std::io::Write;
 use std::str;
 use wit_component::{Fault, StringEncoding, lines_of};
-use wit_resolve::PackageId;
+use wit_resolution::ResolveError;
+use wit_types::{PackageId, PackageName};
 
 /// Why the program ends without its answer.
 #[derive(Drop)]
 enum Stop<'a> {
     /// A call is refused.
     Refused(Fault),
+    /// Packages aren't resolved, or have no such world; with the text of that and of its place.
+    Unresolved(ResolveError, String),
     /// A file can't be read, is no text, or can't be written.
     File(&'a str),
     /// The inputs don't fit the action.
@@ -93,7 +98,7 @@ fn look_at<'a>(input: &'a Input, files: &'a [(&'a str, &'a [u8])]) -> Result<(),
     ensures err { IfErr result (IsFileStop (λ p. input_fault files.entry.now input.entry.now ≡ Some p)) }
 {
     match input {
-        Input::Text(path) => {
+        Input::Text(path) | Input::Dep(path) => {
             text_at(files, path.as_str())?;
         }
         Input::Main { path, .. } | Input::Component(path) => {
@@ -114,44 +119,101 @@ fn look_at_files<'a>(inputs: &'a [Input], files: &'a [(&'a str, &'a [u8])]) -> R
     Ok(())
 }
 
-/// Pushes the text that an input may be, and adds its package.
-fn push_text<'a>(
-    session: &mut Session<'a>,
-    packages: &mut Vec<PackageId>,
-    input: &'a Input,
-    files: &'a [(&'a str, &'a [u8])],
-) -> Result<(), Stop<'a>>
-    requires { packages.old.items ≡ places session.old.packages }
-    ensures source { OnOk result (AddsSource files.entry.now input.entry.now session.old session.new) }
-    ensures places { OnOk result (packages.new.items ≡ places session.new.packages) }
-    ensures err { IfErr result (IsInputStop files.entry.now (IsPushCause files.entry.now session.old) input.entry.now) }
-{
-    if let Input::Text(path) = input {
-        let contents = text_at(files, path.as_str())?;
-        packages.push(session.push_source(path.as_str(), contents)?)?;
+/// What isn't resolved as a text, with its place in the texts of the session: as in `G2 ItemNotFound at a.wit:2:5`.
+fn text_of(
+    alloc: Global,
+    session: &Session<'_>,
+    error: &ResolveError,
+) -> Result<String, AllocError> {
+    match error.span() {
+        Some(span) => {
+            let place = session.resolve().render_location(span)?;
+            let place = place.as_str();
+            format!(in alloc; "{error} at {place}")
+        }
+        None => format!(in alloc; "{error}"),
     }
-    Ok(())
 }
 
-/// Pushes the texts in order, and answers their packages.
+/// The end for packages that aren't resolved.
+fn unresolved<'a>(alloc: Global, session: &Session<'_>, error: ResolveError) -> Stop<'a>
+    ensures { IsResolveStop (λ e. e ≡ error) result }
+{
+    match text_of(alloc, session, &error) {
+        Ok(text) => Stop::Unresolved(error, text),
+        Err(_) => Stop::Refused(Fault::OutOfMemory),
+    }
+}
+
+/// The files of the main package.
+fn main_texts<'a>(
+    alloc: Global,
+    inputs: &'a [Input],
+    files: &'a [(&'a str, &'a [u8])],
+) -> Result<Vec<(&'a str, &'a str)>, Stop<'a>>
+    ensures ok { IfOk result (λ v. texts v.items ≡ flat_map (spec.main_text files.entry.now) inputs.entry.now) }
+    ensures err { IfErr result (IsTextsStop files.entry.now (λ _. ⊥) inputs.entry.now) }
+{
+    let mut found = Vec::new(alloc);
+    for input in inputs {
+        if let Input::Text(path) = input {
+            found.push((path.as_str(), text_at(files, path.as_str())?))?;
+        }
+    }
+    Ok(found)
+}
+
+/// The texts of the other packages.
+fn dep_texts<'a>(
+    alloc: Global,
+    inputs: &'a [Input],
+    files: &'a [(&'a str, &'a [u8])],
+) -> Result<Vec<(&'a str, &'a str)>, Stop<'a>>
+    ensures ok { IfOk result (λ v. texts v.items ≡ flat_map (spec.dep_text files.entry.now) inputs.entry.now) }
+    ensures err { IfErr result (IsTextsStop files.entry.now (λ _. ⊥) inputs.entry.now) }
+{
+    let mut found = Vec::new(alloc);
+    for input in inputs {
+        if let Input::Dep(path) = input {
+            found.push((path.as_str(), text_at(files, path.as_str())?))?;
+        }
+    }
+    Ok(found)
+}
+
+/// Pushes the packages of all texts together, and answers the main one.
 fn push_texts<'a>(
     alloc: Global,
     session: &mut Session<'a>,
     inputs: &'a [Input],
     files: &'a [(&'a str, &'a [u8])],
-) -> Result<Vec<PackageId>, Stop<'a>>
-    requires { (session.old.sources ≡ []) × (session.old.packages ≡ []) }
-    ensures sources { OnOk result (AreSources files.entry.now inputs.entry.now session.new.sources) }
-    ensures packages { OnOk result (ArePackages session.new.sources session.new.packages) }
-    ensures places { IfOk result (λ v. v.items ≡ places session.new.packages) }
-    ensures rest { OnOk result ((session.new.main ≡ session.old.main) × (session.new.options ≡ session.old.options)) }
-    ensures err { IfErr result (IsHandStop files.entry.now (IsTextCause files.entry.now) inputs.entry.now) }
+) -> Result<PackageId, Stop<'a>>
+    ensures ok { IfOk result (AreTextsPushed ⟦<PackageName as PartialEq>⟧.eq session.old.resolved (spec.packages_of files.entry.now inputs.entry.now) session.new.resolved) }
+    ensures rest { OnOk result (session.new ≡ record session.old { resolved = session.new.resolved }) }
+    ensures err { IfErr result (IsTextsStop files.entry.now (AreTextsError ⟦<PackageName as PartialEq>⟧.eq session.old.resolved (spec.packages_of files.entry.now inputs.entry.now)) inputs.entry.now) }
 {
-    let mut packages = Vec::new(alloc);
-    for input in inputs {
-        push_text(session, &mut packages, input, files)?;
+    let main = main_texts(alloc, inputs, files)?;
+    let deps = dep_texts(alloc, inputs, files)?;
+    match session.push_texts(&main, &deps) {
+        Ok(id) => Ok(id),
+        Err(error) => Err(unresolved(alloc, session, error)),
     }
-    Ok(packages)
+}
+
+/// Chooses the world of a name.
+fn choose<'a>(
+    alloc: Global,
+    session: &mut Session<'a>,
+    package: PackageId,
+    world: &str,
+) -> Result<(), Stop<'a>>
+    ensures ok { OnOk result ((w : ℕ) × (session.new ≡ record session.old { world = Some w }) × spec.Names session.old.resolved «package» world.now w) }
+    ensures err { IfErr result (IsResolveStop (IsNameError session.old.resolved «package» world.now)) }
+{
+    match session.select_world([package].as_slice(), Some(world)) {
+        Ok(_) => Ok(()),
+        Err(error) => Err(unresolved(alloc, session, error)),
+    }
 }
 
 /// A text, or the chosen one where it is empty.
@@ -161,44 +223,57 @@ fn text_or<'t>(text: &'t str, chosen: &'t str) -> &'t str
     if text.is_empty() { chosen } else { text }
 }
 
+fn encoding_of(encoding: Encoding) -> StringEncoding
+    ensures { result ≡ spec.encoding_of encoding }
+{
+    match encoding {
+        Encoding::Utf8 => StringEncoding::UTF8,
+        Encoding::Utf16 => StringEncoding::UTF16,
+        Encoding::Compact => StringEncoding::CompactUTF16,
+    }
+}
+
 /// Hands in the module that an input may be; an empty world is the chosen one.
 fn hand_in_one<'a>(
+    alloc: Global,
     session: &mut Session<'a>,
-    packages: &[PackageId],
-    chosen: &str,
+    package: PackageId,
+    line: &'a Line,
     input: &'a Input,
     files: &'a [(&'a str, &'a [u8])],
 ) -> Result<(), Stop<'a>>
-    requires { packages.now ≡ places session.old.packages }
-    ensures main { OnOk result (ReplacesMain files.entry.now session.old chosen.now input.entry.now session.old.main session.new.main) }
+    ensures main { OnOk result (spec.ReplacesMain files.entry.now session.old.resolved «package» line.entry.now input.entry.now session.old.main session.new.main) }
     ensures rest { OnOk result (session.new ≡ record session.old { main = session.new.main }) }
-    ensures err { IfErr result (IsInputStop files.entry.now (IsMainCause files.entry.now session.old chosen.now) input.entry.now) }
+    ensures err { IfErr result (IsInputStop files.entry.now session.old.resolved «package» (string_bytes line.entry.now.world) input.entry.now) }
 {
     let Input::Main { world, path } = input else {
         return Ok(());
     };
-    let world = session.world_named(packages, Some(text_or(world.as_str(), chosen)))?;
+    let name = text_or(world.as_str(), line.world.as_str());
+    let world = match session.world_named([package].as_slice(), Some(name)) {
+        Ok(world) => world,
+        Err(error) => return Err(unresolved(alloc, session, error)),
+    };
     let bytes = bytes_at(files, path.as_str())?;
-    session.module(bytes, world, StringEncoding::UTF8)?;
+    session.module(bytes, world, encoding_of(line.encoding))?;
     Ok(())
 }
 
 /// Hands in the modules in order.
 fn hand_in<'a>(
+    alloc: Global,
     session: &mut Session<'a>,
-    packages: &[PackageId],
-    chosen: &str,
-    inputs: &'a [Input],
+    package: PackageId,
+    line: &'a Line,
     files: &'a [(&'a str, &'a [u8])],
 ) -> Result<(), Stop<'a>>
-    requires first { session.old.main ≡ None }
-    requires places { packages.now ≡ places session.old.packages }
-    ensures main { OnOk result (IsMain files.entry.now session.old chosen.now (last_main inputs.entry.now) session.new.main) }
+    requires { session.old.main ≡ None }
+    ensures main { OnOk result (spec.IsMain files.entry.now session.old.resolved «package» line.entry.now (last_main line.entry.now.inputs.items) session.new.main) }
     ensures rest { OnOk result (session.new ≡ record session.old { main = session.new.main }) }
-    ensures err { IfErr result (IsHandStop files.entry.now (λ before. IsMainCause files.entry.now session.old chosen.now) inputs.entry.now) }
+    ensures err { IfErr result (IsHandStop files.entry.now session.old.resolved «package» (string_bytes line.entry.now.world) line.entry.now.inputs.items) }
 {
-    for input in inputs {
-        hand_in_one(session, packages, chosen, input, files)?;
+    for input in &line.inputs {
+        hand_in_one(alloc, session, package, line, input, files)?;
     }
     Ok(())
 }
@@ -309,22 +384,70 @@ fn act<'a, O: Write>(
     }
 }
 
+/// Sets the options of a line.
+fn set_options(session: &mut Session<'_>, line: &Line)
+    requires { session.old.options.import_name_map ≡ [] }
+    ensures { session.new ≡ record session.old { options = spec.options_of line.now } }
+{
+    session.merge_imports_based_on_semver(!line.no_merge);
+    session.emit_canonical_names(line.canonical);
+    session.reject_legacy_names(line.reject_legacy);
+    session.shim_return_call_ref(line.return_call_ref);
+    session.debug_names(line.debug_names);
+    session.validate(line.validate);
+}
+
+/// Makes the features of a line active.
+fn activate(session: &mut Session<'_>, line: &Line) -> Result<(), AllocError>
+    requires { session.old.resolved.features.names ≡ [] }
+    ensures { OnOk result (session.new ≡ record session.old { resolved = record session.old.resolved { features = spec.features_of line.now } }) }
+{
+    for feature in &line.features {
+        session.add_feature(feature.as_str())?;
+    }
+    session.all_features(line.all_features);
+    Ok(())
+}
+
+/// A session with the options and features of a line.
+fn opened<'a>(alloc: Global, line: &Line) -> Result<Session<'a>, AllocError>
+    ensures { IfOk result (λ s. s ≡ spec.opened line.now) }
+{
+    let mut session = Session::new(alloc);
+    set_options(&mut session, line);
+    activate(&mut session, line)?;
+    Ok(session)
+}
+
+/// Chooses the world of a line, and hands in its modules.
+fn complete<'a>(
+    alloc: Global,
+    session: &mut Session<'a>,
+    package: PackageId,
+    line: &'a Line,
+    files: &'a [(&'a str, &'a [u8])],
+) -> Result<(), Stop<'a>>
+    requires { session.old.main ≡ None }
+    ensures ok { OnOk result (spec.IsCompleted files.entry.now «package» line.entry.now session.old session.new) }
+    ensures err { IfErr result (IsCompleteStop files.entry.now session.old.resolved «package» line.entry.now) }
+{
+    choose(alloc, session, package, line.world.as_str())?;
+    hand_in(alloc, session, package, line, files)
+}
+
 /// Looks at the files, and hands the texts, the chosen world and the modules to a session.
 fn prepare<'a>(
     alloc: Global,
     line: &'a Line,
     files: &'a [(&'a str, &'a [u8])],
 ) -> Result<Session<'a>, Stop<'a>>
-    ensures ok { IfOk result (Handed files.entry.now line.entry.now) }
-    ensures files { IfOk result (λ _. file_fault files.entry.now line.entry.now.inputs.items ≡ None) }
-    ensures err { IfErr result (IsPrepareStop files.entry.now line.entry.now) }
+    ensures ok { IfOk result (Handed ⟦<PackageName as PartialEq>⟧.eq files.entry.now line.entry.now) }
+    ensures err { IfErr result (IsPrepareStop ⟦<PackageName as PartialEq>⟧.eq files.entry.now line.entry.now) }
 {
     look_at_files(&line.inputs, files)?;
-    let mut session = Session::new(alloc);
-    let packages = push_texts(alloc, &mut session, &line.inputs, files)?;
-    let chosen = line.world.as_str();
-    session.select_world(&packages, Some(chosen))?;
-    hand_in(&mut session, &packages, chosen, &line.inputs, files)?;
+    let mut session = opened(alloc, line)?;
+    let package = push_texts(alloc, &mut session, &line.inputs, files)?;
+    complete(alloc, &mut session, package, line, files)?;
     Ok(session)
 }
 
@@ -335,8 +458,8 @@ fn perform<'a, O: Write>(
     files: &'a [(&'a str, &'a [u8])],
     out: &mut O,
 ) -> Result<u8, Stop<'a>>
-    ensures ok { IfOk result (λ s. IsOutcome files.entry.now line.entry.now s (O.contents out.old) (O.contents out.new)) }
-    ensures err { IfErr result (IsStop files.entry.now line.entry.now (out.new ≡ out.old) (O.contents out.old) (O.contents out.new)) }
+    ensures ok { IfOk result (λ s. IsOutcome ⟦<PackageName as PartialEq>⟧.eq files.entry.now line.entry.now s (O.contents out.old) (O.contents out.new)) }
+    ensures err { IfErr result (IsStop ⟦<PackageName as PartialEq>⟧.eq files.entry.now line.entry.now (out.new ≡ out.old) (O.contents out.old) (O.contents out.new)) }
 {
     let session = prepare(alloc, line, files)?;
     act(alloc, &session, line, files, out)
@@ -383,6 +506,10 @@ fn report<E: Write>(stop: &Stop<'_>, err: &mut E) -> u8
             report_fault(fault, err);
             1
         }
+        Stop::Unresolved(_, text) => {
+            write_texts(&["error: ", text.as_str(), "\n"], err);
+            1
+        }
         Stop::File(path) => {
             write_texts(&["error: file ", path, "\n"], err);
             3
@@ -427,11 +554,11 @@ pub fn run<O: Write, E: Write>(
     err: &mut E,
 ) -> u8
     ensures status { result < 4 }
-    ensures done { result ≡ 0 → IfOk line.now (λ l. IsOutcome files.now l 0 (O.contents out.old) (O.contents out.new)) }
+    ensures done { result ≡ 0 → IfOk line.now (λ l. IsOutcome ⟦<PackageName as PartialEq>⟧.eq files.now l 0 (O.contents out.old) (O.contents out.new)) }
     ensures line { IfErr line.now (λ fault. result ≡ line_status fault) }
     ensures silent { OnErr line.now (out.new ≡ out.old) }
     ensures says { IfErr line.now (λ fault. AppendsFront (E.contents err.old) (E.contents err.new) (line_fault_text fault)) }
-    ensures ends { IfOk line.now (λ l. (IsOutcome files.now l result (O.contents out.old) (O.contents out.new) × (err.new ≡ err.old)) ⊎ IsStopped files.now l (out.new ≡ out.old) (O.contents out.old) (O.contents out.new) result (E.contents err.old) (E.contents err.new)) }
+    ensures ends { IfOk line.now (λ l. (IsOutcome ⟦<PackageName as PartialEq>⟧.eq files.now l result (O.contents out.old) (O.contents out.new) × (err.new ≡ err.old)) ⊎ IsStopped ⟦<PackageName as PartialEq>⟧.eq files.now l (out.new ≡ out.old) (O.contents out.old) (O.contents out.new) result (E.contents err.old) (E.contents err.new)) }
 {
     let line = match line {
         Ok(line) => line,

@@ -1,7 +1,7 @@
 //! The program's own example.
 
-use crate::session::{Session, audit};
 use component_builder::emit;
+use component_session::{Session, audit};
 use std::alloc::Global;
 use std::io::Write;
 use wit_component::{Fault, StringEncoding, lines_of};
@@ -16,10 +16,10 @@ const MODULE: &[u8] = &[
 ];
 
 /// Hands the text and the module over, for the world.
-fn hand_over(session: &mut Session<'static>) -> Result<(), Fault> {
-    let package = session.push_source("a.wit", TEXT)?;
-    let world = session.select_world(&[package], Some("w"))?;
-    session.module(MODULE, world, StringEncoding::UTF8)
+fn hand_over(session: &mut Session<'static>) -> Option<()> {
+    let package = session.push_source("a.wit", TEXT).ok()?;
+    let world = session.select_world([package].as_slice(), Some("w")).ok()?;
+    session.module(MODULE, world, StringEncoding::UTF8).ok()
 }
 
 /// Adds the verdict on the component that is built of the input.
@@ -41,16 +41,16 @@ fn linked(alloc: Global, session: &Session) -> Result<String, Fault> {
 }
 
 /// The links of the example, and the verdict on the component that is built of it.
-fn answer(alloc: Global) -> Result<String, Fault> {
+fn answer(alloc: Global) -> Option<String> {
     let mut session = Session::new(alloc);
     hand_over(&mut session)?;
-    linked(alloc, &session)
+    linked(alloc, &session).ok()
 }
 
 /// Writes the links of a small example and the verdict on its component, and answers the exit status: 0, or 1 where
 /// a call is refused, or 3 where the text can't be written.
 pub fn example<O: Write>(alloc: Global, out: &mut O) -> u8 {
-    let Ok(text) = answer(alloc) else {
+    let Some(text) = answer(alloc) else {
         return 1;
     };
     match emit(text.as_bytes(), out) {

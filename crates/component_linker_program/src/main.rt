@@ -49,7 +49,8 @@ fn words_of<R: Env + AllocGlobal>(rt: &R) -> io::Result<Vec<String>> {
 /// The path that an input names.
 fn path_of(input: &Input) -> &str {
     match input {
-        Input::Text(path) | Input::Main { path, .. } | Input::Component(path) => path.as_str(),
+        Input::Text(path) | Input::Dep(path) | Input::Main { path, .. } | Input::Component(path) =>
+            path.as_str(),
     }
 }
 

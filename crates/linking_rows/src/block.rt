@@ -4,7 +4,7 @@ use crate::command::{write_reading, write_run};
 use crate::page::Page;
 use crate::question::ask;
 use crate::row::{Row, UNREADABLE, read_row};
-use crate::setup::hand_over;
+use crate::setup::{Texts, hand_over};
 use crate::{memory, stops};
 use component_linker::Session;
 use std::alloc::{AllocError, Global};
@@ -14,6 +14,7 @@ use std::alloc::{AllocError, Global};
 struct Desk<'r> {
     alloc: Global,
     session: Session<'r>,
+    texts: Texts,
     /// What was built last.
     built: Option<Vec<u8>>,
     files: Vec<(&'r str, &'r [u8])>,
@@ -26,7 +27,7 @@ impl<'r> Desk<'r> {
         match row {
             Row::Comment => {}
             Row::Unreadable => page.words(UNREADABLE),
-            Row::Setup(setup) => hand_over(alloc, &mut self.session, setup, page),
+            Row::Setup(setup) => hand_over(&mut self.session, &mut self.texts, setup, page),
             Row::Question(question) => {
                 ask(alloc, &mut self.session, &mut self.built, question, page);
             }
@@ -66,6 +67,7 @@ fn answers<'r>(alloc: Global, lines: &[String], rows: &'r [Row<'_>]) -> Result<S
     let mut desk: Desk<'r> = Desk {
         alloc,
         session: Session::new(alloc),
+        texts: Texts::new(),
         built: None,
         files: Vec::new(alloc),
     };

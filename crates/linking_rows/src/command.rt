@@ -2,7 +2,7 @@
 
 use crate::page::Page;
 use crate::spelling::{RowFault, bytes_of, inside_quotes, readable, unescaped};
-use component_linker::{Action, Input, Line, LineFault, read_line, run};
+use component_linker::{Action, Encoding, Input, Line, LineFault, read_line, run};
 use std::alloc::Global;
 
 /// A file that a run can read.
@@ -34,6 +34,7 @@ fn write_field(page: &mut Page, word: &str, text: &str) {
 fn write_input(page: &mut Page, input: &Input) {
     match input {
         Input::Text(path) => write_field(page, "text", path),
+        Input::Dep(path) => write_field(page, "dep", path),
         Input::Component(path) => write_field(page, "component", path),
         Input::Main { world, path } => {
             page.words("  main ");
@@ -45,6 +46,47 @@ fn write_input(page: &mut Page, input: &Input) {
     }
 }
 
+/// A line with the features, if there are some.
+fn write_features(page: &mut Page, features: &[String]) {
+    if features.is_empty() {
+        return;
+    }
+    page.words("  features");
+    for feature in features {
+        page.words(" ");
+        page.quoted(feature);
+    }
+    page.words("\n");
+}
+
+/// A line with the name of a flag, if it is given.
+fn write_flag(page: &mut Page, name: &str, is_given: bool) {
+    if is_given {
+        page.line(name);
+    }
+}
+
+/// A line for each flag that is given.
+fn write_flags(page: &mut Page, line: &Line) {
+    write_flag(page, "all-features", line.all_features);
+    write_flag(page, "no-merge", line.no_merge);
+    write_flag(page, "canonical", line.canonical);
+    write_flag(page, "reject-legacy", line.reject_legacy);
+    write_flag(page, "return-call-ref", line.return_call_ref);
+    write_flag(page, "debug-names", line.debug_names);
+    write_flag(page, "validate", line.validate);
+}
+
+/// A line with the encoding, if it isn't the one that holds where none is named.
+fn write_encoding(page: &mut Page, encoding: Encoding) {
+    match encoding {
+        Encoding::Utf8 => {}
+        Encoding::Utf16 => page.line("encoding utf16"),
+        Encoding::Compact => page.line("encoding compact"),
+    }
+}
+
+/// What a line says, beside its defaults.
 fn write_line(page: &mut Page, line: &Line) {
     page.line(match line.action {
         Action::Build => "build",
@@ -52,6 +94,9 @@ fn write_line(page: &mut Page, line: &Line) {
         Action::Audit => "audit",
     });
     write_field(page, "world", &line.world);
+    write_features(page, &line.features);
+    write_flags(page, line);
+    write_encoding(page, line.encoding);
     if let Some(path) = &line.out {
         write_field(page, "out", path);
     }

@@ -2,11 +2,12 @@
 
 pub const TEXT: &str = "package a:b; world w { import f: func(); }";
 
-/// The files of the row, each by its path.
+/// The files of the row, each by its path, and a text that isn't read.
 pub const FILES: &[(&str, &[u8])] = &[
     ("a.wit", b"package a:b; world w { import f: func(); }"),
     ("m.wasm", IMPORTER),
     ("c.wasm", LOWERED),
+    ("s.wit", b"world"),
 ];
 
 /// Imports `$root` `f` of type () to ().

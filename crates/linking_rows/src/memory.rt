@@ -7,9 +7,10 @@ use crate::first::{IMPORTER, LOWERED, TEXT};
 use crate::page::Page;
 use crate::row::UNREADABLE;
 use component_linker::{
-    Fault, Function, HandedModule, Link, LinkKind, LinkSide, Options, Package, PackageId, Session,
-    StringEncoding, Verdict, WorldId, audit,
+    Fault, HandedModule, Link, LinkKind, LinkSide, Options, PackageId, Resolve, ResolveError,
+    ResolveErrorKind, Session, StringEncoding, Verdict, WorldId, audit,
 };
+use wit_types::{Function, FunctionKind, Package, World, WorldItem, WorldKey};
 
 /// What a session answers by its readers.
 #[derive(Clone, Copy)]
@@ -43,33 +44,78 @@ const READY: Seen = Seen {
     main: true,
 };
 
-/// Whether a package has the names of the text.
-fn has_names(package: &Package) -> bool {
-    package.name.namespace.as_str() == "a"
-        && package.name.name.as_str() == "b"
-        && package.world.name.as_str() == "w"
-}
-
 /// Whether a function is the one that the text imports.
 fn is_imported(function: &Function) -> bool {
-    function.name.as_str() == "f" && function.params.is_empty() && function.result.is_none()
+    function.name.as_str() == "f"
+        && matches!(function.kind, FunctionKind::Freestanding)
+        && function.params.is_empty()
+        && function.result.is_none()
+}
+
+/// Whether an import of a world is that of the text.
+fn is_import_of_text(key: &WorldKey, item: &WorldItem) -> bool {
+    match (key, item) {
+        (WorldKey::Name(name), WorldItem::Function(function)) => {
+            name.as_str() == "f" && is_imported(function)
+        }
+        _ => false,
+    }
+}
+
+/// Whether a world is that of the text.
+fn is_world_of_text(world: &World) -> bool {
+    for (key, item) in world.imports.iter() {
+        if !is_import_of_text(key, item) {
+            return false;
+        }
+    }
+    world.name.as_str() == "w" && world.imports.len() == 1 && world.exports.is_empty()
+}
+
+/// Whether a name and an id are those of the world of the text.
+fn names_world(resolve: &Resolve, name: &str, id: WorldId) -> bool {
+    let worlds = resolve.worlds();
+    if id.index() >= worlds.len() {
+        return false;
+    }
+    name == "w" && is_world_of_text(worlds.get(id))
+}
+
+/// Whether a package has the name of the text, and no interface.
+fn is_named(package: &Package) -> bool {
+    package.name.namespace.as_str() == "a"
+        && package.name.name.as_str() == "b"
+        && package.name.version.is_none()
+        && package.interfaces.is_empty()
 }
 
 /// Whether a package is that of the text.
-fn is_of_text(package: &Package) -> bool {
-    let [import] = package.world.imports.as_slice() else {
-        return false;
-    };
-    has_names(package) && is_imported(import) && package.world.exports.is_empty()
+fn is_of_text(resolve: &Resolve, package: &Package) -> bool {
+    for (name, id) in package.worlds.iter() {
+        if !names_world(resolve, name, *id) {
+            return false;
+        }
+    }
+    is_named(package) && package.worlds.len() == 1
 }
 
-/// Whether the packages are none, or the one of the text.
+/// Whether there are so many packages and worlds, and neither interfaces nor types.
+fn has_counts(resolve: &Resolve, count: usize) -> bool {
+    resolve.packages().len() == count
+        && resolve.worlds().len() == count
+        && resolve.interfaces().len() == 0
+        && resolve.types().len() == 0
+}
+
+/// Whether the packages are none, or the one of the text. Texts may be there either way.
 fn has_packages(session: &Session, pushed: bool) -> bool {
-    match session.packages() {
-        [] => !pushed,
-        [package] => pushed && is_of_text(package),
-        _ => false,
+    let resolve = session.resolve();
+    for package in resolve.packages().iter() {
+        if !is_of_text(resolve, package) {
+            return false;
+        }
     }
+    has_counts(resolve, if pushed { 1 } else { 0 })
 }
 
 /// Whether a main module is the one that is handed in.
@@ -128,27 +174,64 @@ fn answered<T: Drop>(page: &mut Page, outcome: Result<T, Fault>) -> Option<T> {
     }
 }
 
-/// Pushes the text; where memory is refused the session is as it was, and the next try is taken.
+/// What a push or a choice answers where memory may be refused once: its answer, or none for want of memory. Any other refusal
+/// is written.
+fn once_resolved<T: Drop>(
+    page: &mut Page,
+    session: &Session,
+    outcome: Result<T, ResolveError>,
+) -> Option<T> {
+    match outcome {
+        Ok(value) => Some(value),
+        Err(error) => {
+            if *error.kind() != ResolveErrorKind::OutOfMemory {
+                page.unresolved(session, &error);
+            }
+            None
+        }
+    }
+}
+
+/// What a push or a choice answers; a refusal is written.
+fn resolved<T: Drop>(
+    page: &mut Page,
+    session: &Session,
+    outcome: Result<T, ResolveError>,
+) -> Option<T> {
+    match outcome {
+        Ok(value) => Some(value),
+        Err(error) => {
+            page.unresolved(session, &error);
+            None
+        }
+    }
+}
+
+/// Pushes the text; where memory is refused the packages are as they were, and the next try is taken.
 fn push(page: &mut Page, session: &mut Session) -> Option<PackageId> {
-    if let Some(id) = once(page, session.push_source("a.wit", TEXT)) {
+    let pushed = session.push_source("a.wit", TEXT);
+    if let Some(id) = once_resolved(page, session, pushed) {
         return Some(id);
     }
     check_session(page, session, BEFORE);
-    answered(page, session.push_source("a.wit", TEXT))
+    let pushed = session.push_source("a.wit", TEXT);
+    resolved(page, session, pushed)
 }
 
 /// Chooses the world; where memory is refused the session is as it was, and the next try is taken.
 fn choose(page: &mut Page, session: &mut Session, id: PackageId) -> Option<WorldId> {
-    if let Some(world) = once(page, session.select_world(&[id], Some("w"))) {
+    let chosen = session.select_world(&[id], Some("w"));
+    if let Some(world) = once_resolved(page, session, chosen) {
         return Some(world);
     }
     check_session(page, session, PUSHED);
-    answered(page, session.select_world(&[id], Some("w")))
+    let chosen = session.select_world(&[id], Some("w"));
+    resolved(page, session, chosen)
 }
 
 /// Hands in the module, if the world is one of the session.
 fn module(session: &mut Session<'static>, world: WorldId) -> Result<(), Fault> {
-    if world.index() >= session.packages().len() {
+    if world.index() >= session.resolve().worlds().len() {
         return Err(Fault::WorldNotFound);
     }
     session.module(IMPORTER, world, StringEncoding::UTF8)

@@ -1,7 +1,7 @@
 //! What is printed.
 
 use crate::spelling::escaped;
-use component_linker::Fault;
+use component_linker::{Fault, ResolveError, Session};
 use std::alloc::{AllocError, Global};
 use std::fmt::Write;
 
@@ -73,10 +73,30 @@ impl Page {
         }
     }
 
+    /// A text, wherever it stands in a line, if it found memory.
+    pub fn text(&mut self, text: Result<String, AllocError>) {
+        match text {
+            Ok(text) => self.words(&text),
+            Err(_) => self.refuse(),
+        }
+    }
+
     /// The line of a refusal.
     pub fn fault(&mut self, fault: &Fault) {
         let written = write!(self.out, "  {fault}\n");
         self.note(written);
+    }
+
+    /// The line of packages that aren't resolved, or have no such world, with its place in the texts of the session, if it has
+    /// one.
+    pub fn unresolved(&mut self, session: &Session, error: &ResolveError) {
+        let written = write!(self.out, "  {error}");
+        self.note(written);
+        if let Some(span) = error.span() {
+            self.words(" at ");
+            self.text(session.resolve().render_location(span));
+        }
+        self.words("\n");
     }
 
     /// A line with a word and a number.

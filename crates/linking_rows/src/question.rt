@@ -5,6 +5,7 @@ use crate::row::UNREADABLE;
 use crate::spelling::{RowFault, bytes_of, quoted, readable};
 use component_linker::{Link, PackageId, Session, audit};
 use std::alloc::Global;
+use wit_types::Package;
 
 /// What a session is asked.
 #[derive(Drop)]
@@ -57,19 +58,33 @@ pub fn question_of(alloc: Global, word: &str, rest: &str) -> Result<Question, Ro
     }
 }
 
-/// The packages with their worlds, each on a line.
-fn write_packages(page: &mut Page, session: &Session) {
-    if session.packages().is_empty() {
+/// A world of a package, on a line.
+fn write_world(alloc: Global, page: &mut Page, package: &Package, world: &str) {
+    page.words("  ");
+    page.text(package.name.to_text(alloc));
+    page.words("/");
+    page.words(world);
+    page.words("\n");
+}
+
+/// The worlds of a package, each on a line; a package without worlds has one for itself.
+fn write_package(alloc: Global, page: &mut Page, package: &Package) {
+    if package.worlds.is_empty() {
+        page.made(package.name.to_text(alloc));
+    }
+    for (world, _) in package.worlds.iter() {
+        write_world(alloc, page, package, world);
+    }
+}
+
+/// The packages with their worlds.
+fn write_packages(alloc: Global, page: &mut Page, session: &Session) {
+    let packages = session.resolve().packages();
+    if packages.len() == 0 {
         page.line("none");
     }
-    for package in session.packages() {
-        page.words("  ");
-        page.words(&package.name.namespace);
-        page.words(":");
-        page.words(&package.name.name);
-        page.words("/");
-        page.words(&package.world.name);
-        page.words("\n");
+    for package in packages.iter() {
+        write_package(alloc, page, package);
     }
 }
 
@@ -81,7 +96,7 @@ fn write_selection(
 ) {
     match session.select_world(packages, text) {
         Ok(world) => page.number("world", world.index()),
-        Err(fault) => page.fault(&fault),
+        Err(error) => page.unresolved(session, &error),
     }
 }
 
@@ -131,7 +146,7 @@ pub fn ask(
     page: &mut Page,
 ) {
     match question {
-        Question::Packages => write_packages(page, session),
+        Question::Packages => write_packages(alloc, page, session),
         Question::Select(packages, text) => {
             write_selection(
                 session,

@@ -20,13 +20,50 @@ pub enum Setting {
 /// What a session is handed.
 #[derive(Drop)]
 pub enum Setup<'t> {
-    /// A text.
+    /// A text, which is a package by itself.
     Text(String),
-    /// The name of the world to choose, of all packages.
+    /// The name of the world to choose, where the main package is the first that was pushed.
     World(&'t str),
-    /// The main module, for the chosen world or else the first.
+    /// The main module, for the chosen world or else for the first of all.
     Main(Vec<u8>),
     Option(Setting, bool),
+}
+
+/// What texts are called, in their order.
+const PATHS: &[&str] = &[
+    "a.wit", "b.wit", "c.wit", "d.wit", "e.wit", "f.wit", "g.wit", "h.wit",
+];
+
+/// What each text behind those is called.
+const LATER: &str = "later.wit";
+
+/// The texts that a session was handed.
+#[derive(Drop)]
+pub struct Texts {
+    /// How many there are, with those that were refused.
+    count: usize,
+    /// The package of the first that wasn't.
+    main: Option<PackageId>,
+}
+
+impl Texts {
+    /// None.
+    pub fn new() -> Texts {
+        Texts {
+            count: 0,
+            main: None,
+        }
+    }
+
+    /// The path of the next one, which is counted.
+    fn next_path(&mut self) -> &'static str {
+        let place = self.count;
+        self.count = place.saturating_add(1);
+        match PATHS.get(place) {
+            Some(path) => path,
+            None => LATER,
+        }
+    }
 }
 
 /// The option of this name.
@@ -63,14 +100,27 @@ pub fn setup_of<'t>(alloc: Global, word: &str, rest: &'t str) -> Result<Setup<'t
     }
 }
 
-/// Chooses the world of this name among all packages.
-fn choose(alloc: Global, session: &mut Session, name: &str) -> Result<(), Fault> {
-    let mut packages = Vec::new(alloc);
-    for index in 0..session.packages().len() {
-        packages.push(PackageId::from_index(index))?;
+/// Pushes a text, under the next path.
+fn push(session: &mut Session, texts: &mut Texts, text: &str, page: &mut Page) {
+    match session.push_source(texts.next_path(), text) {
+        Ok(id) => {
+            if texts.main.is_none() {
+                texts.main = Some(id);
+            }
+        }
+        Err(error) => page.unresolved(session, &error),
     }
-    session.select_world(&packages, Some(name))?;
-    Ok(())
+}
+
+/// Chooses the world of this name of the main package, if there is one.
+fn choose(session: &mut Session, main: Option<PackageId>, name: &str, page: &mut Page) {
+    let chosen = match main {
+        Some(id) => session.select_world(&[id], Some(name)),
+        None => session.select_world(&[], Some(name)),
+    };
+    if let Err(error) = chosen {
+        page.unresolved(session, &error);
+    }
 }
 
 fn set(session: &mut Session, setting: Setting, on: bool) {
@@ -94,7 +144,7 @@ fn write_refusal(page: &mut Page, outcome: Result<(), Fault>) {
 /// Hands in the main module, where there is a world for it.
 fn hand_in<'r>(session: &mut Session<'r>, bytes: &'r [u8], page: &mut Page) {
     let world = session.world().unwrap_or(WorldId::from_index(0));
-    if world.index() >= session.packages().len() {
+    if world.index() >= session.resolve().worlds().len() {
         return page.words(UNREADABLE);
     }
     write_refusal(page, session.module(bytes, world, StringEncoding::UTF8));
@@ -102,18 +152,14 @@ fn hand_in<'r>(session: &mut Session<'r>, bytes: &'r [u8], page: &mut Page) {
 
 /// Hands a session what the row says, and writes the line of a refusal.
 pub fn hand_over<'r>(
-    alloc: Global,
     session: &mut Session<'r>,
+    texts: &mut Texts,
     setup: &'r Setup<'_>,
     page: &mut Page,
 ) {
     match setup {
-        Setup::Text(text) => {
-            if let Err(fault) = session.push_source("a.wit", text) {
-                page.fault(&fault);
-            }
-        }
-        Setup::World(name) => write_refusal(page, choose(alloc, session, name)),
+        Setup::Text(text) => push(session, texts, text, page),
+        Setup::World(name) => choose(session, texts.main, name, page),
         Setup::Main(bytes) => hand_in(session, bytes, page),
         Setup::Option(setting, on) => set(session, *setting, *on),
     }

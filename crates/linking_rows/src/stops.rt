@@ -246,6 +246,11 @@ const REFUSED: &[Refused] = &[
         1,
     ),
     (
+        &["links", "--world", "w", "text=s.wit"],
+        b"error: S3 Unexpected at s.wit:1:6\n",
+        1,
+    ),
+    (
         &["links", "--world", "w", "text=b.wit"],
         b"error: file b.wit\n",
         3,
@@ -303,7 +308,7 @@ fn refusals(page: &mut Page) {
             status: *status,
         };
         for way in WAYS {
-            for left in 0..32usize {
+            for left in 0..36usize {
                 check_refusal(page, &refusal, left, *way);
             }
         }

@@ -1,6 +1,6 @@
 use Rattle.std.proofs.Common.{◌≡◌, drop}
 use Rattle.std.specs.Prelude.{filter}
-use Rattle.component_linker.specs.Line.{is_component}
+use Rattle.command_line.specs.Line.{is_component}
 use Rattle.component_linker.proofs.program.component_in.Given as goal
 
 abbrev pub invariant-loop-input : goal.invariant-loop-input

@@ -1,68 +1,58 @@
-use Rattle.std.proofs.Common.{◌≡◌, ◌∙◌, Some, None, sym, ap, subst, ◌⊎◌, inl, inr, string_bytes}
-use Rattle.wit_component.specs.declared.fault.Fault.TheVariants as causes
-use Rattle.component_linker.specs.declared.program.Stop.TheVariants as stops
-use Rattle.component_linker.specs.Choice.{NamesWorld}
-use Rattle.component_linker.specs.Input.{Input}
-use Rattle.component_linker.specs.Program.{file_fault, AreSources, ArePackages, IsNamed, IsMain, last_main}
-use Rattle.component_linker.specs.Stops.{IsTextCause, IsMainCause, IsUnnamed, IsHandStop, IsPrepareStop}
+use Rattle.std.proofs.Common.{◌≡◌, ◌∙◌, None, Some, sym, ap, subst}
 use Rattle.wit_component.proofs.Results.{moved_up}
-use Rattle.component_linker.proofs.Files.{prepared}
-use Rattle.component_linker.proofs.Handing.{handed, unnamed, choice_cause}
+use Rattle.wit_resolution.specs.Pushes.{AreTextsPushed, AreTextsError}
+use Rattle.wit_types.specs.contracts.«package».PackageNamePartialEq.TheImpl.{eq-value as package_eq}
+use Rattle.component_session.specs.Input.{Input}
+use Rattle.component_linker.specs.Program.{file_fault, opened, packages_of}
+use Rattle.component_linker.specs.Stops.{IsFileStop, IsTextsStop, IsPrepareStop}
+use Rattle.component_linker.proofs.Handing.{looked, texts_stop, complete_stop, handed}
 use Rattle.component_linker.proofs.program.prepare.Goals as goal
 
-pub returns-in_err-packages-clause-err : goal.returns-in_err-packages-clause-err
-returns-in_err-packages-clause-err c =
+pub returns-in_err-look_at_files-clause-err : goal.returns-in_err-look_at_files-clause-err
+returns-in_err-look_at_files-clause-err c =
     let files = c.args.files.now in
     let line = c.args.line.now in
-    let stop = c.in_err-packages.field-0.0 in
-    let none : file_fault files line.inputs.items ≡ None = ap (file_fault files) (sym c.deref.ensures.value) ∙ c.in_ok-look_at_files.ensures.ok in
-    let why : IsHandStop files (IsTextCause files) line.inputs.items stop = subst (λ is. IsHandStop files (IsTextCause files) is stop) c.deref-2.ensures.value c.in_err-packages.ensures.err in
-    moved_up c.from_residual-in_err-packages.result stop _ c.from_residual-in_err-packages.ensures.1 (prepared files (IsTextCause files) line stop none (λ fault cause. inr (inl cause)) why)
+    let stop = c.in_err-look_at_files.field-0.0 in
+    moved_up c.from_residual.result stop (IsPrepareStop package_eq.it files line) c.from_residual.ensures.1
+    (looked package_eq.it files line stop (subst (λ is. IsFileStop (λ p. file_fault files is ≡ Some p) stop) c.deref.ensures.value c.in_err-look_at_files.ensures.err))
 
-pub returns-in_err-hand_in-clause-err : goal.returns-in_err-hand_in-clause-err
-returns-in_err-hand_in-clause-err c =
+pub returns-in_err-package-clause-err : goal.returns-in_err-package-clause-err
+returns-in_err-package-clause-err c =
     let files = c.args.files.now in
     let line = c.args.line.now in
-    let texts = c.push_texts.new.session in
-    let given = c.select_world.new.self in
-    let chosen = string_bytes line.world in
-    let stop = c.in_err-hand_in.field-0.0 in
-    let none : file_fault files line.inputs.items ≡ None = ap (file_fault files) (sym c.deref.ensures.value) ∙ c.in_ok-look_at_files.ensures.ok in
-    let sources = subst (λ is. AreSources files is texts.sources) c.deref-2.ensures.value c.in_ok-packages.ensures.sources in
-    let taken : AreSources files line.inputs.items given.sources × ArePackages given.sources given.packages = rw c.in_ok-select_world.ensures.ok (sources, c.in_ok-packages.ensures.packages) in
-    let why : IsHandStop files (λ before. IsMainCause files given chosen) line.inputs.items stop =
-    subst (λ t. IsHandStop files (λ before. IsMainCause files given t) line.inputs.items stop) c.as_str-chosen.ensures.value
-    (subst (λ is. IsHandStop files (λ before. IsMainCause files given c.as_str-chosen.result.now) is stop) c.deref-5.ensures.value c.in_err-hand_in.ensures.err) in
-    moved_up c.from_residual-in_err-hand_in.result stop _ c.from_residual-in_err-hand_in.ensures.1
-    (prepared files (λ before. IsMainCause files given chosen) line stop none (λ fault cause. inr (inr (given, taken.0, taken.1, inr cause))) why)
+    let is = line.inputs.items in
+    let stop = c.in_err-package.field-0.0 in
+    let session = c.in_ok-session.session in
+    let none : file_fault files is ≡ None = ap (file_fault files) (sym c.deref.ensures.value) ∙ c.in_ok-look_at_files.ensures.ok in
+    moved_up c.from_residual-in_err-package.result stop (IsPrepareStop package_eq.it files line) c.from_residual-in_err-package.ensures.1
+    (texts_stop package_eq.it files line stop none
+    (subst (λ (i : Input). IsTextsStop files (AreTextsError package_eq.it i.resolved (packages_of files is)) is stop) c.in_ok-session.ensures
+    (subst (λ js. IsTextsStop files (AreTextsError package_eq.it session.resolved (packages_of files js)) js stop) c.deref-2.ensures.value c.in_err-package.ensures.err)))
 
-pub returns-in_err-select_world-clause-err : goal.returns-in_err-select_world-clause-err
-returns-in_err-select_world-clause-err c =
+pub returns-in_err-complete-clause-err : goal.returns-in_err-complete-clause-err
+returns-in_err-complete-clause-err c =
     let files = c.args.files.now in
     let line = c.args.line.now in
+    let is = line.inputs.items in
+    let stop = c.in_err-complete.field-0.0 in
     let texts = c.push_texts.new.session in
-    let fault = c.in_err-select_world.field-0.0 in
-    let sources = subst (λ is. AreSources files is texts.sources) c.deref-2.ensures.value c.in_ok-packages.ensures.sources in
-    let mains = c.deref-3.ensures.value ∙ c.in_ok-packages.ensures.places in
-    let cause =
-    subst (λ t. (fault ≡ causes.OutOfMemory) ⊎ IsUnnamed texts t fault) c.as_str-chosen.ensures.value
-    (unnamed texts c.deref-3.result.now c.as_str-chosen.result.now fault mains c.in_err-select_world.ensures.cause c.in_err-select_world.ensures.only) in
-    moved_up c.from_residual-in_err-select_world.result (stops.Refused fault) (IsPrepareStop files line) c.from_residual-in_err-select_world.ensures.1
-    (choice_cause files line texts fault sources c.in_ok-packages.ensures.packages cause)
+    let main = c.in_ok-package.«package» in
+    let none : file_fault files is ≡ None = ap (file_fault files) (sym c.deref.ensures.value) ∙ c.in_ok-look_at_files.ensures.ok in
+    moved_up c.from_residual-in_err-complete.result stop (IsPrepareStop package_eq.it files line) c.from_residual-in_err-complete.ensures.1
+    (complete_stop package_eq.it files line texts.resolved main stop none
+    (subst (λ (i : Input). AreTextsPushed package_eq.it i.resolved (packages_of files is) texts.resolved main) c.in_ok-session.ensures
+    (subst (λ js. AreTextsPushed package_eq.it c.in_ok-session.session.resolved (packages_of files js) texts.resolved main) c.deref-2.ensures.value c.in_ok-package.ensures.ok))
+    c.in_err-complete.ensures.err)
 
 pub returns-clause-ok : goal.returns-clause-ok
 returns-clause-ok c =
     let files = c.args.files.now in
+    let line = c.args.line.now in
+    let is = line.inputs.items in
+    let first = c.in_ok-session.session in
     let texts = c.push_texts.new.session in
-    let chosen = c.select_world.new.self in
-    let given = c.hand_in.new.session in
-    let world = c.in_ok-select_world.field-0 in
-    let sources = subst (λ is. AreSources files is texts.sources) c.deref-2.ensures.value c.in_ok-packages.ensures.sources in
-    let options = c.in_ok-packages.ensures.rest.1 ∙ ap (λ (i : Input). i.options) c.new-session.ensures in
-    let mains = c.deref-3.ensures.value ∙ c.in_ok-packages.ensures.places in
-    let among = subst (λ ps. NamesWorld texts ps (Some c.as_str-chosen.result.now) world) mains c.in_ok-select_world.ensures.named in
-    let named = subst (λ t. IsNamed texts t world) c.as_str-chosen.ensures.value among in
-    let main =
-    subst (λ t. IsMain files chosen t (last_main c.args.line.now.inputs.items) given.main) c.as_str-chosen.ensures.value
-    (subst (λ is. IsMain files chosen c.as_str-chosen.result.now (last_main is) given.main) c.deref-5.ensures.value c.in_ok-hand_in.ensures.main) in
-    handed files c.args.line.now world texts chosen given sources c.in_ok-packages.ensures.packages options named c.in_ok-select_world.ensures.ok main c.in_ok-hand_in.ensures.rest
+    let main = c.in_ok-package.«package» in
+    let none : file_fault files is ≡ None = ap (file_fault files) (sym c.deref.ensures.value) ∙ c.in_ok-look_at_files.ensures.ok in
+    handed package_eq.it files line first texts c.complete.new.session main none c.in_ok-session.ensures
+    (subst (λ js. AreTextsPushed package_eq.it first.resolved (packages_of files js) texts.resolved main) c.deref-2.ensures.value c.in_ok-package.ensures.ok)
+    c.in_ok-package.ensures.rest c.in_ok-complete.ensures.ok

@@ -1,5 +1,0 @@
-use Rattle.component_linker.proofs.Right.{written_right}
-use Rattle.component_linker.proofs.law.law_written_is_right.Goals as goal
-
-pub returns : goal.returns
-returns c = written_right

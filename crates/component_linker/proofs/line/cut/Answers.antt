@@ -1,6 +1,0 @@
-use Rattle.std.proofs.Common.{arith}
-use Rattle.std.proofs.lemmas.Str.Pattern.{split_parts}
-use Rattle.component_linker.proofs.line.cut.Goals as goal
-
-pub returns : goal.returns
-returns c = split_parts 61 c.args.text.now c.split_once.result c.split_once.ensures.cases (omega arith)
