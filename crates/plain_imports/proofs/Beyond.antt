@@ -1,7 +1,7 @@
 -- Core imports that are read.
 use Rattle.std.proofs.Common.{◌≡◌, ◌<◌, ◌≤◌, ◌+◌, ◌⊎◌, ℕ, zero, suc, true, false, List, [], ◌∷◌, Any, Option, Some, None, map, drop, length, get_or, refl, sym, ap, subst, ◌∙◌, add-one, arith, inl, inr}
 use Rattle.std.specs.Prelude.{slice_get}
-use Rattle.std.proofs.lemmas.Option.{same_Some}
+use Rattle.std.proofs.lemmas.Option.{same_Some, slice_get_within}
 use Rattle.wasm_types.specs.Entries.{ImportValue}
 use Rattle.wit_core_items.specs.World.{core_imports, ImportStandsFor, IsReadAs}
 use Rattle.wit_core_names.specs.Items.{CoreImport}
@@ -13,17 +13,12 @@ use Rattle.plain_imports.specs.Imports.{IsBeyond, is_own}
 
 -- ---- one import
 
-within : {X : Type 0} (xs : List X) (i : ℕ) (x : X) → slice_get xs i ≡ Some x → i < length xs
-within [] i x at = absurd cc
-within (y ∷ xs) zero x at = omega arith
-within (y ∷ xs) (suc i) x at = (let l : i < length xs = within xs i x at in omega (arith, l))
-
 module _ (k : Known) (w : World) (names : List (List ℕ)) (i : ImportValue) where
   abbrev Stands : ℕ → Type 0
   Stands j = ImportStandsFor k w true i.place i.name j
 
   pub stands_within : (j : ℕ) → Stands j → j < length (core_imports k w)
-  stands_within j (x, at, named) = within (core_imports k w) j x at
+  stands_within j (x, at, named) = omega (arith, slice_get_within (core_imports k w) j x at)
 
   pub nothing_fits : (found : Option Meaning) → IsReadAs Stands found → found ≡ None → IsBeyond k w names i → ⊥
   nothing_fits found read none (IsBeyond.other j x stands at isnt) = read.none none j stands
