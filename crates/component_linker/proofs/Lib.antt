@@ -1,5 +1,4 @@
 pub mod Files
-pub mod Texts
 pub mod Opened
 pub mod Handing
 pub mod Answering
