@@ -1,7 +1,8 @@
 -- Texts, one behind the other, and where something stands in them.
-use Rattle.std.specs.Prelude.{◌≡◌, ℕ, ◌+◌, ◌⊎◌, List, [], ◌∷◌, ◌++◌, length, filter, Bool, true, ◌==◌, nat_lt, not, ◌&&◌, nat_le, string_bytes}
+use Rattle.std.specs.Prelude.{◌≡◌, ℕ, ◌+◌, ◌⊎◌, List, [], ◌∷◌, ◌++◌, length, map, filter, Bool, true, ◌==◌, nat_lt, not, ◌&&◌, nat_le, string_bytes}
 use Rattle.std.specs.List.{list_all}
 use Rattle.wit_words.specs.declared.source_map.Source.{Source}
+use Rattle.wit_words.specs.declared.source_map.SourceNames.{SourceNames}
 
 -- a text, by its path
 pub record SourceText : Type 0 where
@@ -15,6 +16,13 @@ source_text s = record { path = string_bytes s.path; contents = string_bytes s.c
 abbrev pub total : List SourceText → ℕ
 total [] = 0
 total (s ∷ ss) = length s.contents + total ss
+
+-- the paths of texts
+abbrev pub paths_of : List SourceText → List (List ℕ)
+paths_of texts = map (λ t. t.path) texts
+
+abbrev pub paths_left : SourceNames → List (List ℕ)
+paths_left names = paths_of (map source_text names.sources.now)
 
 -- ---- lines and columns, from 1
 

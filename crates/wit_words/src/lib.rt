@@ -18,6 +18,6 @@ pub use identifier::{is_identifier, validate_id};
 pub use keywords::keyword;
 pub use law::law_semver_reads_versions;
 pub use name_key::{NameKey, law_name_keys_fold_as_names_do};
-pub use source_map::{SourceFault, SourceMap, Span};
+pub use source_map::{SourceFault, SourceMap, SourceNames, Span};
 pub use token::{Comment, DocumentedToken, Kind, Token, same_kind};
 pub use version::{is_read_by_semver, version_len};

@@ -2,7 +2,7 @@
 
 ghost use Rattle.std.specs.Prelude.{◌≡◌, ◌+◌, ◌≤◌, ◌^◌, ◌⊎◌, ◌<◌, ◌++◌, ◌∷◌, [], true, length, string_bytes, IfOk, IfErr, OnOk, OnErr};
 ghost use Rattle.wit_words.specs.Sources as spec;
-ghost use Rattle.wit_words.specs.Sources.{total, IsLastLine, line_behind, column_behind};
+ghost use Rattle.wit_words.specs.Sources.{total, paths_of, paths_left, IsLastLine, line_behind, column_behind};
 
 use crate::fault::SyntaxFault;
 use std::alloc::{AllocError, AllocFailed, Global};
@@ -129,6 +129,15 @@ impl SourceMap {
         Ok(first)
     }
 
+    /// The paths of the texts, in order.
+    pub fn source_names(&self) -> SourceNames<'_>
+        ensures { paths_left result ≡ paths_of self.now }
+    {
+        SourceNames {
+            sources: self.sources.as_slice(),
+        }
+    }
+
     /// Where a span begins, as `PATH:LINE:COLUMN`, both from 1, the column in characters: in the first text in which all
     /// of the span lies. A span that lies in none has no place, which is `?`.
     pub fn render_location(&self, span: Span) -> Result<String, AllocError> {
@@ -153,6 +162,29 @@ impl SourceMap {
             }
             other => format!(in self.alloc; "{other}"),
         }
+    }
+}
+
+/// The paths of a source map's texts that are still to come.
+#[derive(Clone, Copy)]
+pub struct SourceNames<'a> {
+    sources: &'a [Source],
+}
+
+impl<'a> Iterator for SourceNames<'a> {
+    type Item = &'a str;
+
+    ghost use Rattle.std.specs.Iterator.{YieldsFirstBy, item_count};
+    ghost use Rattle.wit_words.specs.Sources.{paths_left};
+
+    ghost next_gives = { YieldsFirstBy (λ path. path.now) paths_left };
+
+    ghost remaining = { item_count paths_left };
+
+    fn next(&mut self) -> Option<&'a str> {
+        let (first, others) = self.sources.split_first()?;
+        self.sources = others;
+        Some(first.path.as_str())
     }
 }
 
