@@ -1,5 +1,5 @@
 -- What is known of types is what their trees say.
-use Rattle.std.proofs.Common.{◌≡◌, ℕ, ◌+◌, ◌<◌, true, false, ◌||◌, List, [], ◌∷◌, ◌++◌, inl, inr, length, Option, Some, None, map, get_or, refl, sym, subst, ap, ◌∙◌}
+use Rattle.std.proofs.Common.{◌≡◌, ℕ, ◌+◌, ◌<◌, Bool, true, false, ◌||◌, ◌&&◌, List, [], ◌∷◌, ◌++◌, inl, inr, length, Option, Some, None, map, get_or, refl, sym, subst, ap, ◌∙◌}
 use Rattle.std.proofs.lemmas.Option.{same_Some, slice_get_within}
 use Rattle.std.proofs.lemmas.Bool.{cases_Bool}
 use Rattle.std.proofs.lemmas.List.{get_or_append_left, get_or_push, length_push}
@@ -18,8 +18,8 @@ use Rattle.wit_arena.specs.Tree.{Name, Owner, Tree, TreeOption, Trees, no_tree, 
 use Rattle.wit_arena.specs.Unfold.{Owners, flat, and_then, ref_tree, value_tree, part_tree, part_trees, kind_tree, named_kind_tree, owner_of, nameless_tree, def_tree_of, def_tree, trees_from, trees}
 use Rattle.wit_arena.proofs.Lists.{get_more}
 use Rattle.wit_arena.proofs.Unfolding.{flat_some, option_map_some}
-use Rattle.wit_resources.specs.Holding.{holds_borrow, part_holds_borrow, parts_hold_borrow}
-use Rattle.wit_resources.specs.Natures.{nature_of, plain, holding, ref_nature, part_holds, one_holds, kind_nature, natures_from, natures}
+use Rattle.wit_resources.specs.Holding.{holds_borrow, part_holds_borrow, parts_hold_borrow, all_bits_valid, part_all_bits_valid, parts_all_bits_valid}
+use Rattle.wit_resources.specs.Natures.{nature_of, plain, made_of, holding, ref_nature, part_holds, one_holds, part_is_valid, all_valid, kind_nature, natures_from, natures}
 use Rattle.wit_resources.specs.declared.natures.Nature.{Nature}
 
 -- ---- options
@@ -42,6 +42,16 @@ value_holds t = elim (cases_Bool (is_resource t)) [
   | inl r ↦ rw r (sym (resource_holds t r))
   | inr r ↦ rw r refl
 ]
+
+-- a name changes nothing of what is known
+named_nature : (o : Owner) (x : Name) (t : Tree) → nature_of t ≡ nature_of (named_tree o x t)
+named_nature o x t = elim (cases_Bool (is_resource t)) [
+  | inl r ↦ rw r refl
+  | inr r ↦ rw r refl
+]
+
+made_alike : {b c v w : Bool} → b ≡ c → v ≡ w → made_of b v ≡ made_of c w
+made_alike {b} {c} {v} {w} h k = ap (λ (x : Bool). made_of x v) h ∙ ap (λ (x : Bool). made_of c x) k
 
 -- ---- one by one
 
@@ -84,17 +94,33 @@ module _ (done : List (Option Tree)) (ns : List Nature) (agree : Agree done ns) 
       let m = option_map_some (trees_and c.0) (part_trees done (map part xs)) us c.2 in
       ap (λ b. b || one_holds ns part xs) (part_agrees (part x) c.0 c.1) ∙ ap (λ b. part_holds_borrow c.0 || b) (parts_agree part xs m.0 m.1) ∙ ap parts_hold_borrow m.2
 
+  pub value_is_valid : (r : Ref) (v : Tree) → value_tree done r ≡ Some v → (ref_nature ns r).all_bits_valid ≡ all_bits_valid v
+  value_is_valid r v h =
+      let m = option_map_some value_of (ref_tree done r) v h in
+      ap (λ (n : Nature). n.all_bits_valid) (ref_agrees r m.0 m.1) ∙ ap all_bits_valid m.2
+
+  part_agrees_valid : (p : Option Ref) (u : TreeOption) → part_tree done p ≡ Some u → part_is_valid ns p ≡ part_all_bits_valid u
+  part_agrees_valid None u h = ap part_all_bits_valid (same_Some no_tree u h)
+  part_agrees_valid (Some r) u h = let m = option_map_some a_tree (value_tree done r) u h in value_is_valid r m.0 m.1 ∙ ap part_all_bits_valid m.2
+
+  parts_agree_valid : {X : Type 0} (part : X → Option Ref) (xs : List X) (us : Trees) → part_trees done (map part xs) ≡ Some us → all_valid ns part xs ≡ parts_all_bits_valid us
+  parts_agree_valid part [] us h = ap parts_all_bits_valid (same_Some no_trees us h)
+  parts_agree_valid part (x ∷ xs) us h =
+      let c = chained (λ t. option_map (trees_and t) (part_trees done (map part xs))) (part_tree done (part x)) us h in
+      let m = option_map_some (trees_and c.0) (part_trees done (map part xs)) us c.2 in
+      ap (λ b. b && all_valid ns part xs) (part_agrees_valid (part x) c.0 c.1) ∙ ap (λ b. part_all_bits_valid c.0 && b) (parts_agree_valid part xs m.0 m.1) ∙ ap parts_all_bits_valid m.2
+
   kind_agrees : (k : TypeDefKind) (u : Tree) → kind_tree done k ≡ Some u → kind_nature ns k ≡ nature_of u
   kind_agrees (kind.Record r) u h =
       let m = option_map_some (record_tree (map (λ f. string_bytes f.name) r.fields.items)) (part_trees done (map (λ f. Some f.ty) r.fields.items)) u h in
-      ap holding (parts_agree (λ f. Some f.ty) r.fields.items m.0 m.1) ∙ ap nature_of m.2
+      made_alike (parts_agree (λ f. Some f.ty) r.fields.items m.0 m.1) (parts_agree_valid (λ f. Some f.ty) r.fields.items m.0 m.1) ∙ ap nature_of m.2
   kind_agrees kind.Resource u h = absurd cc
   kind_agrees (kind.Handle (handle.Own i)) u h = let m = option_map_some own_tree (flat (slice_get done i)) u h in ap nature_of m.2
   kind_agrees (kind.Handle (handle.Borrow i)) u h = let m = option_map_some borrow_tree (flat (slice_get done i)) u h in ap nature_of m.2
   kind_agrees (kind.Flags f) u h = ap nature_of (same_Some (flags_tree (map (λ l. string_bytes l.name) f.flags.items)) u h)
   kind_agrees (kind.Tuple t) u h =
       let m = option_map_some tuple_tree (part_trees done (map (λ r. Some r) t.types.items)) u h in
-      ap holding (parts_agree (λ r. Some r) t.types.items m.0 m.1) ∙ ap nature_of m.2
+      made_alike (parts_agree (λ r. Some r) t.types.items m.0 m.1) (parts_agree_valid (λ r. Some r) t.types.items m.0 m.1) ∙ ap nature_of m.2
   kind_agrees (kind.Variant v) u h =
       let m = option_map_some (variant_tree (map (λ c. string_bytes c.name) v.cases.items)) (part_trees done (map (λ c. c.ty) v.cases.items)) u h in
       ap holding (parts_agree (λ c. c.ty) v.cases.items m.0 m.1) ∙ ap nature_of m.2
@@ -105,14 +131,14 @@ module _ (done : List (Option Tree)) (ns : List Nature) (agree : Agree done ns) 
       let m = option_map_some (result_tree c.0) (part_tree done r.err) u c.2 in
       ap (λ b. holding (b || part_holds ns r.err)) (part_agrees r.ok c.0 c.1) ∙ ap (λ b. holding (part_holds_borrow c.0 || b)) (part_agrees r.err m.0 m.1) ∙ ap nature_of m.2
   kind_agrees (kind.List r) u h = let m = option_map_some list_tree (value_tree done r) u h in ap holding (value_agrees r m.0 m.1) ∙ ap nature_of m.2
-  kind_agrees (kind.FixedLengthList r n) u h = let m = option_map_some (λ t. fixed_length_list_tree t n) (value_tree done r) u h in ap holding (value_agrees r m.0 m.1) ∙ ap nature_of m.2
+  kind_agrees (kind.FixedLengthList r n) u h = let m = option_map_some (λ t. fixed_length_list_tree t n) (value_tree done r) u h in made_alike (value_agrees r m.0 m.1) (value_is_valid r m.0 m.1) ∙ ap nature_of m.2
   kind_agrees (kind.Future r) u h = let m = option_map_some future_tree (part_tree done r) u h in ap holding (part_agrees r m.0 m.1) ∙ ap nature_of m.2
   kind_agrees (kind.Stream r) u h = let m = option_map_some stream_tree (part_tree done r) u h in ap holding (part_agrees r m.0 m.1) ∙ ap nature_of m.2
   kind_agrees (kind.Alias r) u h = ref_agrees r u h
   kind_agrees kind.Unknown u h = absurd cc
 
   other_agrees : (o : Owner) (x : Name) (k : TypeDefKind) (u : Tree) → option_map (named_tree o x) (kind_tree done k) ≡ Some u → kind_nature ns k ≡ nature_of u
-  other_agrees o x k u h = let m = option_map_some (named_tree o x) (kind_tree done k) u h in kind_agrees k m.0 m.1 ∙ ap nature_of m.2
+  other_agrees o x k u h = let m = option_map_some (named_tree o x) (kind_tree done k) u h in kind_agrees k m.0 m.1 ∙ named_nature o x m.0 ∙ ap nature_of m.2
 
   named_agrees : (o : Owner) (x : Name) (k : TypeDefKind) (u : Tree) → named_kind_tree resource_leaf done o x k ≡ Some u → kind_nature ns k ≡ nature_of u
   named_agrees o x kind.Resource u h = ap nature_of (same_Some (resource_leaf o x) u h)

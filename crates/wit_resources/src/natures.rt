@@ -17,6 +17,9 @@ pub struct Nature {
     pub is_resource: bool,
     /// Whether a `borrow` stands in it, by whatever names.
     pub holds_borrow: bool,
+    /// Whether any bits in as much memory as a value takes are a value, as far as bits go (Canonical ABI, Loading): of
+    /// integers, floating-point numbers and handles, and of what has these alone side by side.
+    pub all_bits_valid: bool,
 }
 
 /// What is known of the types of an arena, by their ids.
@@ -35,13 +38,21 @@ impl Model for Natures {
 }
 
 /// Of a type that is no resource.
-fn holding(holds_borrow: bool) -> Nature
-    ensures { result ≡ spec.holding holds_borrow }
+fn made_of(holds_borrow: bool, all_bits_valid: bool) -> Nature
+    ensures { result ≡ spec.made_of holds_borrow all_bits_valid }
 {
     Nature {
         is_resource: false,
         holds_borrow,
+        all_bits_valid,
     }
+}
+
+/// Of a type that is no resource and not any bits of which are a value.
+fn holding(holds_borrow: bool) -> Nature
+    ensures { result ≡ spec.holding holds_borrow }
+{
+    made_of(holds_borrow, false)
 }
 
 /// What is known of a type where it is used.
@@ -53,7 +64,8 @@ fn of_ref(known: &[Nature], ty: &Type) -> Nature
             Some(nature) => *nature,
             None => holding(false),
         },
-        _ => holding(false),
+        Type::Bool | Type::Char | Type::String | Type::ErrorContext => holding(false),
+        _ => made_of(false, true),
     }
 }
 
@@ -83,6 +95,22 @@ fn types_hold(known: &[Nature], types: &[Type]) -> bool
     types.iter().any(|ty| of_ref(known, ty).holds_borrow)
 }
 
+/// Whether any bits are a value of each field.
+fn fields_are_valid(known: &[Nature], fields: &[Field]) -> bool
+    ensures { result ≡ spec.all_valid known.now (λ f. Some f.ty) fields.now }
+{
+    fields
+        .iter()
+        .all(|field| of_ref(known, &field.ty).all_bits_valid)
+}
+
+/// Whether any bits are a value of each of the types.
+fn types_are_valid(known: &[Nature], types: &[Type]) -> bool
+    ensures { result ≡ spec.all_valid known.now (λ t. Some t) types.now }
+{
+    types.iter().all(|ty| of_ref(known, ty).all_bits_valid)
+}
+
 /// Whether a `borrow` stands in a case.
 fn cases_hold(known: &[Nature], cases: &[Case]) -> bool
     ensures { result ≡ spec.one_holds known.now (λ c. c.ty) cases.now }
@@ -98,16 +126,24 @@ fn of_kind(known: &[Nature], kind: &TypeDefKind) -> Nature
         TypeDefKind::Resource | TypeDefKind::Unknown => Nature {
             is_resource: true,
             holds_borrow: false,
+            all_bits_valid: true,
         },
-        TypeDefKind::Handle(Handle::Borrow(_)) => holding(true),
-        TypeDefKind::Handle(Handle::Own(_)) | TypeDefKind::Flags(_) | TypeDefKind::Enum(_) => {
-            holding(false)
+        TypeDefKind::Handle(Handle::Borrow(_)) => made_of(true, true),
+        TypeDefKind::Handle(Handle::Own(_)) => made_of(false, true),
+        TypeDefKind::Flags(_) | TypeDefKind::Enum(_) => holding(false),
+        TypeDefKind::Record(record) => {
+            let fields = record.fields.as_slice();
+            made_of(fields_hold(known, fields), fields_are_valid(known, fields))
         }
-        TypeDefKind::Record(record) => holding(fields_hold(known, record.fields.as_slice())),
-        TypeDefKind::Tuple(tuple) => holding(types_hold(known, tuple.types.as_slice())),
+        TypeDefKind::Tuple(tuple) => {
+            let types = tuple.types.as_slice();
+            made_of(types_hold(known, types), types_are_valid(known, types))
+        }
         TypeDefKind::Variant(variant) => holding(cases_hold(known, variant.cases.as_slice())),
-        TypeDefKind::Option(ty) | TypeDefKind::List(ty) | TypeDefKind::FixedLengthList(ty, _) => {
-            holding(of_ref(known, ty).holds_borrow)
+        TypeDefKind::Option(ty) | TypeDefKind::List(ty) => holding(of_ref(known, ty).holds_borrow),
+        TypeDefKind::FixedLengthList(ty, _) => {
+            let element = of_ref(known, ty);
+            made_of(element.holds_borrow, element.all_bits_valid)
         }
         TypeDefKind::Result(parts) => {
             holding(part_holds(known, &parts.ok) || part_holds(known, &parts.err))
@@ -135,6 +171,13 @@ impl Natures {
             Some(nature) => *nature,
             None => holding(false),
         }
+    }
+
+    /// Whether any bits in as much memory as a value of a type takes are one, as far as bits go.
+    pub fn all_bits_valid(&self, ty: &Type) -> bool
+        ensures { result ≡ (spec.ref_nature self.now ty.now).all_bits_valid }
+    {
+        of_ref(self.known.as_slice(), ty).all_bits_valid
     }
 
     /// Whether a `borrow` stands in a part that may be missing.
