@@ -1,12 +1,13 @@
 -- What is kept is what paths reach.
-use Rattle.std.proofs.Common.{◌≡◌, ℕ, zero, suc, ◌+◌, ◌<◌, ◌≤◌, ◌↔◌, List, [], ◌∷◌, ◌++◌, inl, inr, Some, Vec, refl, sym, subst, ap, ◌∙◌, arith, append_assoc, length, length-append, get_or}
+use Rattle.std.proofs.Common.{◌≡◌, ℕ, ◌+◌, ◌<◌, ◌≤◌, ◌↔◌, List, [], ◌∷◌, ◌++◌, inl, inr, Some, Vec, refl, sym, subst, ap, ◌∙◌, arith, append_assoc, length, length-append, get_or}
 use Rattle.std.specs.declared.alloc.Global.{Global}
 use Rattle.std.proofs.lemmas.Option.{slice_get_within, slice_get-get_or}
 use Rattle.std.specs.Prelude.{slice_get}
 use Rattle.wit_order.specs.Order.{Has}
 use Rattle.wit_order.specs.Places.{Rows, row, Needs}
-use Rattle.wit_order.proofs.Lists.{row_past, row_read}
+use Rattle.wit_order.proofs.Lists.{row_read}
 use Rattle.wit_reach.specs.Paths.{AreBackward, IsPath, Reaches, AreEnds}
+use Rattle.wit_reach.proofs.Growing.{reaches_more, reaches_was}
 use Rattle.wit_closures.specs.Closures.{IsNext, AreReached}
 use Rattle.wit_closures.proofs.Next.{get_more}
 
@@ -54,32 +55,14 @@ next_reached rows closures deps closure backward reached uses next i c at =
 
 -- ---- more behind
 
-row_kept : (rows more : Rows) (i : ℕ) → i < length rows → row (rows ++ more) i ≡ row rows i
-row_kept [] more i l = absurd (omega arith)
-row_kept (r ∷ rows) more zero l = refl
-row_kept (r ∷ rows) more (suc i) l = row_kept rows more i (omega arith)
-
-path_more : (rows more : Rows) (a : ℕ) (via : List ℕ) (b : ℕ) → IsPath (Needs rows) a via b → IsPath (Needs (rows ++ more)) a via b
-path_more rows more a [] b e = e
-path_more rows more a (k ∷ via) b p =
-    (subst (λ (l : List ℕ). Has l k) (sym (row_kept rows more a (row_past rows a k p.0))) p.0, path_more rows more k via b p.1)
-
--- one from where nothing is new is none that is new
-path_less : (rows more : Rows) (a : ℕ) (via : List ℕ) (b : ℕ) → AreBackward (Needs rows) → a < length rows → IsPath (Needs (rows ++ more)) a via b → IsPath (Needs rows) a via b
-path_less rows more a [] b backward l e = e
-path_less rows more a (k ∷ via) b backward l p =
-    let used : Needs rows a k = subst (λ (r : List ℕ). Has r k) (row_kept rows more a l) p.0 in
-    let less : k < a = backward a k used in
-    (used, path_less rows more k via b backward (omega (arith, less, l)) p.1)
-
 pub reached_stay : (rows more : Rows) (closures : List (List ℕ)) → AreBackward (Needs rows) → length closures ≤ length rows → AreReached rows closures → AreReached (rows ++ more) closures
 reached_stay rows more closures backward long reached i c at =
     let was : AreEnds (Needs rows) (λ s. s ≡ i) c = reached i c at in
     let within : i < length closures = slice_get_within closures i c at in
     let less : i < length rows = omega (arith, within, long) in
     record {
-      all = λ j s e r. was.all j s e (r.0, path_less rows more s r.0 j backward (subst (λ (k : ℕ). k < length rows) (sym e) less) r.1);
-      only = λ j h. (let o = was.only j h in (o.0, o.1, (o.2.0, path_more rows more o.0 o.2.0 j o.2.1)));
+      all = λ j s e r. was.all j s e (reaches_was rows more s j backward (subst (λ (k : ℕ). k < length rows) (sym e) less) r);
+      only = λ j h. (let o = was.only j h in (o.0, o.1, reaches_more rows more o.0 j o.2));
       rising = was.rising;
     }
 

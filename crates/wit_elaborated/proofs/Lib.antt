@@ -1,2 +1,4 @@
 mod Elaborating
 mod Listed
+pub mod Staying
+mod Containing

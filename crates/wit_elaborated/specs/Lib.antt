@@ -1,2 +1,3 @@
 pub mod Elaborated
 pub mod Worlds
+pub mod Staying

@@ -16,7 +16,7 @@ ghost use Rattle.wit_plans.specs.Plans.{standing};
 ghost use Rattle.wit_placed.specs.There.{AreBelow};
 ghost use Rattle.wit_resources.specs.Natures.{natures as natures_of};
 ghost use Rattle.wit_resources.specs.declared.natures.Nature.{Nature};
-ghost use Rattle.wit_graph_worlds.specs.Sound.{AreSound};
+ghost use Rattle.wit_graph_worlds.specs.Sound.{AreElaborated, AreSound};
 ghost use Rattle.wit_graph_parts.specs.Interfaces.{HasGrown};
 ghost use Rattle.wit_graph_parts.specs.Parts as spec;
 
@@ -162,6 +162,7 @@ pub fn add_own_worlds(
     requires rows { length interfaces.now.uses ≡ length interfaces.now.all }
     requires uses { AreBackward (Uses interfaces.now.uses) }
     requires sound { AreSound (length interfaces.now.uses) types.old worlds.old }
+    requires elaborated { AreElaborated types.old interfaces.now.all interfaces.now.uses worlds.old }
     requires natures { natures.now ≡ natures_of types.old }
     requires below { AreBelow (length types.old) by.now.plan.now.types }
     requires among { AreBelow (length interfaces.now.uses) by.now.plan.now.owners.interfaces }
@@ -169,6 +170,7 @@ pub fn add_own_worlds(
     requires keys { (w : World) → Has own.items w → AreKeysOfItems w.imports.entries }
     ensures ok { IfOk result (λ names. spec.AreWorldsAdded by.now.features.now (standing (owners by.now.plan.now.owners) by.now.plan.now.types) by.now.owner interfaces.now own.items types.old types.new worlds.old worlds.new names.entries) }
     ensures sound { OnOk result (AreSound (length interfaces.now.uses) types.new worlds.new) }
+    ensures elaborated { OnOk result (AreElaborated types.new interfaces.now.all interfaces.now.uses worlds.new) }
     ensures cause { IfErr result (spec.IsWorldsCause by.now.features.now (standing (owners by.now.plan.now.owners) by.now.plan.now.types) by.now.owner interfaces.now own.items types.old worlds.old) }
     ensures types_grown { (more : List TypeDef) × (types.new ≡ types.old ++ more) }
     ensures listed_grown { (more : List World) × (worlds.new.listed ≡ worlds.old.listed ++ more) }

@@ -24,7 +24,7 @@ use Rattle.wit_graph_worlds.proofs.Including.{AreNamed, IsJoinedNamed, joined_na
 
 -- ---- more types leave what is there
 
-types_more : (types more : List TypeDef) (ids : List ℕ) → AreTypesThere types ids → AreTypesThere (types ++ more) ids
+pub types_more : (types more : List TypeDef) (ids : List ℕ) → AreTypesThere types ids → AreTypesThere (types ++ more) ids
 types_more types more ids a = λ i h. (let l : i < length types = a i h in let n : length (types ++ more) ≡ length types + length more = length-append types more in omega (arith, l, n))
 
 worlds_more : (types more : List TypeDef) (worlds : List World) → AreWorldsThere types worlds → AreWorldsThere (types ++ more) worlds

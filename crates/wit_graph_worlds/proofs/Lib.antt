@@ -4,4 +4,5 @@ mod Owners
 mod Brought
 mod Including
 mod Adding
+pub mod Whole
 mod Named

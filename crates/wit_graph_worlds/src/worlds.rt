@@ -10,14 +10,14 @@ ghost use Rattle.wit_reach.specs.Paths.{AreBackward};
 ghost use Rattle.wit_reach.specs.Reach.{Uses};
 ghost use Rattle.wit_reach.specs.Lists.{AreOwnersThere};
 ghost use Rattle.wit_reach.specs.Types.{AreTypesBackward};
-ghost use Rattle.wit_graph_worlds.specs.Sound.{AreSound, IsWorldThere};
+ghost use Rattle.wit_graph_worlds.specs.Sound.{AreElaborated, AreSound, IsWorldThere};
 ghost use Rattle.wit_graph_worlds.specs.Worlds.{state};
 ghost use Rattle.wit_graph_worlds.specs.Added as spec;
 
 use crate::copies::copied_world;
 use std::alloc::{AllocError, Global};
 use std::marker::Model;
-use wit_elaborated::elaborated_world;
+use wit_elaborated::{elaborated_world, law_elaborated_worlds_stay};
 use wit_joined::{JoinFault, joined_world};
 use wit_plans::MovedWorld;
 use wit_reach::ElaborateFault;
@@ -184,14 +184,17 @@ fn add_world(
     requires rows { length interfaces.now.uses.now ≡ length interfaces.now.interfaces.now }
     requires uses { AreBackward (Uses interfaces.now.uses.now) }
     requires sound { AreSound (length interfaces.now.uses.now) types.old worlds.old }
+    requires elaborated { AreElaborated types.old interfaces.now.interfaces.now interfaces.now.uses.now worlds.old }
     requires there { IsOwnThere types.old (length interfaces.now.uses.now) moved }
     ensures ok { OnOk result (spec.IsAdded interfaces.now.interfaces.now interfaces.now.uses.now owner moved (state types.old worlds.old) (state types.new worlds.new)) }
     ensures sound { OnOk result (AreSound (length interfaces.now.uses.now) types.new worlds.new) }
+    ensures elaborated { OnOk result (AreElaborated types.new interfaces.now.interfaces.now interfaces.now.uses.now worlds.new) }
     ensures cause { IfErr result (spec.IsAddCause interfaces.now.interfaces.now interfaces.now.uses.now owner moved (state types.old worlds.old)) }
     ensures types_grown { (more : List TypeDef) × (types.new ≡ types.old ++ more) }
     ensures listed_grown { (more : List World) × (worlds.new.listed ≡ worlds.old.listed ++ more) }
     ensures elaborated_grown { (more : List World) × (worlds.new.elaborated ≡ worlds.old.elaborated ++ more) }
 {
+    law_elaborated_worlds_stay();
     let id = WorldId::from_index(worlds.listed().len());
     let joined = joined_world(alloc, types, worlds.listed(), id, owner, moved)?;
     add_joined(alloc, types, worlds, interfaces, joined)
@@ -212,9 +215,11 @@ pub fn add_worlds(
     requires rows { length interfaces.now.uses.now ≡ length interfaces.now.interfaces.now }
     requires uses { AreBackward (Uses interfaces.now.uses.now) }
     requires sound { AreSound (length interfaces.now.uses.now) types.old worlds.old }
+    requires elaborated { AreElaborated types.old interfaces.now.interfaces.now interfaces.now.uses.now worlds.old }
     requires there { (m : MovedWorld) → Has moved.items m → IsOwnThere types.old (length interfaces.now.uses.now) m }
     ensures ok { OnOk result (spec.AreAdded interfaces.now.interfaces.now interfaces.now.uses.now owner moved.items (state types.old worlds.old) (state types.new worlds.new)) }
     ensures sound { OnOk result (AreSound (length interfaces.now.uses.now) types.new worlds.new) }
+    ensures elaborated { OnOk result (AreElaborated types.new interfaces.now.interfaces.now interfaces.now.uses.now worlds.new) }
     ensures cause { IfErr result (spec.AreAddCause interfaces.now.interfaces.now interfaces.now.uses.now owner moved.items (state types.old worlds.old)) }
     ensures types_grown { (more : List TypeDef) × (types.new ≡ types.old ++ more) }
     ensures listed_grown { (more : List World) × (worlds.new.listed ≡ worlds.old.listed ++ more) }

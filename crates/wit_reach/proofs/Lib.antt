@@ -1,6 +1,7 @@
 pub mod Lists
 pub mod Ends
 pub mod Local
-mod Used
+pub mod Used
 pub mod There
-mod Items
+pub mod Items
+pub mod Growing

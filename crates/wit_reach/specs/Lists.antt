@@ -62,6 +62,13 @@ pub record AreListsOf (ds : List TypeDef) (uses : ℕ → ℕ → Type 0) (world
   pub used : (j : ℕ) → Has lists.used j ↔ IsUsedIn ds uses world j
   pub exports : lists.exports ≡ interfaces_of world.exports.entries
 
+-- what a world names: interfaces that it imports or exports, by whatever keys, and those of which its types are other names
+abbrev pub item_interfaces : World → List ℕ
+item_interfaces world = interfaces_of world.imports.entries ++ interfaces_of world.exports.entries
+
+abbrev pub IsNamedBy : List TypeDef → World → ℕ → Type 0
+IsNamedBy ds world j = Has (item_interfaces world) j ⊎ AreUsed ds (item_types world) j
+
 -- ---- what a world lists is there
 
 -- the interfaces to which types belong

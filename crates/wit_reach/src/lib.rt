@@ -10,7 +10,8 @@ mod world;
 
 pub use deps::{interface_deps, type_interface_dep};
 pub use reach::{
-    ElaborateFault, WorldLists, closure, elaborate, law_elaborated_are_there, law_elaborated_stays,
+    ElaborateFault, WorldLists, add_all, closure, elaborate, law_elaborated_are_there,
+    law_elaborated_stays,
 };
 pub use types::world_types;
-pub use world::{law_lists_are_there, world_lists};
+pub use world::{add_uses, law_lists_are_there, named_interfaces, world_lists};

@@ -57,10 +57,7 @@ fn has(set: &BTreeSet<usize>, interface: InterfaceId) -> bool
 }
 
 /// Adds the interfaces to the set.
-pub(crate) fn add_all(
-    set: &mut BTreeSet<usize>,
-    interfaces: &[InterfaceId],
-) -> Result<(), AllocError>
+pub fn add_all(set: &mut BTreeSet<usize>, interfaces: &[InterfaceId]) -> Result<(), AllocError>
     ensures was { OnOk result ((i : ℕ) → Has set.old.keys i → Has set.new.keys i) }
     ensures new { OnOk result ((i : ℕ) → Has interfaces.now i → Has set.new.keys i) }
     ensures only { OnOk result ((i : ℕ) → Has set.new.keys i → Has set.old.keys i ⊎ Has interfaces.now i) }

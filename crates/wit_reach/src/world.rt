@@ -114,8 +114,8 @@ fn add_all_listed(
     Ok(())
 }
 
-/// Adds what these interfaces use.
-fn add_uses(
+/// Adds the interfaces of which these use types. For each interface there stands of which it uses types.
+pub fn add_uses(
     set: &mut BTreeSet<usize>,
     uses: &[Vec<InterfaceId>],
     interfaces: &[InterfaceId],
@@ -208,6 +208,26 @@ pub fn world_lists(
         used,
         exports,
     })
+}
+
+/// The interfaces that a world names, each once: those that it imports or exports, by whatever keys, and those of which its types are
+/// other names.
+pub fn named_interfaces(
+    alloc: Global,
+    types: &Arena<TypeDef>,
+    world: &World,
+) -> Result<Vec<InterfaceId>, AllocError>
+    requires backward { AreTypesBackward types.now }
+    requires there { AreSidesThere types.now world.now }
+    ensures { IfOk result (λ named. (j : ℕ) → Has named.items j ↔ spec.IsNamedBy types.now world.now j) }
+{
+    let mut listed = Vec::new(alloc);
+    add_interfaces(&mut listed, &world.imports)?;
+    add_interfaces(&mut listed, &world.exports)?;
+    let mut set = BTreeSet::new(alloc);
+    add_all(&mut set, listed.as_slice())?;
+    add_world_deps(alloc, &mut set, types, world)?;
+    interfaces_of(alloc, &set)
 }
 
 /// All that a world lists is there, where its interfaces and those to which types belong are.

@@ -7,6 +7,7 @@ use Rattle.wit_graph_worlds.specs.Added.{IsPutCause, IsAddCause}
 use Rattle.wit_graph_worlds.specs.declared.worlds.WorldFault.{WorldFault}
 use Rattle.wit_graph_worlds.proofs.Including.{IsJoinedNamed}
 use Rattle.wit_graph_worlds.proofs.Adding.{at_place, joined_there, put_cause, sound_more}
+use Rattle.wit_graph_worlds.proofs.Whole.{elaborated_more}
 use Rattle.wit_graph_worlds.proofs.worlds.add_world.Goals as goal
 use Rattle.wit_graph_worlds.proofs.worlds.add_world.Goals.{In_ok-joined}
 
@@ -51,6 +52,16 @@ returns-clause-sound c =
     on_ok_weaker c.add_joined.result
     (sound_more (length i.uses.now) i.interfaces.now i.uses.now c.args.types.now grown.0 new c.args.worlds.now c.add_joined.new.worlds c.in_ok-joined.joined grown.1 c.requires.sound
     c.in_ok-joined.ensures.backward named.owners (record { sides = c.in_ok-joined.ensures.there; interfaces = named.interfaces; keys = named.keys }))
+    c.add_joined.ensures.ok
+
+pub returns-clause-elaborated : goal.returns-clause-elaborated
+returns-clause-elaborated c =
+    let named = is_named (goal.at.returns-clause-elaborated c).In_ok-joined in
+    let i = c.args.interfaces.now in
+    let grown = c.in_ok-joined.ensures.grown in
+    on_ok_weaker c.add_joined.result
+    (elaborated_more i.interfaces.now i.uses.now c.args.types.now grown.0 c.joined_world.new.types c.args.worlds.now c.add_joined.new.worlds c.in_ok-joined.joined c.law_elaborated_worlds_stay.ensures grown.1 c.requires.rows c.requires.uses c.requires.sound
+    c.requires.elaborated (record { sides = c.in_ok-joined.ensures.there; interfaces = named.interfaces; keys = named.keys }))
     c.add_joined.ensures.ok
 
 pub returns-clause-cause : goal.returns-clause-cause
