@@ -30,7 +30,7 @@ ends_to uses same start order to from ends = record {
 
 -- ---- rows
 
-row_has : (types : List TypeDef) (is : List Interface) (rs : Rows) → AreRows types is rs → (i j : ℕ) (d : Interface) → slice_get is i ≡ Some d → IsInterfaceDep types d j → Has (row rs i) j
+pub row_has : (types : List TypeDef) (is : List Interface) (rs : Rows) → AreRows types is rs → (i j : ℕ) (d : Interface) → slice_get is i ≡ Some d → IsInterfaceDep types d j → Has (row rs i) j
 row_has types _ _ no_rows i j d e dep = absurd cc
 row_has types _ _ (rows_and x r is rs one rest) zero j d e dep = (one j).1 (subst (λ (y : Interface). IsInterfaceDep types y j) (sym (same_Some x d e)) dep)
 row_has types _ _ (rows_and x r is rs one rest) (suc i) j d e dep = row_has types is rs rest i j d e dep

@@ -80,12 +80,14 @@ nothing_is_graph t names te ne =
             keys = λ w h. absurd h;
             so_many = refl;
           };
+          elaborated = λ i a b h k. absurd cc;
           interfaces_are = λ d h. absurd h;
         };
         closures_are = refl;
         reached = λ i x at. absurd cc;
         owners_are = λ i p d h o. absurd cc;
         packages_are = λ p h. absurd h;
+        backward = λ p q dep. (let none = dep.there in absurd cc);
       };
       names_are = λ e h. absurd h;
     }))

@@ -1,23 +1,19 @@
 -- What is there stays there with more types.
-use Rattle.std.proofs.Common.{◌≡◌, ℕ, zero, suc, ◌+◌, ◌<◌, List, [], ◌∷◌, ◌++◌, ◌⊎◌, inl, inr, Option, Some, None, String, Vec, refl, sym, subst, ap, ◌∙◌, arith, length, length-append, get_or, map}
-use Rattle.std.proofs.lemmas.Option.{same_Some, slice_get_within}
+use Rattle.std.proofs.Common.{◌≡◌, ℕ, zero, suc, ◌+◌, ◌<◌, List, [], ◌∷◌, ◌++◌, ◌⊎◌, inl, inr, Some, String, Vec, refl, sym, subst, arith, length, length-append, get_or, map}
+use Rattle.std.proofs.lemmas.Option.{same_Some}
 use Rattle.std.specs.Prelude.{slice_get}
 use Rattle.std.specs.declared.alloc.Global.{Global}
 use Rattle.wit_order.specs.Order.{Has}
 use Rattle.wit_order.specs.Places.{Rows, row}
-use Rattle.wit_types.specs.declared.kind.«Type».{«Type» as Ref}
-use Rattle.wit_types.specs.declared.kind.«Type».TheVariants as ref
-use Rattle.wit_types.specs.declared.kind.TypeDefKind.{TypeDefKind}
-use Rattle.wit_types.specs.declared.kind.TypeDefKind.TheVariants as kind
 use Rattle.wit_types.specs.declared.interface.Interface.{Interface}
 use Rattle.wit_types.specs.declared.interface.TypeDef.{TypeDef}
 use Rattle.wit_types.specs.declared.world.World.{World}
-use Rattle.wit_reach.specs.Deps.{alias_target, ref_id, at_target, owned, def_dep, IsInterfaceDep}
-use Rattle.wit_reach.specs.Ids.{ref_ids, kind_ids}
+use Rattle.wit_reach.specs.Deps.{IsInterfaceDep}
 use Rattle.wit_reach.specs.Lists.{AreInterfacesThere}
 use Rattle.wit_reach.specs.Paths.{AreBackward}
 use Rattle.wit_reach.specs.Reach.{Uses}
 use Rattle.wit_reach.specs.Types.{AreTypesBackward, AreTypesThere, AreSidesThere}
+use Rattle.wit_reach.proofs.Growing.{used_more, used_was}
 use Rattle.wit_placed.specs.Order.{AreInOrder}
 use Rattle.wit_placed.specs.There.{IsInterfaceThere}
 use Rattle.wit_graph_parts.specs.Interfaces.{IsRow, AreRows, no_rows, rows_and}
@@ -36,11 +32,6 @@ has_or (z ∷ xs) ys x h =
       | inl here ↦ inl (inl here)
       | inr later ↦ elim (has_or xs ys x later) as (λ _. Has (z ∷ xs) x ⊎ Has ys x) [ inl a ↦ inl (inr a) | inr b ↦ inr b ]
     ]
-
-get_same : (ds more : List TypeDef) (u : ℕ) → u < length ds → slice_get (ds ++ more) u ≡ slice_get ds u
-get_same [] more u l = absurd (omega arith)
-get_same (d ∷ ds) more zero l = refl
-get_same (d ∷ ds) more (suc u) l = get_same ds more u (omega arith)
 
 pub get_parts : (xs ys : List Interface) (i : ℕ) (d : Interface) → slice_get (xs ++ ys) i ≡ Some d → (slice_get xs i ≡ Some d) ⊎ ((k : ℕ) × (i ≡ length xs + k) × (slice_get ys k ≡ Some d))
 get_parts [] ys i d h = inr (i, omega arith, h)
@@ -70,32 +61,12 @@ among_more n m w there = record {
 
 -- ---- of which interfaces types are used
 
-ref_has : (r : Ref) (i : ℕ) → ref_id r ≡ Some i → Has (ref_ids r) i
-ref_has (ref.Id j) i e = inl (sym (same_Some j i e))
-ref_has _ i e = absurd cc
-
-target_has : (k : TypeDefKind) (i : ℕ) → alias_target k ≡ Some i → Has (kind_ids k) i
-target_has (kind.Alias r) i e = ref_has r i e
-target_has _ i e = absurd cc
-
 module _ (ds more : List TypeDef) (back : AreTypesBackward ds) where
-  dep_same : (i : ℕ) (x : TypeDef) → slice_get ds i ≡ Some x → def_dep (ds ++ more) x ≡ def_dep ds x
-  dep_same i x at = by_target (alias_target x.kind) refl
-    where
-      by_target : (o : Option ℕ) → alias_target x.kind ≡ o → owned (at_target (ds ++ more) o) x.owner ≡ owned (at_target ds o) x.owner
-      by_target None e = refl
-      by_target (Some u) e =
-          let l : u < i = back i u (x, at, target_has x.kind u e) in
-          let m : i < length ds = slice_get_within ds i x at in
-          ap (λ (o : Option TypeDef). owned o x.owner) (get_same ds more u (omega arith))
-
   dep_kept : (d : Interface) (j : ℕ) → IsInterfaceDep ds d j → IsInterfaceDep (ds ++ more) d j
-  dep_kept d j (i, has, (x, at, dep)) = (i, has, (x, get_same ds more i (slice_get_within ds i x at) ∙ at, dep_same i x at ∙ dep))
+  dep_kept d j = used_more ds more back (map (λ (e : String Global × ℕ). e.1) d.types.entries) j
 
   dep_was : (d : Interface) (j : ℕ) → AreTypesThere ds (map (λ (e : String Global × ℕ). e.1) d.types.entries) → IsInterfaceDep (ds ++ more) d j → IsInterfaceDep ds d j
-  dep_was d j there (i, has, (x, at, dep)) =
-      let was : slice_get ds i ≡ Some x = sym (get_same ds more i (there i has)) ∙ at in
-      (i, has, (x, was, sym (dep_same i x was) ∙ dep))
+  dep_was d j = used_was ds more back (map (λ (e : String Global × ℕ). e.1) d.types.entries) j
 
   row_kept : (d : Interface) (r : Vec ℕ Global) → AreTypesThere ds (map (λ (e : String Global × ℕ). e.1) d.types.entries) → IsRow ds d r → IsRow (ds ++ more) d r
   row_kept d r there is j = ((λ h. dep_kept d j ((is j).0 h)), (λ u. (is j).1 (dep_was d j there u)))

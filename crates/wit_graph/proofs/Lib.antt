@@ -3,3 +3,4 @@ mod Readying
 mod Refusing
 mod Finishing
 mod Closing
+pub mod Depending

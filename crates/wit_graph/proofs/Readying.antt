@@ -2,6 +2,7 @@
 use Rattle.std.proofs.Common.{◌≡◌, ℕ, ◌+◌, List, [], ◌∷◌, ◌++◌, inl, inr, String, refl, sym, subst, ap, ◌∙◌, arith, length, length-append, map}
 use Rattle.std.specs.declared.alloc.Global.{Global}
 use Rattle.wit_order.specs.Order.{Has}
+use Rattle.wit_order.specs.Places.{Rows}
 use Rattle.wit_types.specs.declared.interface.Interface.{Interface}
 use Rattle.wit_types.specs.declared.interface.TypeDef.{TypeDef}
 use Rattle.wit_features.specs.Features.{FeatureSet}
@@ -18,7 +19,9 @@ use Rattle.wit_plans.specs.Checks.{InterfaceBreaks}
 use Rattle.wit_placed.specs.Found.{FoundTypesAreThere}
 use Rattle.wit_placed.specs.Order.{AreInOrder, AreBehind, InterfacesTakePlaces, MovedTypesBelong, MovedInterfacesAreInOrder}
 use Rattle.wit_placed.specs.There.{AreBelow, IsInterfaceThere, MovedInterfacesAreThere}
-use Rattle.wit_graph_worlds.specs.Sound.{AreSound}
+use Rattle.wit_elaborated.specs.Staying.{ElaboratedWorldsStay}
+use Rattle.wit_graph_worlds.specs.Sound.{AreSound, AreElaborated}
+use Rattle.wit_graph_worlds.proofs.Whole.{elaborated_stay}
 use Rattle.wit_graph_worlds.specs.Worlds.{Worlds}
 use Rattle.wit_resources.specs.Natures.{natures}
 use Rattle.wit_resources.specs.declared.natures.Nature.{Nature}
@@ -128,12 +131,25 @@ module _ (features : FeatureSet) (owner : ℕ) (t : Items) (foreign : OwnerPlace
               so_many = r.whole.sound.so_many;
             })
 
+        -- worlds import what they did
+        pub elaborated : ElaboratedWorldsStay → AreElaborated types i.all i.uses t.worlds
+        elaborated stay =
+            let long : length t.interfaces.uses ≡ length t.interfaces.all = rows_long t.types t.interfaces.all t.interfaces.uses r.whole.rows in
+            let were : AreSound (length t.interfaces.uses) t.types t.worlds = subst (λ (n : ℕ). AreSound n t.types t.worlds) (sym long) r.whole.sound in
+            let more : AreElaborated (t.types ++ a.defs) (t.interfaces.all ++ b.moved) (t.interfaces.uses ++ b.added.rows) t.worlds =
+            elaborated_stay stay t.types a.defs t.interfaces.all b.moved t.interfaces.uses b.added.rows t.worlds were (uses_backward t.types t.interfaces.all t.interfaces.uses r.whole.rows r.whole.in_order) long r.whole.elaborated
+            in
+            subst (λ (ds : List TypeDef). AreElaborated ds i.all i.uses t.worlds) (sym a.types_are)
+            (subst (λ (is : List Interface). AreElaborated (t.types ++ a.defs) is i.uses t.worlds) (sym b.added.all_are)
+            (subst (λ (rs : Rows). AreElaborated (t.types ++ a.defs) (t.interfaces.all ++ b.moved) rs t.worlds) (sym b.added.uses_are) more))
+
         -- with more types, and worlds
-        pub whole : (more : List TypeDef) (ds : List TypeDef) (ns : List Nature) (w : Worlds) → ds ≡ types ++ more → ns ≡ natures ds → AreSound (length i.uses) ds w → AreItemsWhole (items ds ns i w)
-        whole more ds ns w grown known s = record {
+        pub whole : (more : List TypeDef) (ds : List TypeDef) (ns : List Nature) (w : Worlds) → ds ≡ types ++ more → ns ≡ natures ds → AreSound (length i.uses) ds w → AreElaborated ds i.all i.uses w → AreItemsWhole (items ds ns i w)
+        whole more ds ns w grown known s e = record {
           natures_are = known;
           rows = subst (λ (xs : List TypeDef). AreRows xs i.all i.uses) (sym grown) (rows_kept types more types_backward i.all i.uses interfaces_are rows);
           in_order = subst (λ (xs : List TypeDef). AreInOrder 0 xs i.all) (sym grown) (order_kept types more types_backward 0 i.all interfaces_are order);
           sound = subst (λ (n : ℕ). AreSound n ds w) uses_long s;
+          elaborated = e;
           interfaces_are = λ d h. subst (λ (xs : List TypeDef). IsInterfaceThere xs d) (sym grown) (interface_kept types more d (interfaces_are d h));
         }

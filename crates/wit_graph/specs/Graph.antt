@@ -1,11 +1,15 @@
 -- Graphs of packages (WIT, Packages).
-use Rattle.std.specs.Prelude.{◌≡◌, ◌↔◌, ℕ, ◌<◌, ◌≤◌, List, [], Some, length, slice_get}
+use Rattle.std.specs.Prelude.{◌≡◌, ◌↔◌, ℕ, ◌<◌, ◌≤◌, List, [], Some, String, length, slice_get}
+use Rattle.std.specs.declared.alloc.Global.{Global}
 use Rattle.wit_reach.specs.Deps.{IsInterfaceDep}
+use Rattle.wit_reach.specs.Lists.{IsNamedBy}
 use Rattle.wit_reach.specs.Paths.{AreEnds}
 use Rattle.wit_order.specs.Order.{Has}
 use Rattle.wit_closures.specs.Closures.{AreReached}
 use Rattle.wit_types.specs.declared.interface.Interface.{Interface}
 use Rattle.wit_types.specs.declared.interface.TypeDef.{TypeDef}
+use Rattle.wit_types.specs.declared.world.World.{World}
+use Rattle.wit_types.specs.declared.«package».Package.{Package}
 use Rattle.wit_types.specs.declared.«package».PackageName.{PackageName}
 use Rattle.wit_names.specs.Names.{ArePackagesKnown}
 use Rattle.wit_plans.specs.declared.plans.Sizes.{Sizes}
@@ -14,7 +18,7 @@ use Rattle.wit_placed.specs.Order.{AreInOrder}
 use Rattle.wit_placed.specs.There.{IsInterfaceThere}
 use Rattle.wit_resources.specs.Natures.{natures}
 use Rattle.wit_resources.specs.declared.natures.Nature.{Nature}
-use Rattle.wit_graph_worlds.specs.Sound.{AreSound}
+use Rattle.wit_graph_worlds.specs.Sound.{AreSound, AreElaborated, IsElaborationOf}
 use Rattle.wit_graph_worlds.specs.Worlds.{Worlds}
 use Rattle.wit_graph_parts.specs.Interfaces.{Interfaces, AreRows}
 use Rattle.wit_graph.specs.declared.tables.Tables.{Tables}
@@ -46,21 +50,44 @@ abbrev pub sizes : Items → Sizes
 sizes t = record { types = length t.types; interfaces = length t.interfaces.all; worlds = length t.worlds.listed }
 
 -- what is known of types is known of all of them; interfaces use types of those before them alone, and of which is known; all that
--- interfaces and worlds name is there
+-- interfaces and worlds name is there, and worlds import in the end what they and their exports depend on
 pub record AreItemsWhole (t : Items) : Type 0 where
   pub natures_are : t.natures ≡ natures t.types
   pub rows : AreRows t.types t.interfaces.all t.interfaces.uses
   pub in_order : AreInOrder 0 t.types t.interfaces.all
   pub sound : AreSound (length t.interfaces.all) t.types t.worlds
+  pub elaborated : AreElaborated t.types t.interfaces.all t.interfaces.uses t.worlds
   pub interfaces_are : (d : Interface) → Has t.interfaces.all d → IsInterfaceThere t.types d
 
--- what each interface depends on is kept, and so is all that packages name; interfaces are of packages that are there
+-- the interface with that id uses a type of the other
+abbrev pub UsesTypesOf : Tables → ℕ → ℕ → Type 0
+UsesTypesOf t i j = (d : Interface) × (slice_get t.interfaces.all i ≡ Some d) × IsInterfaceDep t.types d j
+
+-- what is named of each interface and world of a package: interfaces of which types are used, and what worlds import and export
+pub data IsNamedIn (t : Tables) (p : Package) (j : ℕ) : Type 0 where
+  in_interface : (e : String Global × ℕ) → Has p.interfaces.entries e → UsesTypesOf t e.1 j → IsNamedIn t p j
+  in_world : (e : String Global × ℕ) → Has p.worlds.entries e → (w : World) → slice_get t.worlds.elaborated e.1 ≡ Some w → IsNamedBy t.types w j → IsNamedIn t p j
+
+-- the package with the first id names an interface of that with the second, which is another one (WIT, Packages)
+pub record IsPackageDep (t : Tables) (p q : ℕ) : Type 0 where
+  pub other : q ≡ p → ⊥
+  pub «package» : Package
+  pub there : slice_get t.packages p ≡ Some «package»
+  pub named : ℕ
+  pub is_named : IsNamedIn t «package» named
+  pub interface : Interface
+  pub interface_is : slice_get t.interfaces.all named ≡ Some interface
+  pub owner_is : interface.«package» ≡ Some q
+
+-- what each interface depends on is kept, and so is all that packages name; interfaces are of packages that are there, and packages
+-- depend on those before them alone
 pub record AreWhole (t : Tables) : Type 0 where
   pub whole : AreItemsWhole (items_of t)
   pub closures_are : length t.closures ≡ length t.interfaces.uses
   pub reached : AreReached t.interfaces.uses t.closures
   pub owners_are : ArePackagesKnown t.packages t.interfaces.all
   pub packages_are : ArePackagesThere (length t.interfaces.all) (length t.worlds.listed) t.packages
+  pub backward : (p q : ℕ) → IsPackageDep t p q → q < p
 
 -- a graph: what its packages hold, and each package by its name
 pub record Graph : Type 0 where
@@ -75,11 +102,11 @@ pub record IsGraph (g : Graph) : Type 0 where
 abbrev pub IsDepsOf : Tables → ℕ → List ℕ → Type 0
 IsDepsOf t i deps = (d : Interface) × (slice_get t.interfaces.all i ≡ Some d) × ((j : ℕ) → Has deps j ↔ IsInterfaceDep t.types d j)
 
--- the one with that id uses a type of the other
-abbrev pub UsesTypesOf : Tables → ℕ → ℕ → Type 0
-UsesTypesOf t i j = (d : Interface) × (slice_get t.interfaces.all i ≡ Some d) × IsInterfaceDep t.types d j
-
 -- what paths of uses from it reach, dependencies first, itself last
 pub record IsClosureOf (t : Tables) (i : ℕ) (closure : List ℕ) : Type 0 where
   pub ends : AreEnds (UsesTypesOf t) (λ s. s ≡ i) closure
   pub last : (j : ℕ) → Has closure j → j ≤ i
+
+-- the world with that id imports in the end what it lists and all on which that and its exports depend
+abbrev pub IsElaborated : Tables → ℕ → Type 0
+IsElaborated t i = (listed : World) × (elaborated : World) × (slice_get t.worlds.listed i ≡ Some listed) × (slice_get t.worlds.elaborated i ≡ Some elaborated) × IsElaborationOf t.types t.interfaces.all t.interfaces.uses listed elaborated

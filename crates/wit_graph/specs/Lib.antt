@@ -1,2 +1,3 @@
 pub mod Graph
 pub mod Push
+pub mod Packages

@@ -12,8 +12,14 @@ ghost use Rattle.wit_plans.specs.Plans.{IsPlanned, IsPlanCause};
 ghost use Rattle.wit_placed.specs.There.{AreBelow};
 ghost use Rattle.wit_graph_parts.specs.Own.{IsWellFormed, parts};
 ghost use Rattle.wit_graph.specs.Graph.{Graph as Value, IsClosureOf, IsDepsOf, IsGraph, nothing, items_of, sizes as sizes_of};
+ghost use Rattle.wit_graph.specs.Packages.{AreDependenciesFirst, ArePackageDeps};
 ghost use Rattle.wit_graph.specs.Push as spec;
+ghost use Rattle.wit_arena.specs.Tree.{Tree, resource_leaf};
+ghost use Rattle.wit_arena.specs.Unfold.{Owners as TextOwners, trees, value_tree};
+ghost use Rattle.wit_resources.specs.Holding.{all_bits_valid};
+ghost use Rattle.wit_resources.specs.Natures.{natures, ref_nature};
 
+use crate::packages::{ordered, package_deps};
 use crate::push::{Outcome, pushed};
 use crate::tables::{Mark, Tables, cut, no_tables, sizes};
 use indexmap::IndexMap;
@@ -29,7 +35,7 @@ use wit_placed::law_found_are_there;
 use wit_plans::{Parts, Plan, plan_of};
 use wit_reach::type_interface_dep;
 use wit_types::{
-    Arena, Interface, InterfaceId, Package, PackageId, PackageName, TypeDef, TypeId,
+    Arena, Interface, InterfaceId, Package, PackageId, PackageName, Type, TypeDef, TypeId,
     UnresolvedPackage, World,
 };
 
@@ -194,6 +200,35 @@ impl Graph {
         ensures all { (j : ℕ) → IsDepOf self.now.tables.types id j → result ≡ Some j }
     {
         type_interface_dep(&self.tables.types, id)
+    }
+
+    /// Whether any bits in as much memory as a value of a type takes are one, as far as bits go: of integers, floating-point numbers and
+    /// handles, and of records, tuples, lists of fixed length and other names of what is so (Canonical ABI, Loading).
+    pub fn all_bits_valid(&self, ty: &Type) -> bool
+        ensures value { result ≡ (ref_nature (natures self.now.tables.types) ty.now).all_bits_valid }
+        ensures tree { (owners : TextOwners) (v : Tree) → value_tree (trees owners resource_leaf self.now.tables.types) ty.now ≡ Some v → result ≡ all_bits_valid v }
+    {
+        self.tables.natures.all_bits_valid(ty)
+    }
+
+    /// The packages of which a package names an interface: in a `use`, or as an import or export of a world, also by what it depends on.
+    /// Itself is none of them. Fails for want of memory alone (WIT, Packages).
+    pub fn package_direct_deps(
+        &self,
+        alloc: Global,
+        id: PackageId,
+    ) -> Result<Vec<PackageId>, AllocError>
+        requires { id < length self.now.tables.packages }
+        ensures { IfOk result (λ deps. ArePackageDeps self.now.tables id deps.items) }
+    {
+        package_deps(alloc, &self.tables, id)
+    }
+
+    /// All packages, each behind those of which it names an interface. Fails for want of memory alone (WIT, Packages).
+    pub fn topological_packages(&self, alloc: Global) -> Result<Vec<PackageId>, AllocError>
+        ensures { IfOk result (λ order. AreDependenciesFirst self.now.tables order.items) }
+    {
+        ordered(alloc, &self.tables)
     }
 
     /// Puts a package behind the others, of which all has its place. Where it is refused nothing changes.

@@ -2,6 +2,7 @@
 #![tactic(auto)]
 
 mod graph;
+mod packages;
 mod push;
 mod tables;
 

@@ -21,6 +21,7 @@ use crate::tables::{Tables, cut, sizes};
 use indexmap::IndexMap;
 use std::alloc::Global;
 use wit_closures::{Closures, law_reached_stay};
+use wit_elaborated::{law_elaborated_worlds_are_there, law_elaborated_worlds_stay};
 use wit_graph_parts::{
     Interfaces, Move, Own, OwnParts, PushFault, add_interfaces, add_own_worlds, add_types,
 };
@@ -66,6 +67,7 @@ fn add_parts(
     law_moved_types_belong();
     law_moved_interfaces_are_in_order();
     law_moved_interfaces_are_there();
+    law_elaborated_worlds_stay();
     let first = own.unknown.len();
     add_types(alloc, types, natures, by.plan, first, own.types)?;
     let interface_names = add_interfaces(alloc, types, natures, interfaces, by, own.interfaces)?;
@@ -156,6 +158,7 @@ fn added(alloc: Global, tables: Tables, by: &Move, own: Own) -> Outcome
     ensures err { OnErr result.done (spec.HaveGrown tables result.tables) }
 {
     law_reached_stay();
+    law_elaborated_worlds_are_there();
     let Tables {
         mut types,
         mut natures,

@@ -13,6 +13,7 @@ use Rattle.wit_graph_parts.specs.Own.{parts}
 use Rattle.wit_graph.specs.Push.{ArePartsAdded, IsPartsCause}
 use Rattle.wit_graph_parts.specs.declared.fault.PushFault.TheVariants.{OutOfMemory}
 use Rattle.wit_graph.proofs.Finishing.{if_ok_at, if_err_at, on_ok_at, packages_there, owners_known}
+use Rattle.wit_graph.proofs.Depending.{backward_more}
 use Rattle.wit_graph.proofs.Keeping.{uses_backward}
 use Rattle.wit_graph.proofs.push.added.Goals as goal
 
@@ -44,20 +45,22 @@ returns-clause-ok c = on_ok_weaker c.put_named-done.result (λ h. record {
 }) c.put_named-done.ensures.ok
 
 pub returns-clause-whole : goal.returns-clause-whole
-returns-clause-whole c = on_ok_weaker c.put_named-done.result (λ h. record {
-  whole = on_ok_at c.add_parts-names.result h.0 (AreItemsWhole (items c.add_parts-names.new.types c.add_parts-names.new.natures c.add_parts-names.new.interfaces c.add_parts-names.new.worlds)) (if_ok_at c.reach-names.result h.0 (λ n. c.add_parts-names.result ≡ Ok n) h.1 c.reach-names.ensures.ok) c.add_parts-names.ensures.whole;
-  closures_are = on_ok_at c.reach-names.result h.0 (length c.reach-names.new.closures ≡ length c.add_parts-names.new.interfaces.uses) h.1 (on_ok_weaker c.reach-names.result (λ e. e ∙ ap (λ (rs : Rows). length rs) c.uses.ensures) c.reach-names.ensures.all);
-  reached = on_ok_at c.reach-names.result h.0 (AreReached c.add_parts-names.new.interfaces.uses c.reach-names.new.closures) h.1 (on_ok_weaker c.reach-names.result (λ e. subst (λ (rs : Rows). AreReached rs c.reach-names.new.closures) c.uses.ensures e) c.reach-names.ensures.reached);
-  owners_are =
-      subst (λ (ps : List Package). ArePackagesKnown ps c.add_parts-names.new.interfaces.all) (sym h.2.2)
-      (owners_known c.args.by.now.features.now c.args.by.now.owner (owners c.args.by.now.plan.now.owners) c.args.by.now.plan.now.types (parts c.args.own.parts) (items_of c.args.tables) (items c.add_parts-names.new.types c.add_parts-names.new.natures c.add_parts-names.new.interfaces c.add_parts-names.new.worlds) h.0.interfaces.entries h.0.worlds.entries
-      (if_ok_at c.add_parts-names.result h.0 (λ names. ArePartsAdded c.args.by.now.features.now c.args.by.now.owner (owners c.args.by.now.plan.now.owners) c.args.by.now.plan.now.types (parts c.args.own.parts) (items_of c.args.tables) (items c.add_parts-names.new.types c.add_parts-names.new.natures c.add_parts-names.new.interfaces c.add_parts-names.new.worlds) names.interfaces.entries names.worlds.entries) (if_ok_at c.reach-names.result h.0 (λ n. c.add_parts-names.result ≡ Ok n) h.1 c.reach-names.ensures.ok) c.add_parts-names.ensures.ok)
-      c.args.tables.packages h.2.0 c.requires.owner c.requires.whole.owners_are);
-  packages_are = subst (ArePackagesThere (length c.add_parts-names.new.interfaces.all) (length c.add_parts-names.new.worlds.listed)) (sym h.2.2)
-      (packages_there c.args.by.now.features.now c.args.by.now.owner (owners c.args.by.now.plan.now.owners) c.args.by.now.plan.now.types (parts c.args.own.parts) (items_of c.args.tables) (items c.add_parts-names.new.types c.add_parts-names.new.natures c.add_parts-names.new.interfaces c.add_parts-names.new.worlds) h.0.interfaces.entries h.0.worlds.entries
-      (if_ok_at c.add_parts-names.result h.0 (λ names. ArePartsAdded c.args.by.now.features.now c.args.by.now.owner (owners c.args.by.now.plan.now.owners) c.args.by.now.plan.now.types (parts c.args.own.parts) (items_of c.args.tables) (items c.add_parts-names.new.types c.add_parts-names.new.natures c.add_parts-names.new.interfaces c.add_parts-names.new.worlds) names.interfaces.entries names.worlds.entries) (if_ok_at c.reach-names.result h.0 (λ n. c.add_parts-names.result ≡ Ok n) h.1 c.reach-names.ensures.ok) c.add_parts-names.ensures.ok)
-      c.args.tables.packages h.2.0 c.requires.whole.packages_are h.2.1.interfaces_are h.2.1.worlds_are);
-}) c.put_named-done.ensures.ok
+returns-clause-whole c = on_ok_weaker c.put_named-done.result (λ h. let known : ArePackagesKnown c.put_named-done.new.packages c.add_parts-names.new.interfaces.all =
+    subst (λ (ps : List Package). ArePackagesKnown ps c.add_parts-names.new.interfaces.all) (sym h.2.2)
+    (owners_known c.args.by.now.features.now c.args.by.now.owner (owners c.args.by.now.plan.now.owners) c.args.by.now.plan.now.types (parts c.args.own.parts) (items_of c.args.tables) (items c.add_parts-names.new.types c.add_parts-names.new.natures c.add_parts-names.new.interfaces c.add_parts-names.new.worlds) h.0.interfaces.entries h.0.worlds.entries
+    (if_ok_at c.add_parts-names.result h.0 (λ names. ArePartsAdded c.args.by.now.features.now c.args.by.now.owner (owners c.args.by.now.plan.now.owners) c.args.by.now.plan.now.types (parts c.args.own.parts) (items_of c.args.tables) (items c.add_parts-names.new.types c.add_parts-names.new.natures c.add_parts-names.new.interfaces c.add_parts-names.new.worlds) names.interfaces.entries names.worlds.entries) (if_ok_at c.reach-names.result h.0 (λ n. c.add_parts-names.result ≡ Ok n) h.1 c.reach-names.ensures.ok) c.add_parts-names.ensures.ok)
+    c.args.tables.packages h.2.0 c.requires.owner c.requires.whole.owners_are)
+    in record {
+      whole = on_ok_at c.add_parts-names.result h.0 (AreItemsWhole (items c.add_parts-names.new.types c.add_parts-names.new.natures c.add_parts-names.new.interfaces c.add_parts-names.new.worlds)) (if_ok_at c.reach-names.result h.0 (λ n. c.add_parts-names.result ≡ Ok n) h.1 c.reach-names.ensures.ok) c.add_parts-names.ensures.whole;
+      closures_are = on_ok_at c.reach-names.result h.0 (length c.reach-names.new.closures ≡ length c.add_parts-names.new.interfaces.uses) h.1 (on_ok_weaker c.reach-names.result (λ e. e ∙ ap (λ (rs : Rows). length rs) c.uses.ensures) c.reach-names.ensures.all);
+      reached = on_ok_at c.reach-names.result h.0 (AreReached c.add_parts-names.new.interfaces.uses c.reach-names.new.closures) h.1 (on_ok_weaker c.reach-names.result (λ e. subst (λ (rs : Rows). AreReached rs c.reach-names.new.closures) c.uses.ensures e) c.reach-names.ensures.reached);
+      owners_are = known;
+      packages_are = subst (ArePackagesThere (length c.add_parts-names.new.interfaces.all) (length c.add_parts-names.new.worlds.listed)) (sym h.2.2)
+          (packages_there c.args.by.now.features.now c.args.by.now.owner (owners c.args.by.now.plan.now.owners) c.args.by.now.plan.now.types (parts c.args.own.parts) (items_of c.args.tables) (items c.add_parts-names.new.types c.add_parts-names.new.natures c.add_parts-names.new.interfaces c.add_parts-names.new.worlds) h.0.interfaces.entries h.0.worlds.entries
+          (if_ok_at c.add_parts-names.result h.0 (λ names. ArePartsAdded c.args.by.now.features.now c.args.by.now.owner (owners c.args.by.now.plan.now.owners) c.args.by.now.plan.now.types (parts c.args.own.parts) (items_of c.args.tables) (items c.add_parts-names.new.types c.add_parts-names.new.natures c.add_parts-names.new.interfaces c.add_parts-names.new.worlds) names.interfaces.entries names.worlds.entries) (if_ok_at c.reach-names.result h.0 (λ n. c.add_parts-names.result ≡ Ok n) h.1 c.reach-names.ensures.ok) c.add_parts-names.ensures.ok)
+          c.args.tables.packages h.2.0 c.requires.whole.packages_are h.2.1.interfaces_are h.2.1.worlds_are);
+      backward = backward_more c.args.tables _ c.add_parts-names.ensures.types_grown.0 c.add_parts-names.ensures.interfaces_grown.all c.add_parts-names.ensures.elaborated_grown.0 h.2.0 c.add_parts-names.ensures.types_grown.1 c.add_parts-names.ensures.interfaces_grown.all_are c.add_parts-names.ensures.elaborated_grown.1 h.2.2 c.requires.whole c.law_elaborated_worlds_are_there.ensures known;
+    }) c.put_named-done.ensures.ok
 
 pub returns-clause-cause : goal.returns-clause-cause
 returns-clause-cause c = IfErr-weaker c.put_named-done.result (λ fault. (c.reach-names.result ≡ Err fault) ⊎ (fault ≡ OutOfMemory)) (IsPartsCause c.args.by.now.features.now c.args.by.now.owner (owners c.args.by.now.plan.now.owners) c.args.by.now.plan.now.types (parts c.args.own.parts) (items_of c.args.tables))
