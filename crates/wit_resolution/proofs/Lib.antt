@@ -2,3 +2,4 @@ mod Taking
 mod Coming
 mod Moved
 mod Refusing
+mod Worlds

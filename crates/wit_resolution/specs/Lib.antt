@@ -3,3 +3,4 @@ pub mod Groups
 pub mod Texts
 pub mod Pushes
 pub mod Names
+pub mod Sources

@@ -119,6 +119,13 @@ impl ResolveError {
         &self.kind
     }
 
+    /// The same, to be changed in place.
+    pub fn kind_mut(&mut self) -> &mut ResolveErrorKind
+        ensures { result.now ≡ self.old }
+    {
+        &mut self.kind
+    }
+
     /// Where, in the texts of the source map, as far as it has a place.
     pub fn span(&self) -> Option<Span>
         ensures { result ≡ spec.span_of self.now }

@@ -6,12 +6,16 @@ mod error;
 mod groups;
 mod names;
 mod resolve;
+mod sources;
 mod texts;
 
 pub use error::{ResolveError, ResolveErrorKind, ResolveResult};
 pub use resolve::Resolve;
+pub use sources::PackageSources;
+pub use wit_core_items::{CoreExports, CoreImports};
 pub use wit_core_names::{ResourceIntrinsic, Tables, WasmExport, WasmExportKind, WasmImport};
+pub use wit_core_tables::Meaning;
 pub use wit_features::Features;
 pub use wit_graph::Graph;
 pub use wit_package::UnresolvedPackageGroup;
-pub use wit_words::{SourceMap, Span};
+pub use wit_words::{SourceMap, SourceNames, Span};

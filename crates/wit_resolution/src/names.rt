@@ -1,6 +1,8 @@
 //! The texts by which interfaces are known, and what they depend on.
 
 ghost use Rattle.std.specs.Prelude.{◌≡◌, ◌<◌, ℕ, Some, length, option_map, string_bytes, slice_get, IfOk, IfSome};
+ghost use Rattle.wit_core_items.specs.Readers.{IsReaderOfExports, IsReaderOfImports};
+ghost use Rattle.wit_core_items.specs.World.{ExportStandsFor, ImportStandsFor, IsReadAs};
 ghost use Rattle.wit_core_names.specs.Exports.{IsExportName, IsExportNamed};
 ghost use Rattle.wit_core_names.specs.Imports.{IsImportName, IsImportNamed};
 ghost use Rattle.wit_core_names.specs.Items.{export_of, import_of};
@@ -14,9 +16,11 @@ ghost use Rattle.wit_types.specs.declared.«package».Package.{Package};
 
 use crate::resolve::Resolve;
 use std::alloc::AllocError;
+use wit_core_items::{CoreExports, CoreImports};
 use wit_core_names::{Tables, WasmExport, WasmImport};
+use wit_core_tables::Meaning;
 use wit_names::Known;
-use wit_types::{InterfaceId, Mangling, PackageId, PackageName, TypeId, WorldKey};
+use wit_types::{InterfaceId, Mangling, PackageId, PackageName, TypeId, World, WorldKey};
 
 /// The packages and interfaces that are there.
 fn known(resolve: &Resolve) -> Known<'_>
@@ -43,6 +47,49 @@ impl Resolve {
             interfaces: self.interfaces(),
             types: self.types(),
         }
+    }
+
+    /// What core modules may import of a world, by the names of the standard, and by the older ones too where those count: made once, each
+    /// name is read by one look-up (Component Model, Build Targets).
+    pub fn core_imports(&self, world: &World, legacy: bool) -> Result<CoreImports, AllocError>
+        ensures { IfOk result (IsReaderOfImports (known_of self.now.graph.tables) world.now legacy) }
+    {
+        CoreImports::new(self.allocator(), &self.tables(), world, legacy)
+    }
+
+    /// What core modules may export for a world, the same way.
+    pub fn core_exports(&self, world: &World, legacy: bool) -> Result<CoreExports, AllocError>
+        ensures { IfOk result (IsReaderOfExports (known_of self.now.graph.tables) world.now legacy) }
+    {
+        CoreExports::new(self.allocator(), &self.tables(), world, legacy)
+    }
+
+    /// What the name in the module stands for that a core module imports of a world: nothing, the thing at a place of the world's core
+    /// imports, or one of several. Goes over the whole world; where several names are read, `core_imports` is made once.
+    pub fn read_core_import(
+        &self,
+        world: &World,
+        legacy: bool,
+        module: &str,
+        name: &str,
+    ) -> Result<Option<Meaning>, AllocError>
+        ensures { IfOk result (IsReadAs (ImportStandsFor (known_of self.now.graph.tables) world.now legacy «module».now name.now)) }
+    {
+        let imports = self.core_imports(world, legacy)?;
+        Ok(imports.read(module, name))
+    }
+
+    /// What the name of a core module's export stands for in a world, the same way.
+    pub fn read_core_export(
+        &self,
+        world: &World,
+        legacy: bool,
+        name: &str,
+    ) -> Result<Option<Meaning>, AllocError>
+        ensures { IfOk result (IsReadAs (ExportStandsFor (known_of self.now.graph.tables) world.now legacy name.now)) }
+    {
+        let exports = self.core_exports(world, legacy)?;
+        Ok(exports.read(name))
     }
 
     /// The text of an interface: `namespace:name/interface`, with `@` and the version of its package behind it, if there is one; none of

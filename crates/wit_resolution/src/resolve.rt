@@ -1,8 +1,14 @@
 //! Packages that are resolved together.
 
-ghost use Rattle.std.specs.Prelude.{◌≡◌, ◌⊎◌, ◌<◌, ◌^◌, ◌+◌, ◌≤◌, ◌++◌, ◌∷◌, [], ℕ, false, length, option_map, IfOk, IfErr, OnOk, OnErr};
+ghost use Rattle.std.specs.Prelude.{◌≡◌, ◌⊎◌, ◌<◌, ◌^◌, ◌+◌, ◌≤◌, ◌++◌, ◌∷◌, [], ℕ, Some, false, length, option_map, IfOk, IfErr, OnOk, OnErr};
 ghost use Rattle.wit_features.specs.Features.{with_name};
+ghost use Rattle.wit_arena.specs.Tree.{Tree, resource_leaf};
+ghost use Rattle.wit_arena.specs.Unfold.{Owners, trees, value_tree};
+ghost use Rattle.wit_graph.specs.Graph.{IsElaborated, IsGraph};
+ghost use Rattle.wit_graph.specs.Packages.{AreDependenciesFirst, ArePackageDeps};
 ghost use Rattle.wit_graph.specs.Push.{HasMorePackages};
+ghost use Rattle.wit_resources.specs.Holding.{all_bits_valid};
+ghost use Rattle.wit_resources.specs.Natures.{natures, ref_nature};
 ghost use Rattle.wit_graph_parts.specs.Own.{IsWellFormed};
 ghost use Rattle.wit_order.specs.Order.{Has};
 ghost use Rattle.wit_package.specs.GroupView.{texts};
@@ -28,7 +34,8 @@ use wit_offsets::with_offset;
 use wit_package::{PackageFault, UnresolvedPackageGroup};
 use wit_selection::select_world;
 use wit_types::{
-    Arena, Interface, Package, PackageId, PackageName, TypeDef, UnresolvedPackage, World, WorldId,
+    Arena, Interface, Package, PackageId, PackageName, Type, TypeDef, UnresolvedPackage, World,
+    WorldId,
 };
 use wit_well_formed::{law_moved_packages_are_well_formed, law_parsed_packages_are_well_formed};
 use wit_words::{SourceMap, Span};
@@ -279,6 +286,49 @@ impl Resolve {
         ensures cause { IfErr result (λ e. (fault : SelectFault) × IsSelectCause self.now.graph.tables.packages main.now (option_map (λ t. t.now) name.entry) fault × (e ≡ of_selection fault)) }
     {
         Ok(select_world(self.alloc, self.graph.packages(), main, name)?)
+    }
+
+    /// Adds to what a world imports all on which that and its exports depend. This is so of each world from its push on, so nothing changes
+    /// (Component Model, WIT, Worlds).
+    pub fn elaborate(&mut self, id: WorldId)
+        requires { id < length self.old.graph.tables.worlds.elaborated }
+        ensures same { self.new ≡ self.old }
+        ensures elaborated { IsElaborated self.old.graph.tables id }
+    {
+        self.graph.law_is_graph();
+        let _ = id;
+    }
+
+    /// Does nothing: all that is there holds together, as the type says of each value.
+    pub fn assert_valid(&self)
+        ensures { IsGraph self.now.graph }
+    {
+        self.graph.law_is_graph();
+    }
+
+    /// Whether any bits in as much memory as a value of a type takes are one, as far as bits go: of integers, floating-point numbers and
+    /// handles, and of records, tuples, lists of fixed length and other names of what is so (Canonical ABI, Loading).
+    pub fn all_bits_valid(&self, ty: &Type) -> bool
+        ensures value { result ≡ (ref_nature (natures self.now.graph.tables.types) ty.now).all_bits_valid }
+        ensures tree { (owners : Owners) (v : Tree) → value_tree (trees owners resource_leaf self.now.graph.tables.types) ty.now ≡ Some v → result ≡ all_bits_valid v }
+    {
+        self.graph.all_bits_valid(ty)
+    }
+
+    /// The packages of which a package names an interface: in a `use`, or as an import or export of a world, also by what it depends on.
+    /// Itself is none of them. Fails for want of memory alone (WIT, Packages).
+    pub fn package_direct_deps(&self, id: PackageId) -> Result<Vec<PackageId>, AllocError>
+        requires { id < length self.now.graph.tables.packages }
+        ensures { IfOk result (λ deps. ArePackageDeps self.now.graph.tables id deps.items) }
+    {
+        self.graph.package_direct_deps(self.alloc, id)
+    }
+
+    /// All packages, each behind those of which it names an interface. Fails for want of memory alone (WIT, Packages).
+    pub fn topological_packages(&self) -> Result<Vec<PackageId>, AllocError>
+        ensures { IfOk result (λ order. AreDependenciesFirst self.now.graph.tables order.items) }
+    {
+        self.graph.topological_packages(self.alloc)
     }
 
     /// Where a span begins, as `PATH:LINE:COLUMN`, both from 1, the column in characters: in the first text in which all of the span lies. A

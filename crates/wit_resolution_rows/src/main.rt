@@ -10,6 +10,7 @@
 //! begin with `# ` are titles.
 #![tactic(auto)]
 
+mod deps;
 mod groups;
 mod names;
 mod packages;

@@ -1,6 +1,8 @@
-//! What is asked: `names` asks for all texts of interfaces and worlds, and `select TEXT from PACKAGE ..` for the
+//! What is asked: `names` asks for all texts of interfaces and worlds, `packages` for each package behind those of which it names an
+//! interface, with these, `bits` for whether any bits are a value of the types that have names, and `select TEXT from PACKAGE ..` for the
 //! world of that text where these are the main packages; without a text it is `select from PACKAGE ..`.
 
+use crate::deps;
 use crate::names::all;
 use crate::places::{known, view_of};
 use std::alloc::{AllocError, Global};
@@ -78,6 +80,10 @@ fn question(page: &mut Page, resolve: &Resolve, asked: &str) {
         page.end();
     } else if asked == "names" {
         all(page, resolve);
+    } else if asked == "packages" {
+        deps::packages(page, resolve);
+    } else if asked == "bits" {
+        deps::bits(page, resolve);
     } else {
         page.words("! cannot read this question\n");
     }
