@@ -1,13 +1,12 @@
 -- What is handed to a session.
-use Rattle.std.proofs.Common.{◌≡◌, ◌∙◌, ℕ, Bool, List, [], ◌∷◌, Option, Some, None, Result, Ok, Err, OnOk, refl, sym, ap, subst, inl, inr, ◌⊎◌, string_bytes}
-use Rattle.command_line.specs.declared.line.Input.{Input as LineInput}
+use Rattle.std.proofs.Common.{◌≡◌, ◌∙◌, ℕ, Bool, Some, None, Result, Ok, Err, OnOk, sym, ap, subst, inl, inr, string_bytes}
 use Rattle.command_line.specs.declared.line.Line.{Line}
 use Rattle.component_session.specs.Input.{Input}
 use Rattle.wit_resolution.specs.Pushes.{Resolved, AreTextsPushed, AreTextsError}
 use Rattle.wit_types.specs.declared.«package».PackageName.{PackageName}
 use Rattle.component_linker.specs.declared.program.Stop.{Stop}
 use Rattle.component_linker.specs.declared.program.Stop.TheVariants as stops
-use Rattle.component_linker.specs.Program.{Files, file_fault, opened, options_of, packages_of, Names, IsMain, IsCompleted, last_main, Handed}
+use Rattle.component_linker.specs.Program.{Files, file_fault, opened, packages_of, Names, IsMain, IsCompleted, last_main, Handed}
 use Rattle.component_linker.specs.Stops.{IsFileStop, IsResolveStop, IsTextsStop, IsNameError, IsHandStop, IsCompleteStop, IsPrepareStop}
 
 module _ (eq : PackageName → PackageName → Bool) (files : Files) (l : Line) where

@@ -3,8 +3,8 @@ use Rattle.std.proofs.Common.{ℕ, Bool, List, Option, inl, inr}
 use Rattle.command_line.specs.declared.line.Line.{Line}
 use Rattle.component_session.specs.Input.{Input}
 use Rattle.wit_types.specs.declared.«package».PackageName.{PackageName}
-use Rattle.component_linker.specs.Program.{Files, Handed, IsAnswer, IsLineAnswer, IsOutcome, Writes}
-use Rattle.component_linker.specs.Stops.{IsAnswerStop, IsPrepareStop, IsStop, WritesPart}
+use Rattle.component_linker.specs.Program.{Files, Handed, IsAnswer, IsOutcome, Writes}
+use Rattle.component_linker.specs.Stops.{IsAnswerStop, IsPrepareStop, IsStop}
 use Rattle.component_linker.specs.declared.program.Stop.{Stop}
 use Rattle.component_linker.specs.declared.program.Stop.TheVariants as stops
 

@@ -1,5 +1,5 @@
 -- Groups that were read from their texts.
-use Rattle.std.proofs.Common.{◌≡◌, ◌∙◌, ℕ, zero, suc, Bool, List, [], ◌∷◌, ◌++◌, map, take, Result, Ok, Err, IfOk, IfErr, OnErr, refl, sym, subst, ap, inl, inr}
+use Rattle.std.proofs.Common.{◌≡◌, ◌∙◌, ℕ, zero, suc, Bool, List, [], ◌∷◌, ◌++◌, take, Result, Ok, Err, IfOk, IfErr, OnErr, refl, sym, subst, ap, inl, inr}
 use Rattle.std.specs.List.{AllZip, flat_map}
 use Rattle.wit_order.specs.Order.{Has}
 use Rattle.wit_package.specs.declared.group.UnresolvedPackageGroup.{UnresolvedPackageGroup}

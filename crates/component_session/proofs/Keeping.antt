@@ -1,15 +1,13 @@
 -- What is always so of the input stays so.
-use Rattle.std.proofs.Common.{◌≡◌, ℕ, ◌<◌, ◌+◌, Bool, List, ◌++◌, length, length-append, Option, Some, None, Result, Ok, Err, IfOk, OnOk, OnErr, refl, sym, ap, subst, ◌∙◌, arith}
+use Rattle.std.proofs.Common.{◌≡◌, ℕ, ◌<◌, ◌+◌, Bool, List, length, length-append, Option, None, Result, Ok, Err, IfOk, OnOk, OnErr, sym, ap, subst, ◌∙◌, arith}
 use Rattle.std.specs.Option.{ForSome}
-use Rattle.wasm_format.specs.Module.{ModuleValue}
-use Rattle.wasm_format.specs.Grammar.{IsModule}
 use Rattle.wit_features.specs.Features.{FeatureSet}
 use Rattle.wit_graph.specs.Push.{HasMorePackages}
 use Rattle.wit_resolution.specs.Pushes.{Resolved, nothing_resolved, AreTextsPushed, AreTextsRefused}
 use Rattle.wit_types.specs.declared.«package».PackageName.{PackageName}
 use Rattle.wit_types.specs.declared.world.World.{World}
 use Rattle.wit_words.specs.Sources.{SourceText}
-use Rattle.component_session.specs.Coming.{ComeOfTexts, nothing, after, features, pushed, refused}
+use Rattle.component_session.specs.Coming.{nothing, after, features, pushed, refused}
 use Rattle.component_session.specs.Input.{ModuleInput, worlds_of}
 use Rattle.component_session.specs.Kept.{WellKept}
 

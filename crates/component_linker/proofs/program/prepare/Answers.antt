@@ -3,7 +3,7 @@ use Rattle.wit_component.proofs.Results.{moved_up}
 use Rattle.wit_resolution.specs.Pushes.{AreTextsPushed, AreTextsError}
 use Rattle.wit_types.specs.contracts.«package».PackageNamePartialEq.TheImpl.{eq-value as package_eq}
 use Rattle.component_session.specs.Input.{Input}
-use Rattle.component_linker.specs.Program.{file_fault, opened, packages_of}
+use Rattle.component_linker.specs.Program.{file_fault, packages_of}
 use Rattle.component_linker.specs.Stops.{IsFileStop, IsTextsStop, IsPrepareStop}
 use Rattle.component_linker.proofs.Handing.{looked, texts_stop, complete_stop, handed}
 use Rattle.component_linker.proofs.program.prepare.Goals as goal
