@@ -1,12 +1,11 @@
-//! A block: the lines between two blank ones, over one session and one set of files.
+//! A block: the lines between two blank ones, over one session.
 
-use crate::command::{write_reading, write_run};
-use crate::page::Page;
+use crate::memory;
 use crate::question::ask;
-use crate::row::{Row, UNREADABLE, read_row};
+use crate::row::{Row, read_row};
 use crate::setup::{Texts, hand_over};
-use crate::{memory, stops};
 use component_linker::Session;
+use row_pages::{Page, UNREADABLE};
 use std::alloc::{AllocError, Global};
 
 /// What the rows of a block work on.
@@ -17,7 +16,6 @@ struct Desk<'r> {
     texts: Texts,
     /// What was built last.
     built: Option<Vec<u8>>,
-    files: Vec<(&'r str, &'r [u8])>,
 }
 
 impl<'r> Desk<'r> {
@@ -31,16 +29,6 @@ impl<'r> Desk<'r> {
             Row::Question(question) => {
                 ask(alloc, &mut self.session, &mut self.built, question, page);
             }
-            Row::File(file) => {
-                if self.files.push((file.path, file.bytes.as_slice())).is_err() {
-                    page.refuse();
-                }
-            }
-            Row::Line(words) => write_reading(alloc, page, words),
-            Row::Run(words) => write_run(alloc, &self.files, words, page),
-            Row::Link(link) => page.made(link.to_text(alloc)),
-            Row::Verdict(verdict) => page.made(verdict.to_text(alloc)),
-            Row::Stops(what) => stops::answer(page, what),
             Row::Memory(what) => memory::answer(page, what),
         }
     }
@@ -69,7 +57,6 @@ fn answers<'r>(alloc: Global, lines: &[String], rows: &'r [Row<'_>]) -> Result<S
         session: Session::new(alloc),
         texts: Texts::new(),
         built: None,
-        files: Vec::new(alloc),
     };
     let mut page = Page::new(alloc);
     for (line, row) in lines.iter().zip(rows) {

@@ -4,16 +4,11 @@
 #![tactic(auto)]
 
 mod block;
-mod command;
-mod first;
 mod memory;
-mod page;
 mod question;
+mod refusals;
 mod row;
-mod sample;
 mod setup;
-mod spelling;
-mod stops;
 
 use std::io;
 use std::io::{BufRead, BufReader};

@@ -3,13 +3,13 @@
 //! Where no request is refused each call is to give the row at once. `checks/memory.sh` asks these rows again and again, and
 //! refuses the first request, the second and so on until a run meets no refusal.
 
-use crate::first::{IMPORTER, LOWERED, TEXT};
-use crate::page::Page;
-use crate::row::UNREADABLE;
+use crate::refusals::{write_fault, write_unresolved};
 use component_linker::{
     Fault, HandedModule, Link, LinkKind, LinkSide, Options, PackageId, Resolve, ResolveError,
     ResolveErrorKind, Session, StringEncoding, Verdict, WorldId, audit,
 };
+use row_pages::first::{IMPORTER, LOWERED, TEXT};
+use row_pages::{Page, UNREADABLE};
 use wit_types::{Function, FunctionKind, Package, World, WorldItem, WorldKey};
 
 /// What a session answers by its readers.
@@ -157,7 +157,7 @@ fn once<T: Drop>(page: &mut Page, outcome: Result<T, Fault>) -> Option<T> {
         Ok(value) => Some(value),
         Err(Fault::OutOfMemory) => None,
         Err(fault) => {
-            page.fault(&fault);
+            write_fault(page, &fault);
             None
         }
     }
@@ -168,7 +168,7 @@ fn answered<T: Drop>(page: &mut Page, outcome: Result<T, Fault>) -> Option<T> {
     match outcome {
         Ok(value) => Some(value),
         Err(fault) => {
-            page.fault(&fault);
+            write_fault(page, &fault);
             None
         }
     }
@@ -185,7 +185,7 @@ fn once_resolved<T: Drop>(
         Ok(value) => Some(value),
         Err(error) => {
             if *error.kind() != ResolveErrorKind::OutOfMemory {
-                page.unresolved(session, &error);
+                write_unresolved(page, session, &error);
             }
             None
         }
@@ -201,7 +201,7 @@ fn resolved<T: Drop>(
     match outcome {
         Ok(value) => Some(value),
         Err(error) => {
-            page.unresolved(session, &error);
+            write_unresolved(page, session, &error);
             None
         }
     }

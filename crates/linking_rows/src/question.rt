@@ -1,9 +1,8 @@
 //! Rows that ask a session.
 
-use crate::page::Page;
-use crate::row::UNREADABLE;
-use crate::spelling::{RowFault, bytes_of, quoted, readable};
+use crate::refusals::{write_fault, write_unresolved};
 use component_linker::{Link, PackageId, Session, audit};
+use row_pages::{Page, RowFault, UNREADABLE, bytes_of, quoted, readable};
 use std::alloc::Global;
 use wit_types::Package;
 
@@ -96,7 +95,7 @@ fn write_selection(
 ) {
     match session.select_world(packages, text) {
         Ok(world) => page.number("world", world.index()),
-        Err(error) => page.unresolved(session, &error),
+        Err(error) => write_unresolved(page, session, &error),
     }
 }
 
@@ -114,7 +113,7 @@ fn write_links(alloc: Global, page: &mut Page, links: &[Link]) {
 fn write_linking(alloc: Global, page: &mut Page, session: &Session) {
     match session.links() {
         Ok(links) => write_links(alloc, page, &links),
-        Err(fault) => page.fault(&fault),
+        Err(fault) => write_fault(page, &fault),
     }
 }
 
@@ -122,7 +121,7 @@ fn write_linking(alloc: Global, page: &mut Page, session: &Session) {
 fn write_verdict(alloc: Global, page: &mut Page, session: &Session, bytes: &[u8]) {
     match audit(session, bytes) {
         Ok(verdict) => page.made(verdict.to_text(alloc)),
-        Err(fault) => page.fault(&fault),
+        Err(fault) => write_fault(page, &fault),
     }
 }
 
@@ -133,7 +132,7 @@ fn write_built(alloc: Global, session: &Session, built: &mut Option<Vec<u8>>, pa
             page.made(hex::encode(alloc, bytes.as_slice()));
             *built = Some(bytes);
         }
-        Err(fault) => page.fault(&fault),
+        Err(fault) => write_fault(page, &fault),
     }
 }
 

@@ -1,15 +1,9 @@
 //! The lines of a block.
 
-use crate::command::{File, file_of};
 use crate::question::{Question, question_of};
-use crate::sample::{link_of, verdict_of};
 use crate::setup::{Setup, setup_of};
-use crate::spelling::{RowFault, readable};
-use component_linker::{Link, Verdict};
+use row_pages::RowFault;
 use std::alloc::{AllocError, Global};
-
-/// The answer of a line that is none of the rows.
-pub const UNREADABLE: &str = "! cannot read this row\n";
 
 /// A line that was read.
 #[derive(Drop)]
@@ -22,52 +16,8 @@ pub enum Row<'t> {
     Setup(Setup<'t>),
     /// What a session is asked.
     Question(Question),
-    /// A file that a run can read.
-    File(File<'t>),
-    /// The words to read as a command line.
-    Line(Vec<&'t str>),
-    /// The words to run the program on.
-    Run(Vec<&'t str>),
-    /// A link whose text is asked.
-    Link(Box<Link>),
-    /// A verdict whose text is asked.
-    Verdict(Verdict),
-    /// What is asked of writers that stop.
-    Stops(&'t str),
     /// What is asked where memory is wanting.
     Memory(&'t str),
-}
-
-/// The words of a text.
-fn words_of<'t>(alloc: Global, text: &'t str) -> Result<Vec<&'t str>, AllocError> {
-    text.split_whitespace().collect(alloc)
-}
-
-/// The row of the link that these words spell.
-fn link_row<'t>(alloc: Global, rest: &str) -> Result<Row<'t>, RowFault> {
-    let words = words_of(alloc, rest)?;
-    let link = link_of(alloc, &words)?;
-    Ok(Row::Link(Box::new(alloc, link)?))
-}
-
-/// The row of the verdict that these words spell.
-fn verdict_row<'t>(alloc: Global, rest: &str) -> Result<Row<'t>, RowFault> {
-    let words = words_of(alloc, rest)?;
-    Ok(Row::Verdict(readable(verdict_of(&words))?))
-}
-
-/// The row of this first word that needs no session.
-fn other_row<'t>(alloc: Global, word: &str, rest: &'t str) -> Result<Row<'t>, RowFault> {
-    match word {
-        "file" => Ok(Row::File(file_of(alloc, rest)?)),
-        "line" => Ok(Row::Line(words_of(alloc, rest)?)),
-        "run" => Ok(Row::Run(words_of(alloc, rest)?)),
-        "link" => link_row(alloc, rest),
-        "verdict" => verdict_row(alloc, rest),
-        "stops" => Ok(Row::Stops(rest)),
-        "memory" => Ok(Row::Memory(rest)),
-        _ => Err(RowFault::Unreadable),
-    }
 }
 
 /// The row that begins with this word, with the rest of its line.
@@ -77,7 +27,8 @@ fn row_of<'t>(alloc: Global, word: &str, rest: &'t str) -> Result<Row<'t>, RowFa
         "packages" | "select" | "links" | "build" | "audit" => {
             Ok(Row::Question(question_of(alloc, word, rest)?))
         }
-        _ => other_row(alloc, word, rest),
+        "memory" => Ok(Row::Memory(rest)),
+        _ => Err(RowFault::Unreadable),
     }
 }
 

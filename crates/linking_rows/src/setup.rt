@@ -1,9 +1,8 @@
 //! Rows that hand a session its input; they are answered where they are refused.
 
-use crate::page::Page;
-use crate::row::UNREADABLE;
-use crate::spelling::{RowFault, bytes_of, readable, unescaped};
+use crate::refusals::{write_fault, write_unresolved};
 use component_linker::{Fault, PackageId, Session, StringEncoding, WorldId};
+use row_pages::{Page, RowFault, UNREADABLE, bytes_of, readable, unescaped};
 use std::alloc::Global;
 
 /// An option that is on or off.
@@ -108,7 +107,7 @@ fn push(session: &mut Session, texts: &mut Texts, text: &str, page: &mut Page) {
                 texts.main = Some(id);
             }
         }
-        Err(error) => page.unresolved(session, &error),
+        Err(error) => write_unresolved(page, session, &error),
     }
 }
 
@@ -119,7 +118,7 @@ fn choose(session: &mut Session, main: Option<PackageId>, name: &str, page: &mut
         None => session.select_world(&[], Some(name)),
     };
     if let Err(error) = chosen {
-        page.unresolved(session, &error);
+        write_unresolved(page, session, &error);
     }
 }
 
@@ -137,7 +136,7 @@ fn set(session: &mut Session, setting: Setting, on: bool) {
 /// The line of a refusal, if there is one.
 fn write_refusal(page: &mut Page, outcome: Result<(), Fault>) {
     if let Err(fault) = outcome {
-        page.fault(&fault);
+        write_fault(page, &fault);
     }
 }
 

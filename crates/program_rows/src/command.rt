@@ -1,8 +1,7 @@
 //! Rows of the program: its words, and what a run over files writes.
 
-use crate::page::Page;
-use crate::spelling::{RowFault, bytes_of, inside_quotes, readable, unescaped};
 use component_linker::{Action, Encoding, Input, Line, LineFault, read_line, run};
+use row_pages::{Page, RowFault, bytes_of, inside_quotes, readable, unescaped};
 use std::alloc::Global;
 
 /// A file that a run can read.

@@ -1,9 +1,8 @@
 //! Writers that fail, or take nothing, in the middle of what is written.
 
-use crate::first::{FILES, LOWERED};
-use crate::page::Page;
-use crate::row::UNREADABLE;
 use component_linker::{Line, LineFault, emit, read_line, run};
+use row_pages::first::{FILES, LOWERED};
+use row_pages::{Page, UNREADABLE};
 use std::alloc::Global;
 use std::io;
 use std::io::{ErrorKind, Write};

@@ -1,7 +1,7 @@
 //! Rows that spell a link or a verdict, which is answered by its text.
 
-use crate::spelling::{RowFault, quoted, quoted_or_absent, readable};
 use component_linker::{FindingKind, Link, LinkKind, LinkSide, Owner, StringEncoding, Verdict};
+use row_pages::{RowFault, quoted, quoted_or_absent, readable};
 use std::alloc::Global;
 
 fn side_named(word: &str) -> Option<LinkSide> {

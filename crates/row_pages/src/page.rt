@@ -1,9 +1,8 @@
 //! What is printed.
 
 use crate::spelling::escaped;
-use component_linker::{Fault, ResolveError, Session};
 use std::alloc::{AllocError, Global};
-use std::fmt::Write;
+use std::fmt::{Display, Write};
 
 /// What is printed of a block, as it is written.
 #[derive(Drop)]
@@ -81,22 +80,10 @@ impl Page {
         }
     }
 
-    /// The line of a refusal.
-    pub fn fault(&mut self, fault: &Fault) {
-        let written = write!(self.out, "  {fault}\n");
+    /// What a value is shown as, wherever it stands in a line.
+    pub fn shown<T: Display>(&mut self, value: &T) {
+        let written = write!(self.out, "{value}");
         self.note(written);
-    }
-
-    /// The line of packages that aren't resolved, or have no such world, with its place in the texts of the session, if it has
-    /// one.
-    pub fn unresolved(&mut self, session: &Session, error: &ResolveError) {
-        let written = write!(self.out, "  {error}");
-        self.note(written);
-        if let Some(span) = error.span() {
-            self.words(" at ");
-            self.text(session.resolve().render_location(span));
-        }
-        self.words("\n");
     }
 
     /// A line with a word and a number.
