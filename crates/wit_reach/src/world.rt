@@ -210,8 +210,7 @@ pub fn world_lists(
     })
 }
 
-/// The interfaces that a world names, each once: those that it imports or exports, by whatever keys, and those of which its types are
-/// other names.
+/// The interfaces that a world names: those that it imports or exports, by whatever keys, and those of which its types are other names.
 pub fn named_interfaces(
     alloc: Global,
     types: &Arena<TypeDef>,

@@ -1,4 +1,4 @@
--- What a type holds, by its tree (WIT, Types: `borrow`, Item: `resource`; Canonical ABI, Storing).
+-- What a type holds, by its tree (WIT, Types: `borrow`, Item: `resource`; Canonical ABI, Loading).
 use Rattle.std.specs.Prelude.{Bool, true, false, ◌||◌, ◌&&◌}
 use Rattle.wit_arena.specs.Tree as tree
 use Rattle.wit_arena.specs.Tree.{Primitive, Tree, TreeOption, Trees, no_tree, a_tree, no_trees, trees_and, primitive, list_tree, fixed_length_list_tree, option_tree, tuple_tree, result_tree, future_tree, stream_tree, own_tree, borrow_tree, record_tree, flags_tree, enum_tree, variant_tree, resource_leaf, named_tree}
