@@ -4,3 +4,4 @@ mod Refusing
 mod Finishing
 mod Closing
 pub mod Depending
+mod Rising

@@ -4,6 +4,7 @@ use Rattle.wit_order.specs.Order.{Has, IsOrder}
 use Rattle.wit_types.specs.declared.interface.Interface.{Interface}
 use Rattle.wit_types.specs.declared.world.World.{World}
 use Rattle.wit_reach.specs.Lists.{IsNamedBy}
+use Rattle.wit_reach.specs.Paths.{AreRising}
 use Rattle.wit_graph.specs.Graph.{IsPackageDep}
 use Rattle.wit_graph.specs.declared.tables.Tables.{Tables}
 
@@ -15,10 +16,11 @@ IsNamedByWorld t i j = (w : World) × (slice_get t.worlds.elaborated i ≡ Some 
 abbrev pub IsOfOther : List Interface → ℕ → ℕ → ℕ → Type 0
 IsOfOther interfaces own j q = (q ≡ own → ⊥) × ((d : Interface) × (slice_get interfaces j ≡ Some d) × (d.«package» ≡ Some q))
 
--- the packages of which the one with that id names an interface
-abbrev pub ArePackageDeps : Tables → ℕ → List ℕ → Type 0
-ArePackageDeps t p deps = (q : ℕ) → Has deps q ↔ IsPackageDep t p q
+-- the packages of which the one with that id names an interface, by rising ids
+pub record ArePackageDeps (t : Tables) (p : ℕ) (deps : List ℕ) : Type 0 where
+  pub rising : AreRising deps
+  pub are : (q : ℕ) → Has deps q ↔ IsPackageDep t p q
 
 -- each package once, and before it all of which it names an interface
-abbrev pub AreDependenciesFirst : Tables → List ℕ → Type 0
-AreDependenciesFirst t order = IsOrder (length t.packages) (IsPackageDep t) order
+abbrev pub ArePackagesInOrder : Tables → List ℕ → Type 0
+ArePackagesInOrder t order = IsOrder (length t.packages) (IsPackageDep t) order

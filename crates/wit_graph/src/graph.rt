@@ -12,7 +12,7 @@ ghost use Rattle.wit_plans.specs.Plans.{IsPlanned, IsPlanCause};
 ghost use Rattle.wit_placed.specs.There.{AreBelow};
 ghost use Rattle.wit_graph_parts.specs.Own.{IsWellFormed, parts};
 ghost use Rattle.wit_graph.specs.Graph.{Graph as Value, IsClosureOf, IsDepsOf, IsGraph, nothing, items_of, sizes as sizes_of};
-ghost use Rattle.wit_graph.specs.Packages.{AreDependenciesFirst, ArePackageDeps};
+ghost use Rattle.wit_graph.specs.Packages.{ArePackagesInOrder, ArePackageDeps};
 ghost use Rattle.wit_graph.specs.Push as spec;
 ghost use Rattle.wit_arena.specs.Tree.{Tree, resource_leaf};
 ghost use Rattle.wit_arena.specs.Unfold.{Owners as TextOwners, trees, value_tree};
@@ -212,7 +212,7 @@ impl Graph {
     }
 
     /// The packages of which a package names an interface: in a `use`, or as an import or export of a world, also by what it depends on.
-    /// Itself is none of them. Fails for want of memory alone (WIT, Packages).
+    /// Each once, by rising ids; itself is none of them. Fails for want of memory alone (WIT, Packages).
     pub fn package_direct_deps(
         &self,
         alloc: Global,
@@ -226,7 +226,7 @@ impl Graph {
 
     /// All packages, each behind those of which it names an interface. Fails for want of memory alone (WIT, Packages).
     pub fn topological_packages(&self, alloc: Global) -> Result<Vec<PackageId>, AllocError>
-        ensures { IfOk result (λ order. AreDependenciesFirst self.now.tables order.items) }
+        ensures { IfOk result (λ order. ArePackagesInOrder self.now.tables order.items) }
     {
         ordered(alloc, &self.tables)
     }

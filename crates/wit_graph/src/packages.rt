@@ -4,6 +4,7 @@ ghost use Rattle.std.specs.Prelude.{◌≡◌, ◌↔◌, ◌⊎◌, ◌<◌, �
 ghost use Rattle.wit_order.specs.Order.{Has};
 ghost use Rattle.wit_graph.specs.Graph.{AreWhole, IsNamedIn};
 ghost use Rattle.wit_graph.specs.Packages as spec;
+ghost use Rattle.wit_reach.specs.Paths.{AreRising};
 
 use crate::tables::Tables;
 use std::alloc::{AllocError, Global};
@@ -151,9 +152,10 @@ fn interfaces_of(alloc: Global, set: &BTreeSet<usize>) -> Result<Vec<InterfaceId
     Ok(found)
 }
 
-/// The packages of a set.
+/// The packages of a set, by rising ids.
 fn packages_of(alloc: Global, set: &BTreeSet<usize>) -> Result<Vec<PackageId>, AllocError>
-    ensures { IfOk result (λ found. found.items ≡ set.now.keys) }
+    ensures keys { IfOk result (λ found. found.items ≡ set.now.keys) }
+    ensures rising { IfOk result (λ found. AreRising found.items) }
 {
     let mut found = Vec::with_capacity(alloc, set.len())?;
     for index in set {
@@ -162,7 +164,7 @@ fn packages_of(alloc: Global, set: &BTreeSet<usize>) -> Result<Vec<PackageId>, A
     Ok(found)
 }
 
-/// The packages of which a package names an interface, but for itself.
+/// The packages of which a package names an interface, but for itself, by rising ids.
 pub fn package_deps(
     alloc: Global,
     tables: &Tables,
@@ -188,7 +190,7 @@ pub fn package_deps(
 /// All packages, each behind those of which it names an interface.
 pub fn ordered(alloc: Global, tables: &Tables) -> Result<Vec<PackageId>, AllocError>
     requires { AreWhole tables.now }
-    ensures { IfOk result (λ order. spec.AreDependenciesFirst tables.now order.items) }
+    ensures { IfOk result (λ order. spec.ArePackagesInOrder tables.now order.items) }
 {
     let mut order = Vec::with_capacity(alloc, tables.packages.len())?;
     for index in 0..tables.packages.len() {

@@ -5,7 +5,7 @@ ghost use Rattle.wit_features.specs.Features.{with_name};
 ghost use Rattle.wit_arena.specs.Tree.{Tree, resource_leaf};
 ghost use Rattle.wit_arena.specs.Unfold.{Owners, trees, value_tree};
 ghost use Rattle.wit_graph.specs.Graph.{IsElaborated, IsGraph};
-ghost use Rattle.wit_graph.specs.Packages.{AreDependenciesFirst, ArePackageDeps};
+ghost use Rattle.wit_graph.specs.Packages.{ArePackagesInOrder, ArePackageDeps};
 ghost use Rattle.wit_graph.specs.Push.{HasMorePackages};
 ghost use Rattle.wit_resources.specs.Holding.{all_bits_valid};
 ghost use Rattle.wit_resources.specs.Natures.{natures, ref_nature};
@@ -316,7 +316,7 @@ impl Resolve {
     }
 
     /// The packages of which a package names an interface: in a `use`, or as an import or export of a world, also by what it depends on.
-    /// Itself is none of them. Fails for want of memory alone (WIT, Packages).
+    /// Each once, by rising ids; itself is none of them. Fails for want of memory alone (WIT, Packages).
     pub fn package_direct_deps(&self, id: PackageId) -> Result<Vec<PackageId>, AllocError>
         requires { id < length self.now.graph.tables.packages }
         ensures { IfOk result (λ deps. ArePackageDeps self.now.graph.tables id deps.items) }
@@ -326,7 +326,7 @@ impl Resolve {
 
     /// All packages, each behind those of which it names an interface. Fails for want of memory alone (WIT, Packages).
     pub fn topological_packages(&self) -> Result<Vec<PackageId>, AllocError>
-        ensures { IfOk result (λ order. AreDependenciesFirst self.now.graph.tables order.items) }
+        ensures { IfOk result (λ order. ArePackagesInOrder self.now.graph.tables order.items) }
     {
         self.graph.topological_packages(self.alloc)
     }
