@@ -14,7 +14,7 @@ use Rattle.known_definitions.specs.Component.{IsComponent}
 use Rattle.wit_component.specs.Linking.{Linking}
 use Rattle.wit_component.specs.Cause.{IsLinkable}
 use Rattle.wit_component.specs.Meaning.{Spaces, meaning}
-use Rattle.component_audit.specs.declared.verdict.FindingKind.TheVariants as findings
+use Rattle.wit_component.specs.declared.finding.FindingKind.TheVariants as findings
 use Rattle.component_audit.specs.declared.verdict.Verdict.{Verdict}
 use Rattle.component_audit.specs.declared.verdict.Verdict.TheVariants.{Yes, Finding}
 use Rattle.component_audit.specs.Judged.{IsJudgeCause, Says, SaysOf}
@@ -37,11 +37,11 @@ is_beyond l bytes xs linkable is none = inr (linkable, inl (xs, is, none))
 -- what is said of what the definitions stand for is said of their bytes
 pub says_of : (l : Linking) (bytes : List ℕ) (ds : List DefinitionValue) (n : ℕ) → IsComponent bytes ds → n ≡ length bytes → (v : Verdict) → SaysOf l (meaning l.main ds) n v → Says l bytes v
 says_of l bytes ds n is same Yes h = (ds, is, h)
-says_of l bytes ds n is same (Finding findings.Format offset) h = absurd h.1
+says_of l bytes ds n is same (Finding findings.Format offset) h = absurd (h.1 tt)
 says_of l bytes ds n is same (Finding findings.Import offset) h = (subst (λ k. offset ≤ k) same h.0, (ds, is, h.1))
 says_of l bytes ds n is same (Finding findings.Export offset) h = (subst (λ k. offset ≤ k) same h.0, (ds, is, h.1))
 says_of l bytes ds n is same (Finding findings.Module offset) h = (subst (λ k. offset ≤ k) same h.0, (ds, is, h.1))
 says_of l bytes ds n is same (Finding findings.Link offset) h = (subst (λ k. offset ≤ k) same h.0, (ds, is, h.1))
-says_of l bytes ds n is same (Finding findings.Fill offset) h = absurd h.1
-says_of l bytes ds n is same (Finding findings.SlotReach offset) h = absurd h.1
-says_of l bytes ds n is same (Finding findings.Name offset) h = absurd h.1
+says_of l bytes ds n is same (Finding findings.Fill offset) h = absurd (h.1 tt)
+says_of l bytes ds n is same (Finding findings.SlotReach offset) h = absurd (h.1 tt)
+says_of l bytes ds n is same (Finding findings.Name offset) h = absurd (h.1 tt)

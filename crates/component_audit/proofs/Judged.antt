@@ -1,9 +1,10 @@
 -- What the auditor's tests say of a component.
-use Rattle.std.proofs.Common.{◌≡◌, ℕ, zero, suc, get_or, ◌≤◌, ◌<◌, arith, Bool, true, false, List, [], ◌∷◌, ◌++◌, length, Option, Some, None, is_some, Any, ◌≢◌, refl, sym, ap, subst, ◌∙◌, inl, inr}
+use Rattle.std.proofs.Common.{◌≡◌, ℕ, zero, suc, get_or, ◌≤◌, ◌<◌, arith, Bool, true, false, List, [], ◌∷◌, ◌++◌, length, take, drop, ◌+◌, append_assoc, Option, Some, None, is_some, Any, ◌≢◌, refl, sym, ap, subst, ◌∙◌, inl, inr}
 use Rattle.std.specs.Prelude.{map, bytes_eq, option_map, slice_get, string_bytes}
 use Rattle.std.specs.Bool.{Decides}
 use Rattle.std.specs.List.{AllByRecursion as Each, list_all}
 use Rattle.std.proofs.lemmas.Bool.{cases_Bool, and_parts, and_from}
+use Rattle.std.proofs.lemmas.List.{append-nil, drop_more, take_more, take-append-drop}
 use Rattle.std.proofs.lemmas.Option.{same_Some}
 use Rattle.distinct_names.specs.Names.{is_new, all_new}
 use Rattle.plain_worlds.specs.World.{FunctionTypeValue}
@@ -12,11 +13,15 @@ use Rattle.component_audit.specs.declared.spaces.ImportEntry.{ImportEntry as Imp
 use Rattle.component_audit.specs.SpacesView.{import_entry}
 use Rattle.plain_worlds.specs.World.{FunctionItem, function_item}
 use Rattle.name_places.specs.FirstPlaces.{place_of}
-use Rattle.wit_component.specs.Linking.{Linking}
+use Rattle.wit_component.specs.Linking.{MainModule, Linking}
+use Rattle.wit_component.specs.Meaning as meant
+use Rattle.wit_component.specs.declared.finding.FindingKind.TheVariants as findings
 use Rattle.wit_component.specs.Table.{is_needed, needed}
-use Rattle.wit_component.specs.Meaning.{Spaces, CoreFunction, ImportEntry}
-use Rattle.wit_component.specs.Right.{IsIn, listed, type_seen, ImportsRight, ExportsRight}
-use Rattle.component_audit.specs.Judged.{Finds, IsOnce, IsOutside, function_named, is_type_of, is_listed, is_there}
+use Rattle.wit_component.specs.Meaning.{Spaces, CoreFunction, ImportEntry, all_there, given_by}
+use Rattle.wit_component.specs.Right.{IsIn, IsOnce, listed, type_seen, ImportsRight, ExportsRight, ModulesRight, LinksRight, MeetsAll}
+use Rattle.component_audit.specs.declared.spaces.CoreInstance.{CoreInstance}
+use Rattle.component_audit.specs.SpacesView.{source, instance, all_given}
+use Rattle.component_audit.specs.Judged.{Finds, IsOutside, function_named, is_type_of, is_listed, is_there}
 use Rattle.wit_component.proofs.Lists.{bytes_eq_refl, bytes_eq_is, each_in, each_at, each_map, in_map, from_filter}
 use Rattle.component_audit.proofs.Equal.{type_of_function_decides}
 use Rattle.wit_component.proofs.WrittenNames.{names_of, is_new-append, all_new_without}
@@ -237,11 +242,57 @@ exports_same l s n o =
     (λ h. record { each = h.known; only = each_map (λ y. IsIn y es) listed fs (λ f m. each_at (λ g. IsIn (listed g) es) fs f h.there m) })
     (λ h. record { known = h.each; there = each_in (λ f. IsIn (listed f) es) fs (λ f m. each_at (λ y. IsIn y es) (map listed fs) (listed f) h.only (in_map listed fs f m)) }) o
 
--- one instance
-pub once_of : {A : Type 0} (v : A → List (Option CoreFunction)) (xs : List A) → 1 ≤ length xs → length xs < 2 → IsOnce (map v xs)
-once_of v [] some few = absurd (omega arith)
-once_of v (x ∷ []) some few = (v x, refl)
-once_of v (x ∷ y ∷ xs) some few = absurd (omega arith)
+-- ---- one instance, which is given all that it asks
+
+-- something for each
+pub somethings : (g : List (Option CoreFunction)) → all_there g ≡ true → (cs : List CoreFunction) × (g ≡ map (λ c. Some c) cs)
+somethings [] h = ([], refl)
+somethings (None ∷ g) h = absurd cc
+somethings (Some c ∷ g) h = let more = somethings g h in (c ∷ more.0, ap (λ (l : List (Option CoreFunction)). Some c ∷ l) more.1)
+
+something_there : (cs : List CoreFunction) → all_there (map (λ c. Some c) cs) ≡ true
+something_there [] = refl
+something_there (c ∷ cs) = something_there cs
+
+pub once_of : (all : List (List (Option CoreFunction))) (g : List (Option CoreFunction)) → all ≡ g ∷ [] → all_there g ≡ true → IsOnce all
+once_of all g is there = let cs = somethings g there in (cs.0, is ∙ ap (λ (l : List (Option CoreFunction)). l ∷ []) cs.1)
+
+pub not_whole : (all more : List (List (Option CoreFunction))) (g : List (Option CoreFunction)) → all ≡ g ∷ more → all_there g ≡ false → IsOnce all → ⊥
+not_whole all more g is lacks once =
+    let same : g ∷ more ≡ map (λ c. Some c) once.0 ∷ [] = sym is ∙ once.1 in
+    let whole : g ≡ map (λ c. Some c) once.0 = cc in
+    let bad : true ≡ false = sym (ap all_there whole ∙ something_there once.0) ∙ lacks in
+    absurd cc
+
+pub more_than_one : (all front more : List (List (Option CoreFunction))) (g : List (Option CoreFunction)) → IsOnce front → all ≡ front ++ g ∷ more → IsOnce all → ⊥
+more_than_one all front more g first is once =
+    let same : map (λ c. Some c) first.0 ∷ (g ∷ more) ≡ map (λ c. Some c) once.0 ∷ [] = sym (is ∙ ap (λ (l : List (List (Option CoreFunction))). l ++ g ∷ more) first.1) ∙ once.1 in
+    absurd cc
+
+pub never : (all : List (List (Option CoreFunction))) → all ≡ [] → IsOnce all → ⊥
+never all is once = let same : [] ≡ map (λ c. Some c) once.0 ∷ [] = sym is ∙ once.1 in absurd cc
+
+given_append : (xs ys : List CoreInstance) → all_given (xs ++ ys) ≡ all_given xs ++ all_given ys
+given_append [] ys = refl
+given_append (x ∷ xs) ys = ap (λ l. given_by (source x) ++ l) (given_append xs ys) ∙ sym (append_assoc (given_by (source x)) (all_given xs) (all_given ys))
+
+-- at a place in a list of instances
+module _ (is : List CoreInstance) (k : ℕ) (i : CoreInstance) (lt : k < length is) (read : i ≡ get_or is k i) where
+  split : is ≡ take k is ++ i ∷ drop (k + 1) is
+  split = sym (take-append-drop k is) ∙ ap (λ l. take k is ++ l) (drop_more is k i lt ∙ ap (λ (x : CoreInstance). x ∷ drop (k + 1) is) (sym read))
+
+  pub given_here : all_given is ≡ all_given (take k is) ++ (given_by (source i) ++ all_given (drop (k + 1) is))
+  given_here = ap all_given split ∙ given_append (take k is) (i ∷ drop (k + 1) is)
+
+  pub within_here : (p : CoreInstance → Bool) → list_all p (drop k is) ≡ true → (p i ≡ true) × (list_all p (drop (k + 1) is) ≡ true)
+  within_here p h =
+      let here : drop k is ≡ i ∷ drop (k + 1) is = drop_more is k i lt ∙ ap (λ (x : CoreInstance). x ∷ drop (k + 1) is) (sym read) in
+      and_parts (p i) (list_all p (drop (k + 1) is)) (sym (ap (list_all p) here) ∙ h)
+
+  pub given_up_to : all_given (take (k + 1) is) ≡ all_given (take k is) ++ given_by (source i)
+  given_up_to =
+      ap all_given (take_more is k i lt ∙ ap (λ (x : CoreInstance). take k is ++ x ∷ []) (sym read)) ∙ given_append (take k is) (i ∷ [])
+      ∙ ap (λ l. all_given (take k is) ++ l) (append-nil (given_by (source i)))
 
 -- what holds of each holds of the one at a place
 pub each_here : {A X : Type 0} (view : A → X) (P : X → Type 0) (xs : List A) (i : ℕ) (a : A) → i < length xs → a ≡ get_or xs i a → Each P (map view xs) → P (view a)
@@ -277,6 +328,18 @@ not_handed main (m ∷ ms) h = elim (cases_Bool (bytes_eq m main)) [
 pub exports_found : (l : Linking) (s : Spaces) (n : ℕ) (fs : List FunctionItem) → fs ≡ l.world.exports → (o : Option ℕ) → Finds n (IsOutside fs fs (map type_seen s.exports)) o → Finds n (ExportsRight l s) o
 exports_found l s n fs same o h = exports_same l s n o (subst (λ gs. Finds n (IsOutside gs gs (map type_seen s.exports)) o) same h)
 
--- every export is listed
-pub all_known : (l : Linking) (s : Spaces) → ExportsRight l s → Each (λ e. IsIn (type_seen e) (map listed l.world.exports)) s.exports
-all_known l s h = each_in (λ e. IsIn (type_seen e) (map listed l.world.exports)) s.exports (λ e m. each_at (λ x. IsIn x (map listed l.world.exports)) (map type_seen s.exports) (type_seen e) h.each (in_map type_seen s.exports e m))
+-- ---- all conditions
+
+pub given_seen : (main : MainModule) (is : List CoreInstance) → all_given is ≡ meant.all_given (map (instance main) is)
+given_seen main [] = refl
+given_seen main (i ∷ is) = ap (λ l. given_by (source i) ++ l) (given_seen main is)
+
+pub meets_all : (l : Linking) (s : Spaces) → ModulesRight l s → ImportsRight l s → ExportsRight l s → LinksRight l s → MeetsAll l s
+meets_all l s modules imports exports links findings.Format = tt
+meets_all l s modules imports exports links findings.Import = imports
+meets_all l s modules imports exports links findings.Export = exports
+meets_all l s modules imports exports links findings.Module = modules
+meets_all l s modules imports exports links findings.Link = links
+meets_all l s modules imports exports links findings.Fill = tt
+meets_all l s modules imports exports links findings.SlotReach = tt
+meets_all l s modules imports exports links findings.Name = tt

@@ -12,112 +12,129 @@ use Rattle.wasm_types.specs.Types.{FuncTypeValue}
 use Rattle.wasm_types.specs.Entries.{import_value}
 use Rattle.wasm_format.specs.Module.{ModuleValue}
 use Rattle.name_places.specs.FirstPlaces.{place_of}
-use Rattle.plain_worlds.specs.World.{FunctionItem}
+use Rattle.plain_worlds.specs.World.{FunctionTypeValue, FunctionItem}
 use Rattle.wit_component.specs.Flat.{flat}
 use Rattle.wit_component.specs.Linking.{CoreImport, CoreExport, Linking, core_import}
 use Rattle.wit_component.specs.Table.{exported_by, ImportLink, ExportLink}
 use Rattle.wit_component.specs.Places.{ImportPlace, ExportPlace, Placed, Places, ArePlaces}
-use Rattle.wit_component.specs.Meaning.{CoreEnd, lowered, exported, elsewhere, FunctionEnd, imported, lifted, aside, CoreFunction, ComponentFunction, ImportEntry, ExportEntry, is_of_core_type}
-use Rattle.wit_component.specs.Right.{IsIn, listed, type_seen, lowering_of, IsGiven, EachGiven, LiftsOwn}
-use Rattle.component_audit.specs.Judged.{function_named, is_lifted, is_lift_of, is_lowered, is_lowering_of}
+use Rattle.wit_component.specs.Meaning.{Spaces, CoreOrigin, of_export, of_lower, Origin, of_import, of_lift, CoreFunction, ComponentFunction, ExportEntry, import_with, item_at, is_of_core_type}
+use Rattle.wit_component.specs.Right.{IsLoweringOf, IsLiftOf, IsGiven, EachGiven, LiftsOwn}
+use Rattle.component_audit.specs.Judged.{function_named, is_named, is_export_of, is_lift, is_lift_of, is_imported, is_import_of, is_lowering, is_lowering_of}
 use Rattle.wit_component.proofs.Lists.{bytes_eq_refl, bytes_eq_is}
 use Rattle.component_audit.proofs.Equal.{core_type_decides}
 use Rattle.wit_component.proofs.PlacesLists.{view_at}
 use Rattle.wit_component.proofs.WrittenNames.{names_of}
-use Rattle.component_audit.proofs.Judged.{map_in, named_is, named_in, named_at, named_there}
+use Rattle.component_audit.proofs.Judged.{named_is, named_in, named_at, named_there}
 
 -- ---- exports
 
-lifted_at : (e : FunctionEnd) (name : List ℕ) → is_lifted e name ≡ true → e ≡ lifted name
-lifted_at (imported n) name h = absurd cc
-lifted_at (lifted n) name h = ap lifted (bytes_eq_is n name h)
-lifted_at aside name h = absurd cc
-
-lifted_by : (o : Option ComponentFunction) (name : List ℕ) → is_lift_of o name ≡ true → (c : ComponentFunction) × (o ≡ Some c) × (c.end ≡ lifted name)
-lifted_by None name h = absurd cc
-lifted_by (Some c) name h = (c, refl, lifted_at c.end name h)
-
-module _ (l : Linking) (distinct : all_new [] (names_of l.world.exports) ≡ true) (x : ExportEntry) (known : IsIn (type_seen x) (map listed l.world.exports)) where
-  -- an export that the world lists is typed as the function of its name
-  listed_type : (f : FunctionItem) → function_named x.name l.world.exports ≡ Some f → type_seen x ≡ listed f
-  listed_type f named =
-      let from = map_in listed l.world.exports (type_seen x) known in
-      let name : x.name ≡ from.0.name = ap (λ (e : ImportEntry). e.name) from.2 in
-      let same : from.0 ≡ f = same_Some from.0 f (sym (named_in l.world.exports distinct from.0 from.1) ∙ (ap (λ n. function_named n l.world.exports) (sym name) ∙ named)) in
-      from.2 ∙ ap listed same
-
-  lift_is : (f : FunctionItem) (name : List ℕ) → type_seen x ≡ listed f → is_lift_of x.item name ≡ true → x ≡ record { name = f.name; item = Some (record { end = lifted name; ty = f.ty }) }
-  lift_is f name seen h =
-      let by = lifted_by x.item name h in
-      let typed : Some by.0.ty ≡ Some f.ty = ap (option_map (λ (c : ComponentFunction). c.ty)) (sym by.1) ∙ ap (λ (e : ImportEntry). e.item) seen in
-      let ty : by.0.ty ≡ f.ty = same_Some by.0.ty f.ty typed in
-      let item : x.item ≡ Some (record { end = lifted name; ty = f.ty }) = by.1 ∙ λ i. Some (record { end = by.2 i; ty = ty i }) in
-      let named : x.name ≡ f.name = ap (λ (e : ImportEntry). e.name) seen in
-      λ i. record { name = named i; item = item i }
-
-  own_is : (f : FunctionItem) → function_named x.name l.world.exports ≡ Some f → (e : CoreExport) → ExportLink l f e → LiftsOwn l x → is_lift_of x.item e.name ≡ true
-  own_is f named e link own =
-      let name : x.name ≡ own.function.name = ap (λ (y : ExportEntry). y.name) own.is in
-      let same : own.function ≡ f = same_Some own.function f (sym (named_in l.world.exports distinct own.function own.listed) ∙ (ap (λ n. function_named n l.world.exports) (sym name) ∙ named)) in
-      let one : own.export ∷ [] ≡ e ∷ [] = sym own.link.only ∙ (ap (exported_by l) same ∙ link.only) in
-      let export : own.export ≡ e = cc in
-      ap (λ (y : ExportEntry). is_lift_of y.item e.name) own.is ∙ (ap (λ (y : CoreExport). bytes_eq y.name e.name) export ∙ bytes_eq_refl e.name)
-
-  pub lift_decides : (f : FunctionItem) → function_named x.name l.world.exports ≡ Some f → (e : CoreExport) → ExportLink l f e → Decides (is_lift_of x.item e.name) (LiftsOwn l x)
-  lift_decides f named e link = (
-    λ h. record { function = f; export = e; listed = (named_is x.name l.world.exports f named).1; link = link; is = lift_is f e.name (listed_type f named) h },
-    λ own. own_is f named e link own,
-  )
-
-  pub none_named : function_named x.name l.world.exports ≡ None → ⊥
-  none_named none =
-      let from = map_in listed l.world.exports (type_seen x) known in
-      let bad : Some from.0 ≡ None = sym (named_in l.world.exports distinct from.0 from.1) ∙ (ap (λ n. function_named n l.world.exports) (sym (ap (λ (e : ImportEntry). e.name) from.2)) ∙ none) in
-      absurd cc
-
--- ---- core imports
-
-lowered_at : (e : CoreEnd) (name : List ℕ) → is_lowered e name ≡ true → e ≡ lowered name
-lowered_at (lowered n) name h = ap lowered (bytes_eq_is n name h)
-lowered_at (exported n) name h = absurd cc
-lowered_at elsewhere name h = absurd cc
+named_at_origin : (o : CoreOrigin) (name : List ℕ) → is_named o name ≡ true → (k : ℕ) × (o ≡ of_export k name)
+named_at_origin (of_export k x) name h = (k, ap (of_export k) (bytes_eq_is x name h))
+named_at_origin (of_lower n) name h = absurd cc
 
 core_type_of : (t : Option FuncTypeValue) (c : CoreFunction) (wanted : FuncTypeValue) → t ≡ Some wanted → is_of_core_type t (Some c) ≡ true → c.ty ≡ wanted
 core_type_of None c wanted e h = absurd cc
 core_type_of (Some t) c wanted e h = sym ((core_type_decides t c.ty).0 h) ∙ same_Some t wanted e
 
-given_of : (l : Linking) (i : CoreImport) (f : FunctionItem) → ImportLink l i f → (g : Option CoreFunction) → is_lowering_of g f.name ≡ true → is_of_core_type i.ty g ≡ true → g ≡ Some (lowering_of f)
-given_of l i f link None h t = absurd cc
-given_of l i f link (Some c) h t =
-    let end = lowered_at c.end f.name h in
-    let ty = core_type_of i.ty c (flat f.ty) link.matches t in
-    λ k. Some (record { end = end k; ty = ty k })
+of_its_type : (t : Option FuncTypeValue) (c : CoreFunction) → t ≡ Some c.ty → is_of_core_type t (Some c) ≡ true
+of_its_type t c e = ap (λ (u : Option FuncTypeValue). is_of_core_type u (Some c)) e ∙ (core_type_decides c.ty c.ty).1 refl
 
-pub given_decides : (l : Linking) (i : CoreImport) (f : FunctionItem) → ImportLink l i f → (g : Option CoreFunction) → Decides (is_lowering_of g f.name && is_of_core_type i.ty g) (IsGiven l i g)
-given_decides l i f link g = (
-  λ h. let p = and_parts (is_lowering_of g f.name) (is_of_core_type i.ty g) h in (f, link, given_of l i f link g p.0 p.1),
+-- an export of that name and core type
+export_is : (o : Option CoreFunction) (name : List ℕ) (t : Option FuncTypeValue) (wanted : FuncTypeValue) → t ≡ Some wanted → is_export_of o name t ≡ true → (k : ℕ) × (o ≡ Some (record { origin = of_export k name; ty = wanted }))
+export_is None name t wanted e h = absurd cc
+export_is (Some c) name t wanted e h =
+    let p = and_parts (is_named c.origin name) (is_of_core_type t (Some c)) h in
+    let at = named_at_origin c.origin name p.0 in
+    let ty = core_type_of t c wanted e p.1 in
+    (at.0, λ i. Some (record { origin = at.1 i; ty = ty i }))
+
+is_export : (k : ℕ) (name : List ℕ) (t : Option FuncTypeValue) (wanted : FuncTypeValue) → t ≡ Some wanted → is_export_of (Some (record { origin = of_export k name; ty = wanted })) name t ≡ true
+is_export k name t wanted e = and_from (bytes_eq name name) (is_of_core_type t (Some (record { origin = of_export k name; ty = wanted }))) (bytes_eq_refl name) (of_its_type t (record { origin = of_export k name; ty = wanted }) e)
+
+lift_is : (s : Spaces) (o : Origin) (name : List ℕ) (t : Option FuncTypeValue) (wanted : FuncTypeValue) → t ≡ Some wanted → is_lift s.core_functions o name t ≡ true → IsLiftOf s name wanted o
+lift_is s (of_import x) name t wanted e h = absurd cc
+lift_is s (of_lift n) name t wanted e h = let at = export_is (item_at s.core_functions n) name t wanted e h in (n, at.0, refl, at.1)
+
+is_its_lift : (s : Spaces) (o : Origin) (name : List ℕ) (t : Option FuncTypeValue) (wanted : FuncTypeValue) → t ≡ Some wanted → IsLiftOf s name wanted o → is_lift s.core_functions o name t ≡ true
+is_its_lift s o name t wanted e h =
+    ap (λ (x : Origin). is_lift s.core_functions x name t) h.2 ∙ (ap (λ (x : Option CoreFunction). is_export_of x name t) h.3 ∙ is_export h.1 name t wanted e)
+
+item_lifts : (s : Spaces) (o : Option ComponentFunction) (name : List ℕ) (t : Option FuncTypeValue) (wanted : FuncTypeValue) → t ≡ Some wanted → is_lift_of s.core_functions o name t ≡ true
+    → (c : ComponentFunction) × (o ≡ Some c) × IsLiftOf s name wanted c.origin
+item_lifts s None name t wanted e h = absurd cc
+item_lifts s (Some c) name t wanted e h = (c, refl, lift_is s c.origin name t wanted e h)
+
+module _ (l : Linking) (s : Spaces) (distinct : all_new [] (names_of l.world.exports) ≡ true) (x : ExportEntry) where
+  own_is : (f : FunctionItem) → function_named x.name l.world.exports ≡ Some f → (e : CoreExport) → ExportLink l f e → LiftsOwn l s x → is_lift_of s.core_functions x.item e.name e.ty ≡ true
+  own_is f named e link own =
+      let same : own.function ≡ f = same_Some own.function f (sym (named_in l.world.exports distinct own.function own.listed) ∙ (ap (λ n. function_named n l.world.exports) (sym own.name) ∙ named)) in
+      let one : own.export ∷ [] ≡ e ∷ [] = sym own.link.only ∙ (ap (exported_by l) same ∙ link.only) in
+      let export : own.export ≡ e = cc in
+      let lifts : IsLiftOf s e.name (flat f.ty) own.item.origin = subst (λ (y : CoreExport). IsLiftOf s y.name (flat f.ty) own.item.origin) export (subst (λ (g : FunctionItem). IsLiftOf s own.export.name (flat g.ty) own.item.origin) same own.lifts) in
+      ap (λ (i : Option ComponentFunction). is_lift_of s.core_functions i e.name e.ty) own.is ∙ is_its_lift s own.item.origin e.name e.ty (flat f.ty) link.matches lifts
+
+  pub lift_decides : (f : FunctionItem) → function_named x.name l.world.exports ≡ Some f → (e : CoreExport) → ExportLink l f e → Decides (is_lift_of s.core_functions x.item e.name e.ty) (LiftsOwn l s x)
+  lift_decides f named e link = (
+    λ h.
+        let at = item_lifts s x.item e.name e.ty (flat f.ty) link.matches h in
+        let of = named_is x.name l.world.exports f named in
+        record { function = f; export = e; listed = of.1; link = link; name = sym of.0; item = at.0; is = at.1; lifts = at.2 },
+    λ own. own_is f named e link own,
+  )
+
+  pub none_named : function_named x.name l.world.exports ≡ None → LiftsOwn l s x → ⊥
+  none_named none own =
+      let bad : Some own.function ≡ None = sym (named_in l.world.exports distinct own.function own.listed) ∙ (ap (λ n. function_named n l.world.exports) (sym own.name) ∙ none) in
+      absurd cc
+
+-- ---- core imports
+
+imported_is : (o : Origin) (name : List ℕ) → is_imported o name ≡ true → o ≡ of_import name
+imported_is (of_import x) name h = ap of_import (bytes_eq_is x name h)
+imported_is (of_lift n) name h = absurd cc
+
+import_is : (o : Option ComponentFunction) (name : List ℕ) → is_import_of o name ≡ true → (t : FunctionTypeValue) × (o ≡ Some (import_with name t))
+import_is None name h = absurd cc
+import_is (Some f) name h = let is = imported_is f.origin name h in (f.ty, λ i. Some (record { origin = is i; ty = f.ty }))
+
+lowers_import : (s : Spaces) (c : CoreFunction) (o : CoreOrigin) (name : List ℕ) → c.origin ≡ o → is_lowering s.functions o name ≡ true → IsLoweringOf s name c
+lowers_import s c (of_export k x) name e h = absurd cc
+lowers_import s c (of_lower n) name e h = let at = import_is (item_at s.functions n) name h in (n, at.0, e, at.1)
+
+is_its_lowering : (s : Spaces) (c : CoreFunction) (name : List ℕ) → IsLoweringOf s name c → is_lowering s.functions c.origin name ≡ true
+is_its_lowering s c name h =
+    ap (λ (o : CoreOrigin). is_lowering s.functions o name) h.2 ∙ (ap (λ (x : Option ComponentFunction). is_import_of x name) h.3 ∙ bytes_eq_refl name)
+
+given_of : (l : Linking) (s : Spaces) (i : CoreImport) (f : FunctionItem) → ImportLink l i f → (g : Option CoreFunction) → is_lowering_of s.functions g f.name ≡ true → is_of_core_type i.ty g ≡ true → IsGiven l s i g
+given_of l s i f link None h t = absurd cc
+given_of l s i f link (Some c) h t = record { function = f; link = link; core = c; is = refl; lowers = lowers_import s c c.origin f.name refl h; matches = core_type_of i.ty c (flat f.ty) link.matches t }
+
+pub given_decides : (l : Linking) (s : Spaces) (i : CoreImport) (f : FunctionItem) → ImportLink l i f → (g : Option CoreFunction) → Decides (is_lowering_of s.functions g f.name && is_of_core_type i.ty g) (IsGiven l s i g)
+given_decides l s i f link g = (
+  λ h. let p = and_parts (is_lowering_of s.functions g f.name) (is_of_core_type i.ty g) h in given_of l s i f link g p.0 p.1,
   λ own.
-      let one : own.0 ∷ [] ≡ f ∷ [] = sym own.1.only ∙ link.only in
-      let same : own.0 ≡ f = cc in
-      let is : g ≡ Some (lowering_of f) = own.2 ∙ ap (λ (x : FunctionItem). Some (lowering_of x)) same in
-      and_from (is_lowering_of g f.name) (is_of_core_type i.ty g)
-      (ap (λ (o : Option CoreFunction). is_lowering_of o f.name) is ∙ bytes_eq_refl f.name)
-      (ap (λ (o : Option CoreFunction). is_of_core_type i.ty o) is ∙ (ap (λ (t : Option FuncTypeValue). is_of_core_type t (Some (lowering_of f))) link.matches ∙ (core_type_decides (flat f.ty) (flat f.ty)).1 refl)),
+      let one : own.function ∷ [] ≡ f ∷ [] = sym own.link.only ∙ link.only in
+      let same : own.function ≡ f = cc in
+      let lowers : IsLoweringOf s f.name own.core = subst (λ (x : FunctionItem). IsLoweringOf s x.name own.core) same own.lowers in
+      let asked : i.ty ≡ Some own.core.ty = own.link.matches ∙ ap (λ (t : FuncTypeValue). Some t) (sym own.matches) in
+      and_from (is_lowering_of s.functions g f.name) (is_of_core_type i.ty g)
+      (ap (λ (o : Option CoreFunction). is_lowering_of s.functions o f.name) own.is ∙ is_its_lowering s own.core f.name lowers)
+      (ap (λ (o : Option CoreFunction). is_of_core_type i.ty o) own.is ∙ of_its_type i.ty own.core asked),
 )
 
 -- ---- all core imports
 
-pub given_length : (l : Linking) (is : List CoreImport) (gs : List (Option CoreFunction)) → EachGiven l is gs → length is ≡ length gs
-given_length l [] [] h = refl
-given_length l [] (g ∷ gs) h = absurd h
-given_length l (i ∷ is) [] h = absurd h
-given_length l (i ∷ is) (g ∷ gs) h = ap suc (given_length l is gs h.1)
+pub given_length : (l : Linking) (s : Spaces) (is : List CoreImport) (gs : List (Option CoreFunction)) → EachGiven l s is gs → length is ≡ length gs
+given_length l s [] [] h = refl
+given_length l s [] (g ∷ gs) h = absurd h
+given_length l s (i ∷ is) [] h = absurd h
+given_length l s (i ∷ is) (g ∷ gs) h = ap suc (given_length l s is gs h.1)
 
 -- of imports and what they are given, those before this place are given their own
-module _ {A B : Type 0} (l : Linking) (view : A → CoreImport) (look : B → Option CoreFunction) (is : List A) (gs : List B) where
+module _ {A B : Type 0} (l : Linking) (s : Spaces) (view : A → CoreImport) (look : B → Option CoreFunction) (is : List A) (gs : List B) where
   pub record Giving (k : ℕ) : Type 0 where
-    pub back : EachGiven l (map view (drop k is)) (map look (drop k gs)) → EachGiven l (map view is) (map look gs)
-    pub on : EachGiven l (map view is) (map look gs) → EachGiven l (map view (drop k is)) (map look (drop k gs))
+    pub back : EachGiven l s (map view (drop k is)) (map look (drop k gs)) → EachGiven l s (map view is) (map look gs)
+    pub on : EachGiven l s (map view is) (map look gs) → EachGiven l s (map view (drop k is)) (map look (drop k gs))
 
   module _ (k : ℕ) (i : A) (g : B) (lt : k < length is) (lg : k < length gs) (ii : i ≡ get_or is k i) (gg : g ≡ get_or gs k g) where
     imports_here : drop k is ≡ i ∷ drop (k + 1) is
@@ -126,20 +143,20 @@ module _ {A B : Type 0} (l : Linking) (view : A → CoreImport) (look : B → Op
     given_here : drop k gs ≡ g ∷ drop (k + 1) gs
     given_here = drop_more gs k g lg ∙ ap (λ (x : B). x ∷ drop (k + 1) gs) (sym gg)
 
-    both_here : EachGiven l (map view (drop k is)) (map look (drop k gs)) ≡ (IsGiven l (view i) (look g) × EachGiven l (map view (drop (k + 1) is)) (map look (drop (k + 1) gs)))
-    both_here = ap (λ ys. EachGiven l (map view ys) (map look (drop k gs))) imports_here ∙ ap (λ ys. EachGiven l (map view (i ∷ drop (k + 1) is)) (map look ys)) given_here
+    both_here : EachGiven l s (map view (drop k is)) (map look (drop k gs)) ≡ (IsGiven l s (view i) (look g) × EachGiven l s (map view (drop (k + 1) is)) (map look (drop (k + 1) gs)))
+    both_here = ap (λ ys. EachGiven l s (map view ys) (map look (drop k gs))) imports_here ∙ ap (λ ys. EachGiven l s (map view (i ∷ drop (k + 1) is)) (map look ys)) given_here
 
-    pub giving_on : Giving k → IsGiven l (view i) (look g) → Giving (k + 1)
+    pub giving_on : Giving k → IsGiven l s (view i) (look g) → Giving (k + 1)
     giving_on h own = record {
       back = λ rest. h.back (subst (λ (T : Type 0). T) (sym both_here) (own, rest));
       on = λ all. (subst (λ (T : Type 0). T) both_here (h.on all)).1;
     }
 
-    pub giving_fails : Giving k → (IsGiven l (view i) (look g) → ⊥) → EachGiven l (map view is) (map look gs) → ⊥
+    pub giving_fails : Giving k → (IsGiven l s (view i) (look g) → ⊥) → EachGiven l s (map view is) (map look gs) → ⊥
     giving_fails h fails all = fails (subst (λ (T : Type 0). T) both_here (h.on all)).0
 
-  pub giving_ends : (k : ℕ) → length is ≤ k → length gs ≤ k → Giving k → EachGiven l (map view is) (map look gs)
-  giving_ends k le lg h = h.back (subst (λ ys. EachGiven l (map view ys) (map look (drop k gs))) (sym (drop_all k is le)) (subst (λ ys. EachGiven l [] (map look ys)) (sym (drop_all k gs lg)) tt))
+  pub giving_ends : (k : ℕ) → length is ≤ k → length gs ≤ k → Giving k → EachGiven l s (map view is) (map look gs)
+  giving_ends k le lg h = h.back (subst (λ ys. EachGiven l s (map view ys) (map look (drop k gs))) (sym (drop_all k is le)) (subst (λ ys. EachGiven l s [] (map look ys)) (sym (drop_all k gs lg)) tt))
 
 -- ---- places
 
@@ -180,7 +197,7 @@ placed_length R (x ∷ xs) (p ∷ ps) h = ap suc (placed_length R xs ps h.1)
 
 -- ---- the loop over the core imports
 
-module _ (l : Linking) (m : ModuleValue) (items there : List Import) (same : there ≡ items) where
+module _ (l : Linking) (s : Spaces) (m : ModuleValue) (items there : List Import) (same : there ≡ items) where
   abbrev pub imports_of : List Import → List CoreImport
   imports_of xs = map (core_import m) (map import_value xs)
 
@@ -206,20 +223,20 @@ module _ (l : Linking) (m : ModuleValue) (items there : List Import) (same : the
       subst (ImportPlace l i) (same_Some at.0 p (sym at.1 ∙ here)) at.2
 
   module _ {B : Type 0} (look : B → Option CoreFunction) (gs : List B) (k : ℕ) (lt : k < length there) (lg : k < length gs) (d : Import) (g : B) (gg : g ≡ get_or gs k g) (r : Bool)
-      (says : Decides r (IsGiven l (core_import m (import_value (get_or there k d))) (look g))) (h : Giving l (λ i. core_import m (import_value i)) look items gs k) where
+      (says : Decides r (IsGiven l s (core_import m (import_value (get_or there k d))) (look g))) (h : Giving l s (λ i. core_import m (import_value i)) look items gs k) where
     lt_items : k < length items
     lt_items = omega (arith, lt, ap length same)
 
-    pub taken : r ≡ true → Giving l (λ i. core_import m (import_value i)) look items gs (k + 1)
-    taken yes_is = giving_on l (λ i. core_import m (import_value i)) look items gs k (get_or there k d) g lt_items lg (item_self k d lt) gg h (says.0 yes_is)
+    pub taken : r ≡ true → Giving l s (λ i. core_import m (import_value i)) look items gs (k + 1)
+    taken yes_is = giving_on l s (λ i. core_import m (import_value i)) look items gs k (get_or there k d) g lt_items lg (item_self k d lt) gg h (says.0 yes_is)
 
-    pub not_taken : r ≡ false → EachGiven l (imports_of items) (map look gs) → ⊥
+    pub not_taken : r ≡ false → EachGiven l s (imports_of items) (map look gs) → ⊥
     not_taken no_is all =
-        giving_fails l (λ i. core_import m (import_value i)) look items gs k (get_or there k d) g lt_items lg (item_self k d lt) gg h (not_from_Decides r says no_is)
-        (subst (λ is. EachGiven l is (map look gs)) (imports_map items) all)
+        giving_fails l s (λ i. core_import m (import_value i)) look items gs k (get_or there k d) g lt_items lg (item_self k d lt) gg h (not_from_Decides r says no_is)
+        (subst (λ is. EachGiven l s is (map look gs)) (imports_map items) all)
 
-  pub all_taken : {B : Type 0} (look : B → Option CoreFunction) (gs : List B) (k : ℕ) → length items ≤ k → length gs ≤ k → Giving l (λ i. core_import m (import_value i)) look items gs k → EachGiven l (imports_of items) (map look gs)
-  all_taken look gs k le lg h = subst (λ is. EachGiven l is (map look gs)) (sym (imports_map items)) (giving_ends l (λ i. core_import m (import_value i)) look items gs k le lg h)
+  pub all_taken : {B : Type 0} (look : B → Option CoreFunction) (gs : List B) (k : ℕ) → length items ≤ k → length gs ≤ k → Giving l s (λ i. core_import m (import_value i)) look items gs k → EachGiven l s (imports_of items) (map look gs)
+  all_taken look gs k le lg h = subst (λ is. EachGiven l s is (map look gs)) (sym (imports_map items)) (giving_ends l s (λ i. core_import m (import_value i)) look items gs k le lg h)
 
-  pub as_many : {B : Type 0} (look : B → Option CoreFunction) (gs : List B) → EachGiven l (imports_of items) (map look gs) → length gs ≡ length items
-  as_many look gs h = omega (arith, given_length l (imports_of items) (map look gs) h, length-map gs look, length-map (map import_value items) (core_import m), length-map items import_value)
+  pub as_many : {B : Type 0} (look : B → Option CoreFunction) (gs : List B) → EachGiven l s (imports_of items) (map look gs) → length gs ≡ length items
+  as_many look gs h = omega (arith, given_length l s (imports_of items) (map look gs) h, length-map gs look, length-map (map import_value items) (core_import m), length-map items import_value)

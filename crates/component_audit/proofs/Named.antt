@@ -1,19 +1,17 @@
 -- First places of names.
-use Rattle.std.proofs.Common.{◌≡◌, ℕ, zero, suc, List, [], ◌∷◌, length, drop, ◌<◌, ◌≤◌, arith, length-drop, false, Option, Some, None, refl, sym, ap, ◌∙◌, inl, inr}
+use Rattle.std.proofs.Common.{◌≡◌, ℕ, zero, suc, List, [], ◌∷◌, Option, Some, None, refl, sym, ap, ◌∙◌, inl, inr}
 use Rattle.std.specs.Prelude.{map, option_map, option_and_then, slice_get, bytes_eq}
 use Rattle.std.proofs.lemmas.Bool.{cases_Bool}
 use Rattle.name_places.specs.FirstPlaces.{place_of}
-use Rattle.std.proofs.lemmas.List.{drop_all}
-use Rattle.wasm_types.specs.declared.entries.Import.{Import}
 use Rattle.wasm_types.specs.declared.entries.Export.{Export}
 use Rattle.wasm_types.specs.Types.{FuncTypeValue}
-use Rattle.wasm_types.specs.Entries.{import_value, export_value}
+use Rattle.wasm_types.specs.Entries.{export_value}
 use Rattle.wasm_format.specs.Module.{ModuleValue, exported_type}
-use Rattle.wit_component.specs.Linking.{core_import, core_export}
+use Rattle.wit_component.specs.Linking.{core_export}
 use Rattle.known_definitions.specs.declared.definition.Argument.{Argument}
 use Rattle.known_definitions.specs.declared.definition.InlineExport.{InlineExport}
 use Rattle.known_definitions.specs.Definition.{argument_value, inline_export_value}
-use Rattle.wit_component.specs.Meaning.{CoreFunction, CoreEntry, Spaces, exported, item_at, entry_named, argument_named, exports_of, inline_entries, all_match}
+use Rattle.wit_component.specs.Meaning.{CoreFunction, CoreEntry, Spaces, of_export, item_at, entry_named, argument_named, exports_of, inline_entries}
 use Rattle.component_audit.specs.SpacesView.{core_entries, entry_item, argument_item}
 
 -- ---- looking a name up by its first place
@@ -72,16 +70,16 @@ module _ (args : List Argument) (ns : List (List ℕ)) (names : ns ≡ map (λ (
   argument_missing at = ap (option_and_then (argument_item args)) (at ∙ ap (place_of name) names) ∙ sym (argument_at_place args name)
 
 -- the main module's exports, of these
-module _ (m : ModuleValue) (bytes : List ℕ) where
+module _ (m : ModuleValue) (bytes : List ℕ) (k : ℕ) where
   abbrev pub export_entries : List Export → List CoreEntry
-  export_entries xs = exports_of (record { bytes = bytes; imports = []; exports = map (core_export m) (map export_value xs) })
+  export_entries xs = exports_of (record { bytes = bytes; imports = []; exports = map (core_export m) (map export_value xs) }) k
 
   export_names : (xs : List Export) → map (λ (e : Export). e.name.now) xs ≡ map (λ (e : CoreEntry). e.name) (export_entries xs)
   export_names [] = refl
   export_names (x ∷ xs) = ap (λ (ns : List (List ℕ)). x.name.now ∷ ns) (export_names xs)
 
   abbrev pub export_item : Export → Option CoreFunction
-  export_item e = option_map (λ (t : FuncTypeValue). record { end = exported e.name.now; ty = t }) (exported_type m e.kind e.index)
+  export_item e = option_map (λ (t : FuncTypeValue). record { origin = of_export k e.name.now; ty = t }) (exported_type m e.kind e.index)
 
   export_at_place : (xs : List Export) (i : ℕ) → entry_item (export_entries xs) i ≡ option_and_then export_item (slice_get xs i)
   export_at_place [] i = refl
@@ -89,8 +87,8 @@ module _ (m : ModuleValue) (bytes : List ℕ) where
   export_at_place (x ∷ xs) (suc i) = export_at_place xs i
 
   pub export_here : (xs : List Export) (i : ℕ) (e : Export) (t : Option FuncTypeValue) → slice_get xs i ≡ Some e → t ≡ exported_type m e.kind e.index
-      → option_map (λ (u : FuncTypeValue). record { end = exported e.name.now; ty = u }) t ≡ entry_item (export_entries xs) i
-  export_here xs i e t at is = ap (option_map (λ (u : FuncTypeValue). record { end = exported e.name.now; ty = u })) is ∙ sym (export_at_place xs i ∙ ap (option_and_then export_item) at)
+      → option_map (λ (u : FuncTypeValue). record { origin = of_export k e.name.now; ty = u }) t ≡ entry_item (export_entries xs) i
+  export_here xs i e t at is = ap (option_map (λ (u : FuncTypeValue). record { origin = of_export k e.name.now; ty = u })) is ∙ sym (export_at_place xs i ∙ ap (option_and_then export_item) at)
 
   module _ (xs : List Export) (ns : List (List ℕ)) (names : ns ≡ map (λ (e : Export). e.name.now) xs) (name : List ℕ) where
     whole : entry_named name (export_entries xs) ≡ option_and_then (entry_item (export_entries xs)) (place_of name ns)
@@ -107,14 +105,3 @@ module _ (m : ModuleValue) (bytes : List ℕ) where
 pub inline_are : (s : Spaces) (xs : List InlineExport) → core_entries (map (λ (e : InlineExport). e.name.now) xs) (map (λ (e : InlineExport). item_at s.core_functions e.func) xs) ≡ inline_entries s (map inline_export_value xs)
 inline_are s [] = refl
 inline_are s (x ∷ xs) = ap (λ (es : List CoreEntry). record { name = x.name.now; item = item_at s.core_functions x.func } ∷ es) (inline_are s xs)
-
-nothing_matches : (m : ModuleValue) (xs : List Import) → 0 < length xs → all_match (map (core_import m) (map import_value xs)) [] ≡ false
-nothing_matches m [] h = absurd (omega arith)
-nothing_matches m (x ∷ xs) h = refl
-
--- too few are given
-pub too_few : {X : Type 0} (m : ModuleValue) (f : X → Option CoreFunction) (xs : List Import) (gs : List X) (place : ℕ) → place < length xs → length gs ≤ place → all_match (map (core_import m) (map import_value (drop place xs))) (map f (drop place gs)) ≡ false
-too_few {X} m f xs gs place lt le =
-    let none : drop place gs ≡ [] = drop_all place gs le in
-    let some : 0 < length (drop place xs) = omega (arith, length-drop place xs) in
-    ap (λ (l : List X). all_match (map (core_import m) (map import_value (drop place xs))) (map f l)) none ∙ nothing_matches m (drop place xs) some

@@ -1,5 +1,5 @@
 -- What the auditor's answers say of bytes.
-use Rattle.std.specs.Prelude.{◌≡◌, ◌≢◌, ℕ, ◌≤◌, ◌+◌, ◌⊎◌, List, [], ◌∷◌, length, map, is_some, Option, Some, None, Bool, false, Any, bytes_eq, if◌then◌else◌}
+use Rattle.std.specs.Prelude.{◌≡◌, ◌≢◌, ℕ, ◌≤◌, ◌+◌, ◌⊎◌, List, [], ◌∷◌, length, map, is_some, Option, Some, None, Bool, true, false, ◌&&◌, Any, bytes_eq, if◌then◌else◌}
 use Rattle.std.specs.List.{AllByRecursion as Each}
 use Rattle.binary_grammar.specs.declared.fault.Rule.{Rule}
 use Rattle.plain_worlds.specs.World.{FunctionTypeValue}
@@ -8,8 +8,8 @@ use Rattle.component_sections.specs.Component.{BreaksComponent}
 use Rattle.known_definitions.specs.Component.{IsComponent, HasUnknown}
 use Rattle.wit_component.specs.declared.fault.Fault.{Fault}
 use Rattle.wit_component.specs.declared.fault.Fault.TheVariants as faults
-use Rattle.component_audit.specs.declared.verdict.FindingKind.{FindingKind}
-use Rattle.component_audit.specs.declared.verdict.FindingKind.TheVariants as findings
+use Rattle.wit_component.specs.declared.finding.FindingKind.{FindingKind}
+use Rattle.wit_component.specs.declared.finding.FindingKind.TheVariants as findings
 use Rattle.component_audit.specs.declared.verdict.Verdict.{Verdict}
 use Rattle.component_audit.specs.declared.verdict.Verdict.TheVariants.{Yes, Finding}
 use Rattle.plain_worlds.specs.World.{FunctionItem}
@@ -17,21 +17,15 @@ use Rattle.wit_component.specs.Linking.{CoreExport, Linking}
 use Rattle.wit_component.specs.Cause.{IsLinkCause, IsLinkable}
 use Rattle.wit_component.specs.Table.{ExportLink}
 use Rattle.name_places.specs.FirstPlaces.{place_of}
-use Rattle.wit_component.specs.Meaning.{Spaces, CoreEnd, lowered, exported, elsewhere, FunctionEnd, imported, lifted, aside, CoreFunction, ComponentFunction, ImportEntry, meaning, same_type}
-use Rattle.wit_component.specs.Right.{IsIn, listed, ModulesRight, ImportsRight, ExportsRight, LinksRight, MeetsAll}
+use Rattle.wasm_types.specs.Types.{FuncTypeValue}
+use Rattle.wit_component.specs.Meaning.{Spaces, CoreOrigin, of_export, of_lower, Origin, of_import, of_lift, CoreFunction, ComponentFunction, ImportEntry, meaning, item_at, is_of_core_type, same_type}
+use Rattle.wit_component.specs.Right.{IsIn, IsOnce, listed, Holds, MeetsAll}
 
 -- ---- verdicts
 
--- the condition of this kind fails of what a component stands for; no input of this shape has a finding of the last three
+-- the condition of this kind fails of what a component stands for
 abbrev pub Denies : Linking → Spaces → FindingKind → Type 0
-Denies l s findings.Format = ⊥
-Denies l s findings.Import = ImportsRight l s → ⊥
-Denies l s findings.Export = ExportsRight l s → ⊥
-Denies l s findings.Module = ModulesRight l s → ⊥
-Denies l s findings.Link = LinksRight l s → ⊥
-Denies l s findings.Fill = ⊥
-Denies l s findings.SlotReach = ⊥
-Denies l s findings.Name = ⊥
+Denies l s kind = Holds l s kind → ⊥
 
 -- what a verdict says of what a component of so many bytes stands for
 abbrev pub SaysOf : Linking → Spaces → ℕ → Verdict → Type 0
@@ -59,13 +53,21 @@ IsBeyond l bytes =
 -- why bytes aren't judged: what links are refused for, or what they have beyond
 abbrev pub IsJudgeCause : Linking → List ℕ → Fault → Type 0
 IsJudgeCause l bytes faults.NotYet = IsLinkCause l faults.NotYet ⊎ (IsLinkable l × IsBeyond l bytes)
-IsJudgeCause l bytes fault = IsLinkCause l fault
+IsJudgeCause l bytes faults.DuplicateImport = IsLinkCause l faults.DuplicateImport
+IsJudgeCause l bytes faults.UnknownImport = IsLinkCause l faults.UnknownImport
+IsJudgeCause l bytes faults.Ambiguous = IsLinkCause l faults.Ambiguous
+IsJudgeCause l bytes faults.LegacyName = IsLinkCause l faults.LegacyName
+IsJudgeCause l bytes faults.WrongCoreType = IsLinkCause l faults.WrongCoreType
+IsJudgeCause l bytes faults.MissingCoreExport = IsLinkCause l faults.MissingCoreExport
+IsJudgeCause l bytes faults.TooLarge = ⊥
+IsJudgeCause l bytes faults.OutOfMemory = Unit {0}
 
 -- ---- tests
 
--- there is one instance
-abbrev pub IsOnce : List (List (Option CoreFunction)) → Type 0
-IsOnce given = (one : List (Option CoreFunction)) × (given ≡ one ∷ [])
+-- by so many instances the main module is there once, or not yet
+abbrev pub IsSoFar : Bool → List (List (Option CoreFunction)) → Type 0
+IsSoFar false all = all ≡ []
+IsSoFar true all = IsOnce all
 
 -- a test of a condition finds it met, or a place in so many bytes where it fails
 abbrev pub Finds : ℕ → Type 0 → Option ℕ → Type 0
@@ -101,22 +103,39 @@ abbrev pub IsOwnExport : Linking → List ℕ → Option CoreExport → Type 0
 IsOwnExport l name None = function_named name l.world.exports ≡ None
 IsOwnExport l name (Some e) = (f : FunctionItem) × (function_named name l.world.exports ≡ Some f) × ExportLink l f e
 
-abbrev pub is_lifted : FunctionEnd → List ℕ → Bool
-is_lifted (imported n) name = false
-is_lifted (lifted n) name = bytes_eq n name
-is_lifted aside name = false
+-- it is an instance's export of that name
+abbrev pub is_named : CoreOrigin → List ℕ → Bool
+is_named (of_export k x) name = bytes_eq x name
+is_named (of_lower n) name = false
 
-abbrev pub is_lowered : CoreEnd → List ℕ → Bool
-is_lowered (lowered n) name = bytes_eq n name
-is_lowered (exported n) name = false
-is_lowered elsewhere name = false
+-- and of that core type
+abbrev pub is_export_of : Option CoreFunction → List ℕ → Option FuncTypeValue → Bool
+is_export_of None name t = false
+is_export_of (Some c) name t = is_named c.origin name && is_of_core_type t (Some c)
 
--- a function is the lift of the core export of this name
-abbrev pub is_lift_of : Option ComponentFunction → List ℕ → Bool
-is_lift_of None name = false
-is_lift_of (Some f) name = is_lifted f.end name
+abbrev pub is_lift : List (Option CoreFunction) → Origin → List ℕ → Option FuncTypeValue → Bool
+is_lift cores (of_import x) name t = false
+is_lift cores (of_lift n) name t = is_export_of (item_at cores n) name t
+
+-- a function is the lift of an instance's export of that name and core type
+abbrev pub is_lift_of : List (Option CoreFunction) → Option ComponentFunction → List ℕ → Option FuncTypeValue → Bool
+is_lift_of cores None name t = false
+is_lift_of cores (Some f) name t = is_lift cores f.origin name t
+
+abbrev pub is_imported : Origin → List ℕ → Bool
+is_imported (of_import x) name = bytes_eq x name
+is_imported (of_lift n) name = false
+
+-- a function is the import of this name
+abbrev pub is_import_of : Option ComponentFunction → List ℕ → Bool
+is_import_of None name = false
+is_import_of (Some f) name = is_imported f.origin name
+
+abbrev pub is_lowering : List (Option ComponentFunction) → CoreOrigin → List ℕ → Bool
+is_lowering functions (of_export k x) name = false
+is_lowering functions (of_lower n) name = is_import_of (item_at functions n) name
 
 -- a core function is the lowering of the import of this name
-abbrev pub is_lowering_of : Option CoreFunction → List ℕ → Bool
-is_lowering_of None name = false
-is_lowering_of (Some f) name = is_lowered f.end name
+abbrev pub is_lowering_of : List (Option ComponentFunction) → Option CoreFunction → List ℕ → Bool
+is_lowering_of functions None name = false
+is_lowering_of functions (Some c) name = is_lowering functions c.origin name

@@ -1,20 +1,20 @@
 -- What a walk has found, as values.
-use Rattle.std.specs.Prelude.{◌≡◌, ℕ, nat_le, true, List, [], ◌∷◌, map, Option, option_map, option_and_then, slice_get}
-use Rattle.std.specs.List.{list_all}
+use Rattle.std.specs.Prelude.{◌≡◌, ℕ, nat_le, Bool, true, if◌then◌else◌, List, [], ◌∷◌, map, Option, option_map, option_and_then, slice_get}
+use Rattle.std.specs.List.{flat_map, list_all}
 use Rattle.wasm_types.specs.Types.{FuncTypeValue, func_type_value}
 use Rattle.known_definitions.specs.declared.definition.Argument.{Argument}
 use Rattle.plain_worlds.specs.World.{FunctionTypeValue}
 use Rattle.known_definitions.specs.Definition.{function_type_value}
-use Rattle.component_audit.specs.declared.spaces.CoreEnd.{CoreEnd as End}
-use Rattle.component_audit.specs.declared.spaces.CoreEnd.TheVariants as ends
-use Rattle.component_audit.specs.declared.spaces.FunctionEnd.{FunctionEnd as OuterEnd}
-use Rattle.component_audit.specs.declared.spaces.FunctionEnd.TheVariants as outer_ends
+use Rattle.component_audit.specs.declared.spaces.CoreOrigin.{CoreOrigin as Whose}
+use Rattle.component_audit.specs.declared.spaces.CoreOrigin.TheVariants as core_origins
+use Rattle.component_audit.specs.declared.spaces.Origin.{Origin as OuterOrigin}
+use Rattle.component_audit.specs.declared.spaces.Origin.TheVariants as origins
 use Rattle.component_audit.specs.declared.spaces.CoreType.{CoreType}
 use Rattle.component_audit.specs.declared.spaces.CoreType.TheVariants as types
 use Rattle.component_audit.specs.declared.spaces.CoreFunction.{CoreFunction as Core}
 use Rattle.component_audit.specs.declared.spaces.ComponentFunction.{ComponentFunction as Outer}
 use Rattle.component_audit.specs.declared.spaces.Entries.{Entries}
-use Rattle.component_audit.specs.declared.spaces.CoreInstance.{CoreInstance}
+use Rattle.component_audit.specs.declared.spaces.CoreInstance.{CoreInstance as Instance}
 use Rattle.component_audit.specs.declared.spaces.CoreInstance.TheVariants as instances
 use Rattle.component_audit.specs.declared.spaces.ModuleEntry.{ModuleEntry}
 use Rattle.component_audit.specs.declared.spaces.TypeEntry.{TypeEntry}
@@ -24,27 +24,25 @@ use Rattle.component_audit.specs.declared.spaces.ExportEntry.{ExportEntry as Exp
 use Rattle.component_audit.specs.declared.spaces.Spaces.{Spaces as Found}
 use Rattle.wit_component.specs.Linking.{MainModule}
 use Rattle.wit_component.specs.Flat.{flat}
-use Rattle.wit_component.specs.Meaning.{CoreEnd, lowered, exported, elsewhere, FunctionEnd, imported, lifted, aside, CoreFunction, ComponentFunction, CoreEntry, ImportEntry, ExportEntry, exports_of, Spaces}
+use Rattle.wit_component.specs.Meaning.{CoreOrigin, of_export, of_lower, Origin, of_import, of_lift, CoreFunction, ComponentFunction, CoreEntry, CoreInstance, Source, of_main, of_unknown, of_items, given_by, ImportEntry, ExportEntry, exports_of, Spaces}
 
-abbrev pub core_end : End → CoreEnd
-core_end (ends.Lowered name) = lowered name.now
-core_end (ends.Exported name) = exported name.now
-core_end ends.Elsewhere = elsewhere
+abbrev pub core_origin : Whose → CoreOrigin
+core_origin (core_origins.Export k name) = of_export k name.now
+core_origin (core_origins.Lower n) = of_lower n
 
-abbrev pub function_end : OuterEnd → FunctionEnd
-function_end (outer_ends.Imported name) = imported name.now
-function_end (outer_ends.Lifted name) = lifted name.now
-function_end outer_ends.Elsewhere = aside
+abbrev pub origin : OuterOrigin → Origin
+origin (origins.Import name) = of_import name.now
+origin (origins.Lift n) = of_lift n
 
 abbrev pub core_type : CoreType → FuncTypeValue
 core_type (types.Own t) = func_type_value t.now
 core_type (types.Flat t) = flat (function_type_value t.now)
 
 abbrev pub core_function : Core → CoreFunction
-core_function f = record { end = core_end f.end; ty = core_type f.ty }
+core_function f = record { origin = core_origin f.origin; ty = core_type f.ty }
 
 abbrev pub component_function : Outer → ComponentFunction
-component_function f = record { end = function_end f.end; ty = function_type_value f.ty.now }
+component_function f = record { origin = origin f.origin; ty = function_type_value f.ty.now }
 
 -- names beside what they name
 abbrev pub core_entries : List (List ℕ) → List (Option CoreFunction) → List CoreEntry
@@ -63,13 +61,28 @@ argument_item args i = option_map (λ (a : Argument). a.instance) (slice_get arg
 abbrev pub entries : Entries → List CoreEntry
 entries e = core_entries e.names (map (option_map core_function) e.items.items)
 
-abbrev pub instance : MainModule → CoreInstance → List CoreEntry
-instance main instances.Nothing = []
-instance main instances.Main = exports_of main
-instance main (instances.Inline e) = entries e
-
 abbrev pub given : Given → List (Option CoreFunction)
 given g = map (option_map core_function) g.functions.items
+
+abbrev pub source : Instance → Source
+source instances.Unknown = of_unknown
+source (instances.Main g) = of_main (given g)
+source (instances.Inline e) = of_items
+
+-- what each instance of the main module is given
+abbrev pub all_given : List Instance → List (List (Option CoreFunction))
+all_given = flat_map (λ (i : Instance). given_by (source i))
+
+abbrev pub own_exports : MainModule → Given → List CoreEntry
+own_exports main g = if g.whole then exports_of main g.index else []
+
+abbrev pub exports : MainModule → Instance → List CoreEntry
+exports main instances.Unknown = []
+exports main (instances.Main g) = own_exports main g
+exports main (instances.Inline e) = entries e
+
+abbrev pub instance : MainModule → Instance → CoreInstance
+instance main i = record { source = source i; exports = exports main i }
 
 abbrev pub import_entry : Imported → ImportEntry
 import_entry e = record { name = e.name.now; item = option_map (λ t. function_type_value t.now) e.item }
@@ -90,13 +103,18 @@ spaces main s = record {
   core_functions = map (option_map core_function) s.core_functions.items;
   types = map type_value s.types.items;
   functions = map (option_map component_function) s.functions.items;
-  given = map given s.given.items;
   imports = map import_entry s.imports.items;
   exports = map export_entry s.exports.items;
 }
 
+-- where an instance of the main module lies
+abbrev pub is_within : ℕ → Instance → Bool
+is_within n instances.Unknown = true
+is_within n (instances.Main g) = nat_le g.offset n
+is_within n (instances.Inline e) = true
+
 -- what a finding may speak of lies within so many bytes
 pub record AreWithin (n : ℕ) (s : Found) : Type 0 where
-  pub given : list_all (λ g. nat_le g.offset n) s.given.items ≡ true
+  pub instances : list_all (is_within n) s.instances.items ≡ true
   pub imports : list_all (λ e. nat_le e.offset n) s.imports.items ≡ true
   pub exports : list_all (λ e. nat_le e.offset n) s.exports.items ≡ true

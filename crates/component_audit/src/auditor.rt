@@ -1,6 +1,6 @@
 //! Whether a component is right for its input.
 
-ghost use Rattle.std.specs.Prelude.{◌≡◌, ◌≢◌, ◌⊎◌, nat_le, ℕ, [], None, Any, bytes_eq, map, option_map, slice_get, string_bytes, true, length, IfOk, IfErr};
+ghost use Rattle.std.specs.Prelude.{◌≡◌, ◌≢◌, ◌⊎◌, ◌≤◌, ◌++◌, nat_le, ℕ, List, Option, [], None, Any, bytes_eq, map, option_map, slice_get, string_bytes, true, length, IfOk, IfErr, IfSome};
 ghost use Rattle.std.specs.Bool.{Decides};
 ghost use Rattle.std.specs.Cmp.Lexicographic.{pointwise};
 ghost use Rattle.std.specs.List.{list_all, AllByRecursion as Each};
@@ -12,22 +12,22 @@ ghost use Rattle.distinct_names.specs.Names.{all_new};
 ghost use Rattle.component_sections.specs.Component.{BreaksComponent};
 ghost use Rattle.wit_component.specs.Linking.{Linking as LinkingValue};
 ghost use Rattle.wit_component.specs.Cause.{IsLinkable};
-ghost use Rattle.component_audit.specs.Judged.{Finds, IsOnce, IsOutside, IsJudgeCause, Says, SaysOf, function_named, is_listed, is_there, is_lift_of, is_lowering_of, IsOwnExport};
+ghost use Rattle.component_audit.specs.Judged.{Finds, IsOutside, IsSoFar, IsJudgeCause, Says, SaysOf, function_named, is_listed, is_there, is_export_of, is_lift_of, is_import_of, is_lowering_of, IsOwnExport};
 ghost use Rattle.wit_component.specs.Linking.{core_import, core_export};
 ghost use Rattle.wit_component.specs.Meaning as meant;
 ghost use Rattle.wit_component.specs.Places.{ArePlaces, ImportPlace};
 ghost use Rattle.wit_component.specs.Right as right;
-ghost use Rattle.wit_component.specs.Right.{IsIn, IsGiven, EachGiven, LiftsOwn, ImportsRight, LinksRight, type_seen};
+ghost use Rattle.wit_component.specs.Right.{IsIn, IsOnce, IsGiven, EachGiven, TakesOwn, LiftsOwn, ImportsRight, LinksRight, type_seen};
 ghost use Rattle.component_audit.specs.SpacesView as seen;
 ghost use Rattle.wit_component.specs.View as view;
 ghost use Rattle.plain_worlds.specs.World.{FunctionItem, function_item, param_item, world_fits};
 
 use crate::spaces::{
-    ComponentFunction, CoreEnd, CoreFunction, ExportEntry, FunctionEnd, Given, ImportEntry, Spaces,
-    same_result,
+    ComponentFunction, CoreFunction, CoreInstance, CoreOrigin, ExportEntry, ImportEntry, Origin,
+    Spaces, core_at, function_at, same_result,
 };
-use crate::verdict::{FindingKind, Verdict};
-use crate::walk::{Walk, is_of_type};
+use crate::verdict::Verdict;
+use crate::walk::{Walk, all_there, is_of_type};
 use binary_grammar::ReadError;
 use component_sections::read_definitions;
 use known_definitions::{FunctionType, KnownDefinition, Parameter, known_definitions};
@@ -35,7 +35,7 @@ use name_places::FirstPlaces;
 use plain_worlds::{Function, Param};
 use std::alloc::{AllocError, Global};
 use wasm_format::{Export, Import};
-use wit_component::{Fault, Linking, Table, needed_functions, references, table_of};
+use wit_component::{Fault, FindingKind, Linking, Table, needed_functions, references, table_of};
 
 /// Judges bytes against what is linked: yes where they meet each condition of being right, and else a finding, a condition
 /// that fails of them, and where.
@@ -138,7 +138,7 @@ fn judge_spaces(
     if !are_handed(linking, spaces) {
         return Err(Fault::NotYet);
     }
-    if let Some(offset) = instances_finding(&spaces.given, length) {
+    if let Some(offset) = instances_finding(&spaces.instances, length) {
         return Ok(Verdict::Finding(FindingKind::Module, offset));
     }
     if let Some(offset) = imports_finding(alloc, linking, table, spaces, length)? {
@@ -166,15 +166,38 @@ fn are_handed(linking: &Linking, spaces: &Spaces) -> bool
     true
 }
 
-/// The main module is instantiated exactly once.
-fn instances_finding(given: &[Given], length: usize) -> Option<usize>
-    requires { list_all (λ g. nat_le g.offset length) given.now ≡ true }
-    ensures { Finds length (IsOnce (map seen.given given.now)) result }
+/// Where the main module is instantiated once more, or without all that it asks; the end, where it is never.
+fn instances_finding(instances: &[CoreInstance], length: usize) -> Option<usize>
+    requires { list_all (seen.is_within length) instances.now ≡ true }
+    ensures { Finds length (IsOnce (seen.all_given instances.now)) result }
 {
-    match given {
-        [_] => None,
-        [_, second, ..] => Some(second.offset),
-        [] => Some(length),
+    let mut found = false;
+    for instance in instances {
+        match one_more(found, instance) {
+            Ok(now) => found = now,
+            Err(offset) => return Some(offset),
+        }
+    }
+    if found { None } else { Some(length) }
+}
+
+/// Whether the main module is instantiated by now, where it was before or not; or where it is once more, or without all that it asks.
+fn one_more(found: bool, instance: &CoreInstance) -> Result<bool, usize>
+    ensures ok { (front : List (List (Option meant.CoreFunction))) → IsSoFar found front → IfOk result (λ now. IsSoFar now (front ++ meant.given_by (seen.source instance.now))) }
+    ensures err { (front more : List (List (Option meant.CoreFunction))) → IsSoFar found front → IfErr result (λ at. IsOnce (front ++ (meant.given_by (seen.source instance.now) ++ more)) → ⊥) }
+    ensures within { (n : ℕ) → seen.is_within n instance.now ≡ true → IfErr result (λ at. at ≤ n) }
+{
+    match instance {
+        CoreInstance::Main(given) => {
+            if found {
+                return Err(given.offset);
+            }
+            if !all_there(&given.functions) {
+                return Err(given.offset);
+            }
+            Ok(true)
+        }
+        CoreInstance::Unknown | CoreInstance::Inline(_) => Ok(found),
     }
 }
 
@@ -389,38 +412,72 @@ fn links_finding(
     requires places { ArePlaces (view.linking linking.now) (view.places table.now) }
     requires listed { exports.now.functions.now ≡ linking.now.world.now.exports.items }
     requires distinct { all_new [] (map (λ f. f.name) (view.linking linking.now).world.exports) ≡ true }
-    requires known { Each (λ e. IsIn (type_seen e) (map right.listed (view.linking linking.now).world.exports)) (map seen.export_entry spaces.now.exports.items) }
     ensures { (n : ℕ) → seen.AreWithin n spaces.now → Finds n (LinksRight (view.linking linking.now) (seen.spaces (view.linking linking.now).main spaces.now)) result }
 {
-    match first_wrong_given(linking, table, &spaces.given) {
+    match first_wrong_given(linking, table, spaces) {
         Some(offset) => Some(offset),
-        None => first_wrong_lift(linking, table, exports, &spaces.exports),
+        None => first_wrong_lift(linking, table, exports, spaces),
     }
 }
 
-/// Where the first instance stands that isn't given the lowerings of its own functions.
-fn first_wrong_given(linking: &Linking, table: &Table, given: &[Given]) -> Option<usize>
+/// Where the first instance of the main module stands that isn't given the lowerings of its own functions.
+fn first_wrong_given(linking: &Linking, table: &Table, spaces: &Spaces) -> Option<usize>
     requires { ArePlaces (view.linking linking.now) (view.places table.now) }
-    ensures { (n : ℕ) → list_all (λ g. nat_le g.offset n) given.now ≡ true → Finds n (Each (EachGiven (view.linking linking.now) (view.linking linking.now).main.imports) (map seen.given given.now)) result }
+    ensures { (n : ℕ) → list_all (seen.is_within n) spaces.now.instances.items ≡ true → Finds n (Each (λ i. TakesOwn (view.linking linking.now) (seen.spaces (view.linking linking.now).main spaces.now) i.source) (map (seen.instance (view.linking linking.now).main) spaces.now.instances.items)) result }
 {
-    for one in given {
-        if !takes_own(linking, table, &one.functions) {
-            return Some(one.offset);
+    for instance in &spaces.instances {
+        if let Some(offset) = wrong_given(linking, table, spaces, instance) {
+            return Some(offset);
         }
     }
     None
 }
 
-/// Whether each core import is given the lowering of its own function.
-fn takes_own(linking: &Linking, table: &Table, functions: &[Option<CoreFunction>]) -> bool
+/// Where an instance of the main module stands, if it isn't given the lowerings of its own functions.
+fn wrong_given(
+    linking: &Linking,
+    table: &Table,
+    spaces: &Spaces,
+    instance: &CoreInstance,
+) -> Option<usize>
     requires { ArePlaces (view.linking linking.now) (view.places table.now) }
-    ensures { Decides result (EachGiven (view.linking linking.now) (view.linking linking.now).main.imports (map (option_map seen.core_function) functions.now)) }
+    ensures right { result ≡ None → TakesOwn (view.linking linking.now) (seen.spaces (view.linking linking.now).main spaces.now) (seen.source instance.now) }
+    ensures wrong { IfSome result (λ at. TakesOwn (view.linking linking.now) (seen.spaces (view.linking linking.now).main spaces.now) (seen.source instance.now) → ⊥) }
+    ensures within { (n : ℕ) → seen.is_within n instance.now ≡ true → IfSome result (λ at. at ≤ n) }
+{
+    match instance {
+        CoreInstance::Main(given) => {
+            if takes_own(linking, table, spaces, &given.functions) {
+                None
+            } else {
+                Some(given.offset)
+            }
+        }
+        CoreInstance::Unknown | CoreInstance::Inline(_) => None,
+    }
+}
+
+/// Whether each core import is given the lowering of its own function.
+fn takes_own(
+    linking: &Linking,
+    table: &Table,
+    spaces: &Spaces,
+    functions: &[Option<CoreFunction>],
+) -> bool
+    requires { ArePlaces (view.linking linking.now) (view.places table.now) }
+    ensures { Decides result (EachGiven (view.linking linking.now) (seen.spaces (view.linking linking.now).main spaces.now) (view.linking linking.now).main.imports (map (option_map seen.core_function) functions.now)) }
 {
     if functions.len() != linking.main.imports.len() {
         return false;
     }
     for (index, import) in linking.main.imports.iter().enumerate() {
-        if !is_own_lowering(linking, import, table.imports[index], &functions[index]) {
+        if !is_own_lowering(
+            linking,
+            spaces,
+            import,
+            table.imports[index],
+            &functions[index],
+        ) {
             return false;
         }
     }
@@ -430,27 +487,46 @@ fn takes_own(linking: &Linking, table: &Table, functions: &[Option<CoreFunction>
 /// Whether a core import is given the lowering of its function, which stands at a place of the world.
 fn is_own_lowering(
     linking: &Linking,
+    spaces: &Spaces,
     import: &Import,
     place: usize,
     function: &Option<CoreFunction>,
 ) -> bool
     requires { ImportPlace (view.linking linking.now) (core_import (module_value linking.now.main) (import_value import.now)) place }
-    ensures { Decides result (IsGiven (view.linking linking.now) (core_import (module_value linking.now.main) (import_value import.now)) (option_map seen.core_function function.now)) }
+    ensures { Decides result (IsGiven (view.linking linking.now) (seen.spaces (view.linking linking.now).main spaces.now) (core_import (module_value linking.now.main) (import_value import.now)) (option_map seen.core_function function.now)) }
 {
     let wanted = &linking.world.imports[place];
-    is_lowering_of(function, wanted.name.as_str()) && is_of_type(linking, import, function)
+    is_lowering_of(&spaces.functions, function, wanted.name.as_str())
+        && is_of_type(linking, import, function)
 }
 
 /// Whether a core function is the lowering of the import of this name.
-fn is_lowering_of(function: &Option<CoreFunction>, name: &str) -> bool
-    ensures { result ≡ is_lowering_of (option_map seen.core_function function.now) name.now }
+fn is_lowering_of(
+    functions: &[Option<ComponentFunction>],
+    function: &Option<CoreFunction>,
+    name: &str,
+) -> bool
+    ensures { result ≡ is_lowering_of (map (option_map seen.component_function) functions.now) (option_map seen.core_function function.now) name.now }
 {
     let Some(function) = function else {
         return false;
     };
-    match function.end {
-        CoreEnd::Lowered(of) => of == name,
-        CoreEnd::Exported(_) | CoreEnd::Elsewhere => false,
+    match function.origin {
+        CoreOrigin::Lower(index) => is_import_of(function_at(functions, index as usize), name),
+        CoreOrigin::Export(_, _) => false,
+    }
+}
+
+/// Whether a function is the import of this name.
+fn is_import_of(function: Option<ComponentFunction>, name: &str) -> bool
+    ensures { result ≡ is_import_of (option_map seen.component_function function.entry) name.now }
+{
+    let Some(function) = function else {
+        return false;
+    };
+    match function.origin {
+        Origin::Import(of) => of == name,
+        Origin::Lift(_) => false,
     }
 }
 
@@ -459,32 +535,36 @@ fn first_wrong_lift(
     linking: &Linking,
     table: &Table,
     exports: &Listed,
-    entries: &[ExportEntry],
+    spaces: &Spaces,
 ) -> Option<usize>
     requires places { ArePlaces (view.linking linking.now) (view.places table.now) }
     requires listed { exports.now.functions.now ≡ linking.now.world.now.exports.items }
     requires distinct { all_new [] (map (λ f. f.name) (view.linking linking.now).world.exports) ≡ true }
-    requires known { Each (λ e. IsIn (type_seen e) (map right.listed (view.linking linking.now).world.exports)) (map seen.export_entry entries.now) }
-    ensures { (n : ℕ) → list_all (λ e. nat_le e.offset n) entries.now ≡ true → Finds n (Each (LiftsOwn (view.linking linking.now)) (map seen.export_entry entries.now)) result }
+    ensures { (n : ℕ) → list_all (λ e. nat_le e.offset n) spaces.now.exports.items ≡ true → Finds n (Each (LiftsOwn (view.linking linking.now) (seen.spaces (view.linking linking.now).main spaces.now)) (map seen.export_entry spaces.now.exports.items)) result }
 {
-    for entry in entries {
-        if !lifts_own(linking, table, exports, entry) {
+    for entry in &spaces.exports {
+        if !lifts_own(linking, table, exports, &spaces.core_functions, entry) {
             return Some(entry.offset);
         }
     }
     None
 }
 
-/// Whether an export, which the world lists, lifts the core export of its function.
-fn lifts_own(linking: &Linking, table: &Table, exports: &Listed, entry: &ExportEntry) -> bool
+/// Whether an export lifts the core export of its function.
+fn lifts_own(
+    linking: &Linking,
+    table: &Table,
+    exports: &Listed,
+    cores: &[Option<CoreFunction>],
+    entry: &ExportEntry,
+) -> bool
     requires places { ArePlaces (view.linking linking.now) (view.places table.now) }
     requires listed { exports.now.functions.now ≡ linking.now.world.now.exports.items }
     requires distinct { all_new [] (map (λ f. f.name) (view.linking linking.now).world.exports) ≡ true }
-    requires known { IsIn (type_seen (seen.export_entry entry.now)) (map right.listed (view.linking linking.now).world.exports) }
-    ensures { Decides result (LiftsOwn (view.linking linking.now) (seen.export_entry entry.now)) }
+    ensures { (s : meant.Spaces) → s.core_functions ≡ map (option_map seen.core_function) cores.now → Decides result (LiftsOwn (view.linking linking.now) s (seen.export_entry entry.now)) }
 {
     match own_export(linking, table, exports, entry.name) {
-        Some(export) => is_lift_of(entry.item, export.name),
+        Some(export) => is_lift_of(linking, cores, entry.item, export),
         None => false,
     }
 }
@@ -506,15 +586,45 @@ fn own_export<'m>(
     }
 }
 
-/// Whether a function is the lift of the main module's export of this name.
-fn is_lift_of(item: Option<ComponentFunction>, name: &str) -> bool
-    ensures { result ≡ is_lift_of (option_map seen.component_function item.entry) name.now }
+/// Whether a function is the lift of this export of the main module.
+fn is_lift_of(
+    linking: &Linking,
+    cores: &[Option<CoreFunction>],
+    item: Option<ComponentFunction>,
+    export: &Export,
+) -> bool
+    ensures { result ≡ is_lift_of (map (option_map seen.core_function) cores.now) (option_map seen.component_function item.entry) export.now.name.now (core_export (module_value linking.now.main) (export_value export.now)).ty }
 {
     let Some(function) = item else {
         return false;
     };
-    match function.end {
-        FunctionEnd::Lifted(of) => of == name,
-        FunctionEnd::Imported(_) | FunctionEnd::Elsewhere => false,
+    match function.origin {
+        Origin::Lift(index) => is_export_of(linking, core_at(cores, index as usize), export),
+        Origin::Import(_) => false,
+    }
+}
+
+/// Whether a core function is this export of the main module.
+fn is_export_of(linking: &Linking, function: Option<CoreFunction>, export: &Export) -> bool
+    ensures { result ≡ is_export_of (option_map seen.core_function function.entry) export.now.name.now (core_export (module_value linking.now.main) (export_value export.now)).ty }
+{
+    let Some(function) = function else {
+        return false;
+    };
+    match function.origin {
+        CoreOrigin::Export(_, name) => {
+            name == export.name && has_core_type(linking, export, function)
+        }
+        CoreOrigin::Lower(_) => false,
+    }
+}
+
+/// Whether a core function has the core type of this export of the main module.
+fn has_core_type(linking: &Linking, export: &Export, function: CoreFunction) -> bool
+    ensures { result ≡ meant.is_of_core_type (core_export (module_value linking.now.main) (export_value export.now)).ty (Some (seen.core_function function.entry)) }
+{
+    match linking.export_type(export) {
+        Some(ty) => function.ty.is(ty),
+        None => false,
     }
 }

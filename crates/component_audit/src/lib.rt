@@ -7,4 +7,4 @@ mod verdict;
 mod walk;
 
 pub use auditor::judge;
-pub use verdict::{FindingKind, Verdict};
+pub use verdict::Verdict;

@@ -4,7 +4,7 @@ ghost use Rattle.std.specs.Prelude.{◌≡◌, ℕ, [], map, option_map};
 ghost use Rattle.std.specs.Cmp.Lexicographic.{pointwise};
 ghost use Rattle.wasm_types.specs.Types.{func_type_value};
 ghost use Rattle.known_definitions.specs.Definition.{parameter_value, function_type_value};
-ghost use Rattle.wit_component.specs.Flat.{flat, flat_value, flat_result};
+ghost use Rattle.wit_component.specs.Flat.{flat, flat_value, flat_params};
 ghost use Rattle.wit_component.specs.Linking.{MainModule};
 ghost use Rattle.wit_component.specs.Meaning as meant;
 ghost use Rattle.component_audit.specs.SpacesView as view;
@@ -14,26 +14,24 @@ use name_places::FirstPlaces;
 use plain_worlds::PrimitiveType;
 use std::alloc::Global;
 use wasm_format::{FuncType, ValType};
-use wit_component::{flat_value, is_flat_result};
+use wit_component::{flat_value, is_flat_result, is_one_place};
 
-/// Where a core function ends.
+/// Whose a core function is.
 #[derive(Clone, Copy)]
-pub enum CoreEnd<'c> {
-    /// In the lowering of the import of this name.
-    Lowered(&'c str),
-    /// In the main module's export of this name.
-    Exported(&'c str),
-    Elsewhere,
+pub enum CoreOrigin<'c> {
+    /// The core instance with that index exports it under this name.
+    Export(usize, &'c str),
+    /// It is the lowering of the function with that index.
+    Lower(u32),
 }
 
-/// Where a function ends.
+/// Whose a function is.
 #[derive(Clone, Copy)]
-pub enum FunctionEnd<'c> {
-    /// In the import of this name.
-    Imported(&'c str),
-    /// In the lift of the main module's export of this name.
-    Lifted(&'c str),
-    Elsewhere,
+pub enum Origin<'c> {
+    /// It is the import of this name.
+    Import(&'c str),
+    /// It is the lift of the core function with that index.
+    Lift(u32),
 }
 
 /// The type of a core function.
@@ -47,25 +45,35 @@ pub enum CoreType<'c> {
 
 #[derive(Clone, Copy)]
 pub struct CoreFunction<'c> {
-    pub end: CoreEnd<'c>,
+    pub origin: CoreOrigin<'c>,
     pub ty: CoreType<'c>,
 }
 
 #[derive(Clone, Copy)]
 pub struct ComponentFunction<'c> {
-    pub end: FunctionEnd<'c>,
+    pub origin: Origin<'c>,
     pub ty: &'c FunctionType<'c>,
 }
 
 /// A core instance.
 #[derive(Drop)]
 pub enum CoreInstance<'c> {
-    /// It stands for nothing, and exports nothing.
-    Nothing,
-    /// An instance of the main module.
-    Main,
+    /// Of a core module that wasn't handed in; it exports nothing.
+    Unknown,
+    /// Of the main module.
+    Main(Given<'c>),
     /// Made of core functions.
     Inline(Entries<'c>),
+}
+
+/// An instance of the main module: its index, what it is given for each of the module's imports, and whether that is something for
+/// each; one that isn't whole exports nothing.
+#[derive(Drop)]
+pub struct Given<'c> {
+    pub offset: usize,
+    pub index: usize,
+    pub functions: Vec<Option<CoreFunction<'c>>>,
+    pub whole: bool,
 }
 
 /// Core functions by their names; an item may stand for nothing.
@@ -73,13 +81,6 @@ pub enum CoreInstance<'c> {
 pub struct Entries<'c> {
     pub names: FirstPlaces<'c>,
     pub items: Vec<Option<CoreFunction<'c>>>,
-}
-
-/// What an instance of the main module is given for each of its imports.
-#[derive(Drop)]
-pub struct Given<'c> {
-    pub offset: usize,
-    pub functions: Vec<Option<CoreFunction<'c>>>,
 }
 
 /// An import of the component.
@@ -119,7 +120,6 @@ pub struct Spaces<'c> {
     pub core_functions: Vec<Option<CoreFunction<'c>>>,
     pub types: Vec<TypeEntry<'c>>,
     pub functions: Vec<Option<ComponentFunction<'c>>>,
-    pub given: Vec<Given<'c>>,
     pub imports: Vec<ImportEntry<'c>>,
     pub exports: Vec<ExportEntry<'c>>,
 }
@@ -186,8 +186,19 @@ fn is_flat_type(core: &FuncType, ty: &FunctionType) -> bool
     are_flat(&core.params, &ty.params) && is_flat_result(&core.results, ty.result)
 }
 
-/// Whether core values are those of these parameters.
+/// Whether core values are those of these parameters: one for each of at most 16, else a place in memory.
 fn are_flat(values: &[ValType], params: &[Parameter]) -> bool
+    ensures { result ≡ meant.same_values values.now (flat_params (map parameter_value params.now)) }
+{
+    if params.len() <= 16 {
+        are_flat_values(values, params)
+    } else {
+        is_one_place(values)
+    }
+}
+
+/// Whether core values are those of these parameters, one of each.
+fn are_flat_values(values: &[ValType], params: &[Parameter]) -> bool
     ensures { result ≡ meant.same_values values.now (map (λ p. flat_value p.ty) (map parameter_value params.now)) }
 {
     if values.len() != params.len() {
@@ -199,39 +210,6 @@ fn are_flat(values: &[ValType], params: &[Parameter]) -> bool
         }
     }
     true
-}
-
-/// Whether the lowerings of functions of these types have one core type.
-fn same_flat_type(a: &FunctionType, b: &FunctionType) -> bool
-    ensures { result ≡ meant.same_core_type (flat (function_type_value a.now)) (flat (function_type_value b.now)) }
-{
-    same_flat_params(&a.params, &b.params) && same_flat_result(a.result, b.result)
-}
-
-/// Whether parameters have the same core values.
-fn same_flat_params(a: &[Parameter], b: &[Parameter]) -> bool
-    ensures { result ≡ meant.same_values (map (λ p. flat_value p.ty) (map parameter_value a.now)) (map (λ p. flat_value p.ty) (map parameter_value b.now)) }
-{
-    if a.len() != b.len() {
-        return false;
-    }
-    for (place, p) in a.iter().enumerate() {
-        if flat_value(p.ty) != flat_value(b[place].ty) {
-            return false;
-        }
-    }
-    true
-}
-
-/// Whether results have the same core values.
-fn same_flat_result(a: Option<PrimitiveType>, b: Option<PrimitiveType>) -> bool
-    ensures { result ≡ meant.same_values (flat_result a) (flat_result b) }
-{
-    match (a, b) {
-        (None, None) => true,
-        (Some(p), Some(q)) => flat_value(p) == flat_value(q),
-        _ => false,
-    }
 }
 
 impl<'c> CoreType<'c> {
@@ -246,47 +224,16 @@ impl<'c> CoreType<'c> {
             CoreType::Flat(ty) => is_flat_type(asked, ty),
         }
     }
-
-    /// Whether it is the core type of a function of this type.
-    fn is_flat_of(self, ty: &FunctionType) -> bool
-        ensures { result ≡ meant.same_core_type (view.core_type self.entry) (flat (function_type_value ty.now)) }
-    {
-        match self {
-            CoreType::Own(own) => is_flat_type(own, ty),
-            CoreType::Flat(other) => same_flat_type(other, ty),
-        }
-    }
 }
 
-/// A function as a core function.
-pub fn lowering(function: ComponentFunction<'_>) -> CoreFunction<'_>
-    ensures { view.core_function result ≡ meant.lowering (view.component_function function.entry) }
+/// The lowering of the function with that index.
+pub fn lowering(index: u32, function: ComponentFunction<'_>) -> CoreFunction<'_>
+    ensures { view.core_function result ≡ meant.lowering index (view.component_function function.entry) }
 {
-    let end = match function.end {
-        FunctionEnd::Imported(name) => CoreEnd::Lowered(name),
-        FunctionEnd::Lifted(_) | FunctionEnd::Elsewhere => CoreEnd::Elsewhere,
-    };
     CoreFunction {
-        end,
+        origin: CoreOrigin::Lower(index),
         ty: CoreType::Flat(function.ty),
     }
-}
-
-/// A core function as a function of a type, if that has its core type.
-pub fn lifting<'c>(
-    core: CoreFunction<'c>,
-    ty: &'c FunctionType<'c>,
-) -> Option<ComponentFunction<'c>>
-    ensures { option_map view.component_function result ≡ meant.lifting (view.core_function core.entry) (function_type_value ty.entry.now) }
-{
-    if !core.ty.is_flat_of(ty) {
-        return None;
-    }
-    let end = match core.end {
-        CoreEnd::Exported(name) => FunctionEnd::Lifted(name),
-        CoreEnd::Lowered(_) | CoreEnd::Elsewhere => FunctionEnd::Elsewhere,
-    };
-    Some(ComponentFunction { end, ty })
 }
 
 impl<'c> Entries<'c> {
@@ -340,7 +287,6 @@ impl<'c> Spaces<'c> {
             core_functions: Vec::new(alloc),
             types: Vec::new(alloc),
             functions: Vec::new(alloc),
-            given: Vec::new(alloc),
             imports: Vec::new(alloc),
             exports: Vec::new(alloc),
         }

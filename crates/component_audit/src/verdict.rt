@@ -4,27 +4,7 @@ ghost use Rattle.std.specs.Prelude.{◌≡◌, IfOk, string_bytes};
 ghost use Rattle.component_audit.specs.Texts as spec;
 
 use std::alloc::{AllocError, Global};
-
-/// The condition that fails.
-#[derive(Clone, Copy, Debug, PartialEq, Eq)]
-pub enum FindingKind {
-    /// F1: the bytes are no component.
-    Format,
-    /// F2: an import that links need isn't there, or one is there that the world doesn't list.
-    Import,
-    /// F3: the exports aren't exactly the world's.
-    Export,
-    /// F4: a core module is none of those handed in, or the instances aren't one for each.
-    Module,
-    /// F5: a core import or export doesn't end at its entry of the link table.
-    Link,
-    /// F6: a slot isn't filled exactly once, before the first start call.
-    Fill,
-    /// F7: a slot can be reached from a handed module.
-    SlotReach,
-    /// F8: a type stands under no name.
-    Name,
-}
+use wit_component::FindingKind;
 
 /// Whether bytes are right for an input.
 #[derive(Clone, Copy, Debug, PartialEq, Eq)]
@@ -34,40 +14,6 @@ pub enum Verdict {
     /// A condition fails; the offset is that of the definition looked at, or the length of the bytes where
     /// something is absent.
     Finding(FindingKind, usize),
-}
-
-impl FindingKind {
-    /// Its number behind the F, from 1.
-    fn number(self) -> u8
-        ensures { result ≡ spec.finding_number self }
-    {
-        match self {
-            FindingKind::Format => 1,
-            FindingKind::Import => 2,
-            FindingKind::Export => 3,
-            FindingKind::Module => 4,
-            FindingKind::Link => 5,
-            FindingKind::Fill => 6,
-            FindingKind::SlotReach => 7,
-            FindingKind::Name => 8,
-        }
-    }
-
-    /// Its name, as `SlotReach`.
-    fn name(self) -> &'static str
-        ensures { result.now ≡ spec.finding_name self }
-    {
-        match self {
-            FindingKind::Format => "Format",
-            FindingKind::Import => "Import",
-            FindingKind::Export => "Export",
-            FindingKind::Module => "Module",
-            FindingKind::Link => "Link",
-            FindingKind::Fill => "Fill",
-            FindingKind::SlotReach => "SlotReach",
-            FindingKind::Name => "Name",
-        }
-    }
 }
 
 impl Verdict {

@@ -1,18 +1,18 @@
 //! From the definitions of a component to what their indices stand for.
 
-ghost use Rattle.std.specs.Prelude.{◌≡◌, ◌≤◌, [], ◌∷◌, ◌++◌, map, slice_get, option_map, option_and_then, IfOk, IfErr, OnOk};
+ghost use Rattle.std.specs.Prelude.{◌≡◌, ◌≤◌, [], ◌∷◌, ◌++◌, map, length, slice_get, option_map, option_and_then, IfOk, IfErr, OnOk};
 ghost use Rattle.wasm_types.specs.Entries.{import_value};
 ghost use Rattle.wasm_format.specs.Module.{module_value, imported_type};
-ghost use Rattle.known_definitions.specs.Definition.{function_type_value, argument_value, inline_export_value, definition_value, core_module_of, instantiation_of, inline_of, alias_of, type_of, lift_of, lower_of, import_of, export_of};
+ghost use Rattle.known_definitions.specs.Definition.{function_type_value, argument_value, inline_export_value, definition_value};
 ghost use Rattle.wit_component.specs.Linking.{core_import};
 ghost use Rattle.wit_component.specs.Meaning as meant;
 ghost use Rattle.component_audit.specs.SpacesView as view;
 ghost use Rattle.component_audit.specs.SpacesView.{entry_item, argument_item};
 
 use crate::spaces::{
-    ComponentFunction, CoreEnd, CoreFunction, CoreInstance, CoreType, Entries, ExportEntry,
-    FunctionEnd, Given, ImportEntry, ModuleEntry, Spaces, TypeEntry, core_at, function_at, lifting,
-    lowering, same_type,
+    ComponentFunction, CoreFunction, CoreInstance, CoreOrigin, CoreType, Entries, ExportEntry,
+    Given, ImportEntry, ModuleEntry, Origin, Spaces, TypeEntry, core_at, function_at, lowering,
+    same_type,
 };
 use known_definitions::{Argument, FunctionType, InlineExport, KnownDefinition, KnownKind};
 use name_places::FirstPlaces;
@@ -58,45 +58,72 @@ impl<'c> Walk<'c> {
         })
     }
 
-    /// The main module's export at a place.
-    fn export_at(&self, place: usize) -> Option<CoreFunction<'c>>
-        ensures { option_map view.core_function result ≡ entry_item (meant.exports_of (main_of_walk self.now)) place }
+    /// The main module's export at a place, of its instance with that index.
+    fn export_at(&self, instance: usize, place: usize) -> Option<CoreFunction<'c>>
+        ensures { option_map view.core_function result ≡ entry_item (meant.exports_of (main_of_walk self.now) instance) place }
     {
         let export = self.linking.main.exports.get(place)?;
         let ty = self.linking.export_type(export)?;
         Some(CoreFunction {
-            end: CoreEnd::Exported(export.name),
+            origin: CoreOrigin::Export(instance, export.name),
             ty: CoreType::Own(ty),
         })
     }
 
-    /// The main module's export of this name.
-    fn main_export(&self, name: &str) -> Option<CoreFunction<'c>>
-        ensures { option_map view.core_function result ≡ meant.entry_named name.now (meant.exports_of (main_of_walk self.now)) }
+    /// The main module's export of this name, of its instance with that index.
+    fn main_export(&self, instance: usize, name: &str) -> Option<CoreFunction<'c>>
+        ensures { option_map view.core_function result ≡ meant.entry_named name.now (meant.exports_of (main_of_walk self.now) instance) }
     {
         match self.exports.first(name) {
-            Some(place) => self.export_at(place),
+            Some(place) => self.export_at(instance, place),
             None => None,
+        }
+    }
+
+    /// What an instance of the main module exports under a name: nothing, where it isn't whole.
+    fn own_export(&self, given: &Given<'c>, name: &str) -> Option<CoreFunction<'c>>
+        ensures { option_map view.core_function result ≡ meant.entry_named name.now (view.own_exports (main_of_walk self.now) given.now) }
+    {
+        if given.whole {
+            self.main_export(given.index, name)
+        } else {
+            None
         }
     }
 
     /// What an instance exports under a name.
     fn entry(&self, instance: &CoreInstance<'c>, name: &str) -> Option<CoreFunction<'c>>
-        ensures { option_map view.core_function result ≡ meant.entry_named name.now (view.instance (main_of_walk self.now) instance.now) }
+        ensures { option_map view.core_function result ≡ meant.entry_named name.now (view.exports (main_of_walk self.now) instance.now) }
     {
         match instance {
-            CoreInstance::Nothing => None,
-            CoreInstance::Main => self.main_export(name),
+            CoreInstance::Unknown => None,
+            CoreInstance::Main(given) => self.own_export(given, name),
             CoreInstance::Inline(entries) => entries.get(name),
         }
     }
 
     /// What the instance at an index exports under a name.
     fn exported(&self, instance: u32, name: &str) -> Option<CoreFunction<'c>>
-        ensures { option_map view.core_function result ≡ option_and_then (meant.entry_named name.now) (slice_get (spaces_of self.now).instances instance) }
+        ensures { option_map view.core_function result ≡ meant.exported (spaces_of self.now).instances instance name.now }
     {
         match self.spaces.instances.get(instance as usize) {
             Some(found) => self.entry(found, name),
+            None => None,
+        }
+    }
+
+    /// What stands for an import among arguments, of whatever core type; the places are those of the arguments' names.
+    fn found_for(
+        &self,
+        places: &FirstPlaces,
+        args: &[Argument<'c>],
+        import: &Import,
+    ) -> Option<CoreFunction<'c>>
+        requires { places.now ≡ map (λ a. a.name.now) args.now }
+        ensures { option_map view.core_function result ≡ option_and_then (λ k. meant.exported (spaces_of self.now).instances k import.now.name.now) (meant.argument_named (map argument_value args.now) import.now.module.now) }
+    {
+        match argument(places, args, import.module) {
+            Some(instance) => self.exported(instance, import.name),
             None => None,
         }
     }
@@ -109,17 +136,19 @@ impl<'c> Walk<'c> {
         import: &Import,
     ) -> Option<CoreFunction<'c>>
         requires { places.now ≡ map (λ a. a.name.now) args.now }
-        ensures { option_map view.core_function result ≡ meant.given_for (spaces_of self.now) (map argument_value args.now) (core_import (module_value self.now.linking.now.main) (import_value import.now)) }
+        ensures { option_map view.core_function result ≡ meant.given_for (spaces_of self.now).instances (map argument_value args.now) (core_import (module_value self.now.linking.now.main) (import_value import.now)) }
     {
-        match argument(places, args, import.module) {
-            Some(instance) => self.exported(instance, import.name),
-            None => None,
+        let found = self.found_for(places, args, import);
+        if is_of_type(self.linking, import, &found) {
+            found
+        } else {
+            None
         }
     }
 
     /// What an instance of the main module is given for each of its imports.
     fn given(&self, args: &[Argument<'c>]) -> Result<Vec<Option<CoreFunction<'c>>>, Fault>
-        ensures ok { IfOk result (λ v. map (option_map view.core_function) v.items ≡ map (meant.given_for (spaces_of self.now) (map argument_value args.now)) (main_of_walk self.now).imports) }
+        ensures ok { IfOk result (λ v. map (option_map view.core_function) v.items ≡ map (meant.given_for (spaces_of self.now).instances (map argument_value args.now)) (main_of_walk self.now).imports) }
         ensures memory { IfErr result (λ e. e ≡ Fault.OutOfMemory) }
     {
         let places = argument_places(self.alloc, args)?;
@@ -128,21 +157,6 @@ impl<'c> Walk<'c> {
             given.push(self.given_for(&places, args, import))?;
         }
         Ok(given)
-    }
-
-    /// Whether each import is given something of its core type.
-    fn all_match(&self, given: &[Option<CoreFunction<'c>>]) -> bool
-        ensures { result ≡ meant.all_match (main_of_walk self.now).imports (map (option_map view.core_function) given.now) }
-    {
-        for (place, import) in self.linking.main.imports.iter().enumerate() {
-            if given.len() <= place {
-                return false;
-            }
-            if !is_of_type(self.linking, import, &given[place]) {
-                return false;
-            }
-        }
-        true
     }
 
     /// The type at an index.
@@ -177,14 +191,14 @@ impl<'c> Walk<'c> {
         }
     }
 
-    /// A core instance that stands for nothing.
-    fn push_nothing(&mut self) -> Result<(), Fault>
-        ensures ok { OnOk result (spaces_of self.new ≡ record (spaces_of self.old) { instances = (spaces_of self.old).instances ++ [] ∷ [] }) }
+    /// An instance of a core module that wasn't handed in.
+    fn push_unknown(&mut self) -> Result<(), Fault>
+        ensures ok { OnOk result (spaces_of self.new ≡ record (spaces_of self.old) { instances = (spaces_of self.old).instances ++ record { source = meant.of_unknown; exports = [] } ∷ [] }) }
         ensures linking { self.new.linking ≡ self.old.linking }
         ensures length { self.new.length ≡ self.old.length }
         ensures memory { IfErr result (λ e. e ≡ Fault.OutOfMemory) }
     {
-        self.spaces.instances.push(CoreInstance::Nothing)?;
+        self.spaces.instances.push(CoreInstance::Unknown)?;
         Ok(())
     }
 
@@ -195,22 +209,23 @@ impl<'c> Walk<'c> {
         functions: Vec<Option<CoreFunction<'c>>>,
     ) -> Result<(), Fault>
         requires { offset ≤ self.old.length }
-        ensures ok { OnOk result (spaces_of self.new ≡ meant.with_instance (main_of_walk self.old) (spaces_of self.old) (map (option_map view.core_function) functions.entry.items)) }
+        ensures ok { OnOk result (spaces_of self.new ≡ record (spaces_of self.old) { instances = (spaces_of self.old).instances ++ meant.main_instance (main_of_walk self.old) (length (spaces_of self.old).instances) (map (option_map view.core_function) functions.entry.items) ∷ [] }) }
         ensures linking { self.new.linking ≡ self.old.linking }
         ensures length { self.new.length ≡ self.old.length }
         ensures memory { IfErr result (λ e. e ≡ Fault.OutOfMemory) }
     {
-        let instance = if self.all_match(&functions) {
-            CoreInstance::Main
-        } else {
-            CoreInstance::Nothing
-        };
-        self.spaces.instances.push(instance)?;
-        self.spaces.given.push(Given { offset, functions })?;
+        let index = self.spaces.instances.len();
+        let whole = all_there(&functions);
+        self.spaces.instances.push(CoreInstance::Main(Given {
+            offset,
+            index,
+            functions,
+            whole,
+        }))?;
         Ok(())
     }
 
-    /// An instance of a core module; one that isn't given what it asks exports nothing.
+    /// An instance of a core module; one of the main module that isn't given what it asks exports nothing.
     fn instantiate(
         &mut self,
         offset: usize,
@@ -218,13 +233,13 @@ impl<'c> Walk<'c> {
         args: &[Argument<'c>],
     ) -> Result<(), Fault>
         requires { offset ≤ self.old.length }
-        ensures ok { OnOk result (spaces_of self.new ≡ meant.after (main_of_walk self.old) (spaces_of self.old) (instantiation_of core_module (map argument_value args.now))) }
+        ensures ok { OnOk result (spaces_of self.new ≡ record (spaces_of self.old) { instances = (spaces_of self.old).instances ++ meant.instantiated (main_of_walk self.old) (spaces_of self.old) (meant.is_main (main_of_walk self.old) (slice_get (spaces_of self.old).modules core_module)) (map argument_value args.now) ∷ [] }) }
         ensures linking { self.new.linking ≡ self.old.linking }
         ensures length { self.new.length ≡ self.old.length }
         ensures memory { IfErr result (λ e. e ≡ Fault.OutOfMemory) }
     {
         if !self.is_main(core_module) {
-            return self.push_nothing();
+            return self.push_unknown();
         }
         let functions = self.given(args)?;
         self.push_main(offset, functions)
@@ -246,7 +261,7 @@ impl<'c> Walk<'c> {
 
     /// A core instance that is made of core functions.
     fn inline(&mut self, exports: &[InlineExport<'c>]) -> Result<(), Fault>
-        ensures ok { OnOk result (spaces_of self.new ≡ meant.after (main_of_walk self.old) (spaces_of self.old) (inline_of (map inline_export_value exports.now))) }
+        ensures ok { OnOk result (spaces_of self.new ≡ record (spaces_of self.old) { instances = (spaces_of self.old).instances ++ record { source = meant.of_items; exports = meant.inline_entries (spaces_of self.old) (map inline_export_value exports.now) } ∷ [] }) }
         ensures linking { self.new.linking ≡ self.old.linking }
         ensures length { self.new.length ≡ self.old.length }
         ensures memory { IfErr result (λ e. e ≡ Fault.OutOfMemory) }
@@ -259,7 +274,7 @@ impl<'c> Walk<'c> {
     /// An imported function.
     fn import(&mut self, offset: usize, name: &'c str, ty: u32) -> Result<(), Fault>
         requires { offset ≤ self.old.length }
-        ensures ok { OnOk result (spaces_of self.new ≡ meant.after (main_of_walk self.old) (spaces_of self.old) (import_of name.entry.now ty)) }
+        ensures ok { OnOk result (spaces_of self.new ≡ record (spaces_of self.old) { functions = (spaces_of self.old).functions ++ option_map (meant.import_with name.entry.now) (slice_get (spaces_of self.old).types ty) ∷ []; imports = (spaces_of self.old).imports ++ record { name = name.entry.now; item = slice_get (spaces_of self.old).types ty } ∷ [] }) }
         ensures linking { self.new.linking ≡ self.old.linking }
         ensures length { self.new.length ≡ self.old.length }
         ensures memory { IfErr result (λ e. e ≡ Fault.OutOfMemory) }
@@ -274,7 +289,7 @@ impl<'c> Walk<'c> {
 
     /// What an export stands for: a function, which has the type that is ascribed to it, if any.
     fn ascribed(&self, func: u32, ty: Option<u32>) -> Option<ComponentFunction<'c>>
-        ensures { option_map view.component_function result ≡ option_and_then (meant.ascribed (spaces_of self.now) ty) (meant.item_at (spaces_of self.now).functions func) }
+        ensures { option_map view.component_function result ≡ meant.export_item (spaces_of self.now) func ty }
     {
         let function = self.function_at(func)?;
         let Some(ty) = ty else {
@@ -296,7 +311,7 @@ impl<'c> Walk<'c> {
         ty: Option<u32>,
     ) -> Result<(), Fault>
         requires { offset ≤ self.old.length }
-        ensures ok { OnOk result (spaces_of self.new ≡ meant.after (main_of_walk self.old) (spaces_of self.old) (export_of name.entry.now func ty)) }
+        ensures ok { OnOk result (spaces_of self.new ≡ record (spaces_of self.old) { functions = (spaces_of self.old).functions ++ meant.export_item (spaces_of self.old) func ty ∷ []; exports = (spaces_of self.old).exports ++ record { name = name.entry.now; item = meant.export_item (spaces_of self.old) func ty } ∷ [] }) }
         ensures linking { self.new.linking ≡ self.old.linking }
         ensures length { self.new.length ≡ self.old.length }
         ensures memory { IfErr result (λ e. e ≡ Fault.OutOfMemory) }
@@ -309,24 +324,27 @@ impl<'c> Walk<'c> {
         Ok(())
     }
 
-    /// The function that a lift makes.
+    /// The function that a lift makes: of its type, whatever the core function is.
     fn lift(&self, core_func: u32, ty: u32) -> Option<ComponentFunction<'c>>
-        ensures { option_map view.component_function result ≡ option_and_then (λ core. option_and_then (meant.lifting core) (slice_get (spaces_of self.now).types ty)) (meant.item_at (spaces_of self.now).core_functions core_func) }
+        ensures { option_map view.component_function result ≡ option_map (meant.lifting core_func) (slice_get (spaces_of self.now).types ty) }
     {
-        let core = self.core_function_at(core_func)?;
-        lifting(core, self.type_at(ty)?)
+        let ty = self.type_at(ty)?;
+        Some(ComponentFunction {
+            origin: Origin::Lift(core_func),
+            ty,
+        })
     }
 
     /// The core function that a lowering makes.
     fn lower(&self, func: u32) -> Option<CoreFunction<'c>>
-        ensures { option_map view.core_function result ≡ option_map meant.lowering (meant.item_at (spaces_of self.now).functions func) }
+        ensures { option_map view.core_function result ≡ option_map (meant.lowering func) (meant.item_at (spaces_of self.now).functions func) }
     {
-        Some(lowering(self.function_at(func)?))
+        Some(lowering(func, self.function_at(func)?))
     }
 
     /// One core function more, by its alias.
     fn alias(&mut self, instance: u32, name: &str) -> Result<(), Fault>
-        ensures ok { OnOk result (spaces_of self.new ≡ meant.after (main_of_walk self.old) (spaces_of self.old) (alias_of instance name.now)) }
+        ensures ok { OnOk result (spaces_of self.new ≡ record (spaces_of self.old) { core_functions = (spaces_of self.old).core_functions ++ meant.exported (spaces_of self.old).instances instance name.now ∷ [] }) }
         ensures linking { self.new.linking ≡ self.old.linking }
         ensures length { self.new.length ≡ self.old.length }
         ensures memory { IfErr result (λ e. e ≡ Fault.OutOfMemory) }
@@ -338,7 +356,7 @@ impl<'c> Walk<'c> {
 
     /// One function more, by a lift.
     fn push_lift(&mut self, core_func: u32, ty: u32) -> Result<(), Fault>
-        ensures ok { OnOk result (spaces_of self.new ≡ meant.after (main_of_walk self.old) (spaces_of self.old) (lift_of core_func ty)) }
+        ensures ok { OnOk result (spaces_of self.new ≡ record (spaces_of self.old) { functions = (spaces_of self.old).functions ++ option_map (meant.lifting core_func) (slice_get (spaces_of self.old).types ty) ∷ [] }) }
         ensures linking { self.new.linking ≡ self.old.linking }
         ensures length { self.new.length ≡ self.old.length }
         ensures memory { IfErr result (λ e. e ≡ Fault.OutOfMemory) }
@@ -350,7 +368,7 @@ impl<'c> Walk<'c> {
 
     /// One core function more, by a lowering.
     fn push_lower(&mut self, func: u32) -> Result<(), Fault>
-        ensures ok { OnOk result (spaces_of self.new ≡ meant.after (main_of_walk self.old) (spaces_of self.old) (lower_of func)) }
+        ensures ok { OnOk result (spaces_of self.new ≡ record (spaces_of self.old) { core_functions = (spaces_of self.old).core_functions ++ option_map (meant.lowering func) (meant.item_at (spaces_of self.old).functions func) ∷ [] }) }
         ensures linking { self.new.linking ≡ self.old.linking }
         ensures length { self.new.length ≡ self.old.length }
         ensures memory { IfErr result (λ e. e ≡ Fault.OutOfMemory) }
@@ -363,7 +381,7 @@ impl<'c> Walk<'c> {
     /// One core module more.
     fn push_module(&mut self, offset: usize, bytes: &'c [u8]) -> Result<(), Fault>
         requires { offset ≤ self.old.length }
-        ensures ok { OnOk result (spaces_of self.new ≡ meant.after (main_of_walk self.old) (spaces_of self.old) (core_module_of bytes.entry.now)) }
+        ensures ok { OnOk result (spaces_of self.new ≡ record (spaces_of self.old) { modules = (spaces_of self.old).modules ++ bytes.entry.now ∷ [] }) }
         ensures linking { self.new.linking ≡ self.old.linking }
         ensures length { self.new.length ≡ self.old.length }
         ensures memory { IfErr result (λ e. e ≡ Fault.OutOfMemory) }
@@ -374,7 +392,7 @@ impl<'c> Walk<'c> {
 
     /// One type more.
     fn push_type(&mut self, ty: &'c FunctionType<'c>) -> Result<(), Fault>
-        ensures ok { OnOk result (spaces_of self.new ≡ meant.after (main_of_walk self.old) (spaces_of self.old) (type_of (function_type_value ty.entry.now))) }
+        ensures ok { OnOk result (spaces_of self.new ≡ record (spaces_of self.old) { types = (spaces_of self.old).types ++ function_type_value ty.entry.now ∷ [] }) }
         ensures linking { self.new.linking ≡ self.old.linking }
         ensures length { self.new.length ≡ self.old.length }
         ensures memory { IfErr result (λ e. e ≡ Fault.OutOfMemory) }
@@ -406,6 +424,18 @@ impl<'c> Walk<'c> {
             KnownKind::Export { name, func, ty } => self.export(offset, name, *func, *ty),
         }
     }
+}
+
+/// Whether something is given for each.
+pub fn all_there(given: &[Option<CoreFunction>]) -> bool
+    ensures { result ≡ meant.all_there (map (option_map view.core_function) given.now) }
+{
+    for function in given {
+        if function.is_none() {
+            return false;
+        }
+    }
+    true
 }
 
 /// The places of the main module's exports by their names.
@@ -458,7 +488,7 @@ fn imported<'c>(name: &'c str, ty: Option<&'c FunctionType<'c>>) -> Option<Compo
 {
     let ty = ty?;
     Some(ComponentFunction {
-        end: FunctionEnd::Imported(name),
+        origin: Origin::Import(name),
         ty,
     })
 }

@@ -1,6 +1,6 @@
 -- Why an action has no answer.
 use Rattle.std.proofs.Common.{◌≡◌, ℕ, List, Option}
-use Rattle.wit_component.specs.declared.fault.Fault.{Fault}
+use Rattle.component_session.specs.declared.fault.Fault.{Fault}
 use Rattle.command_line.specs.declared.line.Line.{Line}
 use Rattle.component_linker.specs.declared.program.Stop.{Stop}
 use Rattle.component_linker.specs.declared.program.Stop.TheVariants as stops

@@ -14,9 +14,9 @@ use Rattle.component_session.specs.Cause.{IsCause, IsBuildCause}
 use Rattle.component_session.specs.Input.{Input}
 use Rattle.component_session.specs.Judged.{IsAuditCause}
 use Rattle.component_session.specs.ModuleCause.{IsModuleCause}
-use Rattle.wit_component.specs.Code.{code, name, place}
-use Rattle.wit_component.specs.declared.fault.Fault.{Fault}
-use Rattle.wit_component.specs.declared.fault.Fault.TheVariants as causes
+use Rattle.component_session.specs.Code.{code, name, place}
+use Rattle.component_session.specs.declared.fault.Fault.{Fault}
+use Rattle.component_session.specs.declared.fault.Fault.TheVariants as causes
 use Rattle.wit_resolution.specs.Errors.{of_selection}
 use Rattle.wit_resolution.specs.Pushes.{Resolved, AreTextsPushed, AreTextsError}
 use Rattle.wit_resolution.specs.declared.error.ResolveErrorKind.{ResolveErrorKind}

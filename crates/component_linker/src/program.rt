@@ -13,11 +13,11 @@ ghost use Rattle.wit_resolution.specs.Pushes.{AreTextsPushed, AreTextsError};
 
 use command_line::{Action, Encoding, Input, Line, LineFault};
 use component_builder::{EmitFault, emit};
-use component_session::{Session, Verdict, audit};
+use component_session::{Fault, Session, Verdict, audit};
 use std::alloc::{AllocError, AllocFailed, Global};
 use std::io::Write;
 use std::str;
-use wit_component::{Fault, StringEncoding, lines_of};
+use wit_component::{StringEncoding, lines_of};
 use wit_resolution::ResolveError;
 use wit_types::{PackageId, PackageName};
 
@@ -46,7 +46,7 @@ impl<'a> From<Fault> for Stop<'a> {
 
 impl<'a> From<AllocError> for Stop<'a> {
     ghost use Rattle.component_linker.specs.declared.program.Stop.TheVariants.{Refused};
-    ghost use Rattle.wit_component.specs.declared.fault.Fault.TheVariants.{OutOfMemory};
+    ghost use Rattle.component_session.specs.declared.fault.Fault.TheVariants.{OutOfMemory};
 
     ghost from_gives = { λ _ e. e ≡ Refused OutOfMemory };
 
@@ -57,7 +57,7 @@ impl<'a> From<AllocError> for Stop<'a> {
 
 impl<'a, T: Drop> From<AllocFailed<T>> for Stop<'a> {
     ghost use Rattle.component_linker.specs.declared.program.Stop.TheVariants.{Refused};
-    ghost use Rattle.wit_component.specs.declared.fault.Fault.TheVariants.{OutOfMemory};
+    ghost use Rattle.component_session.specs.declared.fault.Fault.TheVariants.{OutOfMemory};
 
     ghost from_gives = { λ _ e. e ≡ Refused OutOfMemory };
 

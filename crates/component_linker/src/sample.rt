@@ -1,10 +1,10 @@
 //! The program's own example.
 
 use component_builder::emit;
-use component_session::{Session, audit};
+use component_session::{Fault, Session, audit};
 use std::alloc::Global;
 use std::io::Write;
-use wit_component::{Fault, StringEncoding, lines_of};
+use wit_component::{StringEncoding, lines_of};
 
 /// A world that imports one function.
 const TEXT: &str = "package a:b; world w { import f: func(); }";

@@ -1,7 +1,8 @@
 -- From the causes of a linking to those of its input.
-use Rattle.std.proofs.Common.{List, ℕ, Result, Ok, Err, IfOk, sym, subst, inl, inr, ap, ◌∙◌}
-use Rattle.wit_component.specs.declared.fault.Fault.{Fault}
-use Rattle.wit_component.specs.declared.fault.Fault.TheVariants as faults
+use Rattle.std.proofs.Common.{List, ℕ, refl, inl, inr, ap, ◌∙◌}
+use Rattle.wit_component.specs.declared.fault.Fault.{Fault as LinkFault}
+use Rattle.wit_component.specs.declared.fault.Fault.TheVariants as linking
+use Rattle.component_session.specs.Faults.{of_linking}
 use Rattle.known_definitions.specs.Component.{IsComponent}
 use Rattle.known_definitions.specs.Component.{Fits}
 use Rattle.component_session.specs.Input.{Input}
@@ -21,23 +22,20 @@ use Rattle.wit_component.specs.Meaning.{Spaces, meaning}
 use Rattle.wit_component.proofs.Right.{written}
 use Rattle.component_session.proofs.Right.{written_right}
 
-pub link_cause_is : (input : Input) (l : Linking) (fault : Fault) → Links input l → (AsksBeyond input → ⊥) → IsLinkCause l fault → IsCause input fault
-link_cause_is input l faults.NoModule links plain cause = absurd cause
-link_cause_is input l faults.NoWorld links plain cause = absurd cause
-link_cause_is input l faults.WorldNotFound links plain cause = absurd cause
-link_cause_is input l (faults.BadModule m) links plain cause = absurd cause
-link_cause_is input l faults.TooLarge links plain cause = absurd cause
-link_cause_is input l faults.OutOfMemory links plain cause = tt
-link_cause_is input l faults.NotYet links plain cause = inr (l, links, cause)
-link_cause_is input l fault links plain cause = (l, links, plain, cause)
+pub link_cause_is : (input : Input) (l : Linking) (fault : LinkFault) → Links input l → (AsksBeyond input → ⊥) → IsLinkCause l fault → IsCause input (of_linking fault)
+link_cause_is input l linking.NotYet links plain cause = inr (l, links, cause)
+link_cause_is input l linking.DuplicateImport links plain cause = (l, links, plain, cause)
+link_cause_is input l linking.UnknownImport links plain cause = (l, links, plain, cause)
+link_cause_is input l linking.Ambiguous links plain cause = (l, links, plain, cause)
+link_cause_is input l linking.LegacyName links plain cause = (l, links, plain, cause)
+link_cause_is input l linking.WrongCoreType links plain cause = (l, links, plain, cause)
+link_cause_is input l linking.MissingCoreExport links plain cause = (l, links, plain, cause)
+link_cause_is input l linking.TooLarge links plain cause = absurd cause
+link_cause_is input l linking.OutOfMemory links plain cause = tt
 
-pub build_cause_is : (input : Input) (fault : Fault) → IsCause input fault → IsBuildCause input fault
-build_cause_is input faults.TooLarge (l, links, plain, cause) = absurd cause
-build_cause_is input fault cause = cause
-
-pub encode_cause_is : (input : Input) (l : Linking) (fault : Fault) → Links input l → (AsksBeyond input → ⊥) → IsEncodeCause l fault → IsBuildCause input fault
-encode_cause_is input l fault links plain (inl cause) = build_cause_is input fault (link_cause_is input l fault links plain cause)
-encode_cause_is input l fault links plain (inr (is, linkable, large)) = subst (IsBuildCause input) (sym is) (l, links, plain, linkable, large)
+pub encode_cause_is : (input : Input) (l : Linking) (fault : LinkFault) → Links input l → (AsksBeyond input → ⊥) → IsEncodeCause l fault → IsBuildCause input (of_linking fault)
+encode_cause_is input l fault links plain (inl cause) = inl (link_cause_is input l fault links plain cause)
+encode_cause_is input l fault links plain (inr (is, linkable, large)) = inr (ap of_linking is, (l, links, plain, (linkable, large)))
 
 pub built : (input : Input) (l : Linking) (bytes : List ℕ) → Links input l → (AsksBeyond input → ⊥) → IsLinkable l → Fits (component_of l) → IsComponent bytes (component_of l) → IsBuilt input bytes
 built input l bytes links plain linkable fits is = record {
@@ -48,39 +46,27 @@ built input l bytes links plain linkable fits is = record {
   imports = λ ds h. ap (λ es. (meaning l.main es).imports) (one_list bytes ds (component_of l) h is) ∙ ap (λ (s : Spaces). s.imports) (written l linkable.linked);
 }
 
-pub audit_cause_is : (input : Input) (l : Linking) (bytes : List ℕ) (fault : Fault) → Links input l → (AsksBeyond input → ⊥) → IsJudgeCause l bytes fault → IsAuditCause input bytes fault
-audit_cause_is input l bytes faults.NotYet links plain (inl cause) = inl (link_cause_is input l faults.NotYet links plain cause)
-audit_cause_is input l bytes faults.NotYet links plain (inr (linkable, beyond)) = inr (l, record { links_input = links; plain = plain; linkable = linkable }, beyond)
-audit_cause_is input l bytes fault links plain cause = link_cause_is input l fault links plain cause
+pub audit_cause_is : (input : Input) (l : Linking) (bytes : List ℕ) (fault : LinkFault) → Links input l → (AsksBeyond input → ⊥) → IsJudgeCause l bytes fault → IsAuditCause input bytes (of_linking fault)
+audit_cause_is input l bytes linking.NotYet links plain (inl cause) = inl (link_cause_is input l linking.NotYet links plain cause)
+audit_cause_is input l bytes linking.NotYet links plain (inr (linkable, beyond)) = inr (refl, (l, record { links_input = links; plain = plain; linkable = linkable }, beyond))
+audit_cause_is input l bytes linking.DuplicateImport links plain cause = inl (l, links, plain, cause)
+audit_cause_is input l bytes linking.UnknownImport links plain cause = inl (l, links, plain, cause)
+audit_cause_is input l bytes linking.Ambiguous links plain cause = inl (l, links, plain, cause)
+audit_cause_is input l bytes linking.LegacyName links plain cause = inl (l, links, plain, cause)
+audit_cause_is input l bytes linking.WrongCoreType links plain cause = inl (l, links, plain, cause)
+audit_cause_is input l bytes linking.MissingCoreExport links plain cause = inl (l, links, plain, cause)
+audit_cause_is input l bytes linking.TooLarge links plain cause = absurd cause
+audit_cause_is input l bytes linking.OutOfMemory links plain cause = inl tt
 
 -- ---- what is answered
 
 says : (input : Input) (l : Linking) (bytes : List ℕ) (verdict : Verdict) → Links input l → Says l bytes verdict → IsVerdict input l bytes verdict
-says input l bytes Yes links (ds, is, meets) = record {
-  linking = l;
-  links_input = links;
-  definitions = ds;
-  format = is;
-  modules = meets.modules;
-  imports = meets.imports;
-  exports = meets.exports;
-  links = meets.links;
-  fills = tt;
-  reach = tt;
-  names = tt;
-}
+says input l bytes Yes links (ds, is, meets) = record { linking = l; links_input = links; definitions = ds; format = is; meets = meets }
 says input l bytes (Finding kind offset) links h = h
 
 module _ (input : Input) (l : Linking) (links : Links input l) (plain : AsksBeyond input → ⊥) where
-  pub judged : (bytes : List ℕ) (r : Result Verdict Fault) → IfOk r (Says l bytes) → IfOk r (λ v. IsLinkable l) → IfOk r (IsJudged input bytes)
-  judged bytes (Ok verdict) h linkable = record { linking = l; ready = record { links_input = links; plain = plain; linkable = linkable }; says = says input l bytes verdict links h }
-  judged bytes (Err fault) h linkable = h
+  pub judged : (bytes : List ℕ) (verdict : Verdict) → Says l bytes verdict → IsLinkable l → IsJudged input bytes verdict
+  judged bytes verdict h linkable = record { linking = l; ready = record { links_input = links; plain = plain; linkable = linkable }; says = says input l bytes verdict links h }
 
-  pub listed : {T : Type 0} (f : T → List LinkValue) (r : Result T Fault) → IfOk r (λ v. AreLinks l (f v)) → IfOk r (λ v. IsLinkable l) → IfOk r (λ v. IsLinkTable input (f v))
-  listed f (Ok v) h linkable = record { linking = l; ready = record { links_input = links; plain = plain; linkable = linkable }; links = h }
-  listed f (Err fault) h linkable = h
-
--- what links are refused for, bytes aren't judged for
-pub audit_cause_of : (input : Input) (bytes : List ℕ) (fault : Fault) → IsCause input fault → IsAuditCause input bytes fault
-audit_cause_of input bytes faults.NotYet cause = inl cause
-audit_cause_of input bytes fault cause = cause
+  pub listed : (found : List LinkValue) → AreLinks l found → IsLinkable l → IsLinkTable input found
+  listed found h linkable = record { linking = l; ready = record { links_input = links; plain = plain; linkable = linkable }; links = h }

@@ -3,19 +3,19 @@ use Rattle.std.proofs.Common.{◌≡◌, ◌≢◌, List, ℕ, refl, subst, inl,
 use Rattle.known_definitions.specs.Definition.{DefinitionValue}
 use Rattle.known_definitions.specs.Component.{IsComponent}
 use Rattle.known_definitions.proofs.Laws.{one_list, no_break, not_known}
-use Rattle.wit_component.specs.declared.fault.Fault.{Fault}
-use Rattle.wit_component.specs.declared.fault.Fault.TheVariants as faults
-use Rattle.component_audit.specs.declared.verdict.FindingKind.{FindingKind}
-use Rattle.component_audit.specs.declared.verdict.FindingKind.TheVariants as findings
+use Rattle.component_session.specs.declared.fault.Fault.{Fault}
+use Rattle.component_session.specs.declared.fault.Fault.TheVariants as faults
+use Rattle.wit_component.specs.declared.finding.FindingKind.{FindingKind}
+use Rattle.wit_component.specs.declared.finding.FindingKind.TheVariants as findings
 use Rattle.component_audit.specs.declared.verdict.Verdict.{Verdict}
 use Rattle.component_audit.specs.declared.verdict.Verdict.TheVariants.{Yes, Finding}
 use Rattle.component_session.specs.Input.{Input}
 use Rattle.wit_component.specs.Linking.{Linking}
-use Rattle.wit_component.specs.Meaning.{Spaces, meaning}
+use Rattle.wit_component.specs.Meaning.{meaning}
 use Rattle.component_session.specs.Right.{IsRight}
 use Rattle.component_session.specs.Answered.{IsReady}
 use Rattle.wit_component.specs.Right.{MeetsAll}
-use Rattle.component_audit.specs.Judged.{Denies, IsFinding, IsBeyond}
+use Rattle.component_audit.specs.Judged.{IsFinding, IsBeyond}
 use Rattle.component_session.specs.Judged.{IsJudged, IsAuditCause}
 use Rattle.wit_component.proofs.NoCause.{any_each}
 use Rattle.component_session.proofs.NoCause.{one_linking, no_cause}
@@ -25,22 +25,11 @@ meets : (input : Input) (bytes : List ℕ) → IsRight input bytes → (l : Link
 meets input bytes h l ready ds is =
     let linking = one_linking input h.linking l h.links_input ready.links_input in
     let definitions = one_list bytes h.definitions ds h.format is in
-    let own : MeetsAll h.linking (meaning h.linking.main h.definitions) = record { modules = h.modules; imports = h.imports; exports = h.exports; links = h.links } in
-    subst (λ (k : Linking). MeetsAll k (meaning k.main ds)) linking (subst (λ es. MeetsAll h.linking (meaning h.linking.main es)) definitions own)
-
-not_denied : (l : Linking) (s : Spaces) → MeetsAll l s → (kind : FindingKind) → Denies l s kind → ⊥
-not_denied l s h findings.Format d = d
-not_denied l s h findings.Import d = d h.imports
-not_denied l s h findings.Export d = d h.exports
-not_denied l s h findings.Module d = d h.modules
-not_denied l s h findings.Link d = d h.links
-not_denied l s h findings.Fill d = d
-not_denied l s h findings.SlotReach d = d
-not_denied l s h findings.Name d = d
+    subst (λ (k : Linking). MeetsAll k (meaning k.main ds)) linking (subst (λ es. MeetsAll h.linking (meaning h.linking.main es)) definitions h.meets)
 
 none_found : (input : Input) (bytes : List ℕ) → IsRight input bytes → (l : Linking) → IsReady input l → (kind : FindingKind) (offset : ℕ) → IsFinding l bytes kind offset → ⊥
 none_found input bytes h l ready findings.Format offset d = no_break bytes h.definitions (record { rule = d.0; left = d.1 }) d.2 h.format
-none_found input bytes h l ready kind offset (ds, is, denies) = not_denied l (meaning l.main ds) (meets input bytes h l ready ds is) kind denies
+none_found input bytes h l ready kind offset (ds, is, denies) = denies (meets input bytes h l ready ds is kind)
 
 pub right_is_yes : (input : Input) (bytes : List ℕ) → IsRight input bytes → (verdict : Verdict) → IsJudged input bytes verdict → verdict ≡ Yes
 right_is_yes input bytes h Yes judged = refl
@@ -51,10 +40,9 @@ right_is_yes input bytes h (Finding kind offset) judged = absurd (none_found inp
 none_beyond : (input : Input) (bytes : List ℕ) → IsRight input bytes → (l : Linking) → IsReady input l → IsBeyond l bytes → ⊥
 none_beyond input bytes h l ready (inl unknown) = not_known bytes h.definitions unknown h.format
 none_beyond input bytes h l ready (inr (ds, is, other)) =
-    let at = any_each (λ m. m ≡ l.main.bytes) (λ m. m ≢ l.main.bytes) (meaning l.main ds).modules (meets input bytes h l ready ds is).modules.modules other in
+    let at = any_each (λ m. m ≡ l.main.bytes) (λ m. m ≢ l.main.bytes) (meaning l.main ds).modules (meets input bytes h l ready ds is findings.Module).modules other in
     at.2 at.1
 
 pub right_is_judged : (input : Input) (bytes : List ℕ) (l : Linking) → IsReady input l → IsRight input bytes → (fault : Fault) → IsAuditCause input bytes fault → fault ≡ faults.OutOfMemory
-right_is_judged input bytes l ready h faults.NotYet (inl cause) = no_cause input l ready faults.NotYet cause
-right_is_judged input bytes l ready h faults.NotYet (inr (k, is, beyond)) = absurd (none_beyond input bytes h k is beyond)
-right_is_judged input bytes l ready h fault cause = no_cause input l ready fault cause
+right_is_judged input bytes l ready h fault (inl cause) = no_cause input l ready fault cause
+right_is_judged input bytes l ready h fault (inr (later, (k, is, beyond))) = absurd (none_beyond input bytes h k is beyond)

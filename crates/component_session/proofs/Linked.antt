@@ -14,21 +14,21 @@ use Rattle.wasm_format.specs.Grammar.{IsModule}
 use Rattle.wasm_format.proofs.Modules.{one_module}
 use Rattle.wasm_types.specs.Entries.{import_value}
 use Rattle.wasm_types.specs.declared.entries.Import.{Import}
-use Rattle.wit_component.specs.declared.fault.Fault.{Fault}
+use Rattle.component_session.specs.declared.fault.Fault.{Fault}
 use Rattle.wit_core_names.specs.Texts.{Known}
 use Rattle.wit_resolution.specs.Names.{known_of}
 use Rattle.wit_types.specs.declared.world.World.{World}
-use Rattle.component_session.specs.ModuleCause.{refusal_of}
+use Rattle.component_session.specs.Faults.{of_module}
 use Rattle.component_session.specs.Input.{Input, ModuleInput, world_at, worlds_of}
 use Rattle.component_session.specs.Linking.{IsChosen}
 use Rattle.component_session.specs.Cause.{AsksBeyond, ImportsBeyond, IsCause}
 
 -- reading the main module again fails for want of memory alone
 pub memory_alone : (input : Input) (handed : ModuleInput) (fault : ModuleFault) → ForSome input.main (λ m. (core : ModuleValue) × IsModule m.bytes core) → input.main ≡ Some handed
-    → ((m : ModuleValue) → IsModule handed.bytes m → fault ≡ modules.OutOfMemory) → (r : Fault) → r ≡ refusal_of fault → IsCause input r
+    → ((m : ModuleValue) → IsModule handed.bytes m → fault ≡ modules.OutOfMemory) → (r : Fault) → r ≡ of_module fault → IsCause input r
 memory_alone input handed fault was is only r r-is =
     let read = was handed is in
-    let same : r ≡ refusal_of modules.OutOfMemory = r-is ∙ ap refusal_of (only read.0 read.1) in
+    let same : r ≡ of_module modules.OutOfMemory = r-is ∙ ap of_module (only read.0 read.1) in
     rw same tt
 
 -- a plain world fits

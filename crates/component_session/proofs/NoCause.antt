@@ -7,16 +7,19 @@ use Rattle.wasm_format.specs.Module.{ModuleValue}
 use Rattle.wasm_format.specs.Grammar.{IsModule, IsModuleFault}
 use Rattle.wasm_format.proofs.Modules.{one_break, one_module}
 use Rattle.known_definitions.specs.Component.{Fits}
-use Rattle.wit_component.specs.declared.fault.Fault.{Fault}
-use Rattle.wit_component.specs.declared.fault.Fault.TheVariants as faults
+use Rattle.wit_component.specs.declared.fault.Fault.{Fault as LinkFault}
+use Rattle.wit_component.specs.declared.fault.Fault.TheVariants as linking
+use Rattle.component_session.specs.declared.fault.ModuleCause.{ModuleCause}
+use Rattle.component_session.specs.declared.fault.Fault.{Fault}
+use Rattle.component_session.specs.declared.fault.Fault.TheVariants as faults
 use Rattle.wit_component.specs.Linking.{Linking, main_of}
 use Rattle.wit_component.specs.Component.{component_of}
-use Rattle.wit_component.specs.Cause.{IsLinkCause}
+use Rattle.wit_component.specs.Cause.{IsLinkCause, IsStillToCome}
 use Rattle.wit_component.proofs.NoCause.{no_link_cause}
 use Rattle.component_session.specs.Input.{Input, ModuleInput, world_at}
-use Rattle.component_session.specs.ModuleCause.{refusal_of}
+use Rattle.component_session.specs.Faults.{of_module}
 use Rattle.component_session.specs.Linking.{Links}
-use Rattle.component_session.specs.Cause.{IsCause, IsBuildCause}
+use Rattle.component_session.specs.Cause.{OfLinking, IsLinkingCause, IsCause, IsBuildCause}
 use Rattle.component_session.specs.Answered.{IsReady, IsBuilt}
 
 -- ---- an input is linked in one way
@@ -39,30 +42,44 @@ no_module_cause bytes core h modules.TooLarge cause = absurd (omega (arith, h.sm
 no_module_cause bytes core h modules.Malformed (small, e, breaks, is) = absurd ((one_break bytes e breaks).0 core h)
 no_module_cause bytes core h modules.Unsupported (small, e, breaks, is) = absurd ((one_break bytes e breaks).0 core h)
 
-no_bad_module : (input : Input) (l : Linking) → Links input l → (m : ModuleFault) → IsCause input (faults.BadModule m) → ⊥
+no_bad_module : (input : Input) (l : Linking) → Links input l → (m : ModuleCause) → IsCause input (faults.BadModule m) → ⊥
 no_bad_module input l h m (handed, hands, (n, is, cause)) =
     let same = same_Some h.handed handed (sym h.hands ∙ hands) in
     let read = subst (λ (x : ModuleInput). IsModule x.bytes h.core) same h.reads in
     let memory = no_module_cause handed.bytes h.core read n cause in
-    let bad : refusal_of modules.OutOfMemory ≡ faults.BadModule m = ap refusal_of (sym memory) ∙ is in
+    let bad : of_module modules.OutOfMemory ≡ faults.BadModule m = ap of_module (sym memory) ∙ is in
     absurd cc
 
-linked_cause : (input : Input) (l : Linking) → IsReady input l → (fault : Fault) → ((m : Linking) × Links input m × IsLinkCause m fault) → fault ≡ faults.OutOfMemory
-linked_cause input l h fault (m, links, cause) =
+linked_cause : (input : Input) (l : Linking) → IsReady input l → (fault : LinkFault) → OfLinking input (λ m. IsLinkCause m fault) → fault ≡ linking.OutOfMemory
+linked_cause input l h fault (m, links, plain, cause) =
     no_link_cause l h.linkable fault (subst (λ (x : Linking). IsLinkCause x fault) (one_linking input m l links h.links_input) cause)
 
+no_linking_cause : (input : Input) (l : Linking) → IsReady input l → (fault : LinkFault) → IsLinkingCause input fault → ⊥
+no_linking_cause input l h linking.NotYet cause = absurd cause
+no_linking_cause input l h linking.DuplicateImport cause = let bad = linked_cause input l h linking.DuplicateImport cause in absurd cc
+no_linking_cause input l h linking.UnknownImport cause = let bad = linked_cause input l h linking.UnknownImport cause in absurd cc
+no_linking_cause input l h linking.Ambiguous cause = let bad = linked_cause input l h linking.Ambiguous cause in absurd cc
+no_linking_cause input l h linking.LegacyName cause = let bad = linked_cause input l h linking.LegacyName cause in absurd cc
+no_linking_cause input l h linking.WrongCoreType cause = let bad = linked_cause input l h linking.WrongCoreType cause in absurd cc
+no_linking_cause input l h linking.MissingCoreExport cause = let bad = linked_cause input l h linking.MissingCoreExport cause in absurd cc
+no_linking_cause input l h linking.TooLarge cause = absurd cause
+no_linking_cause input l h linking.OutOfMemory cause = absurd cause
+
+none_still_to_come : (input : Input) (l : Linking) → IsReady input l → ((m : Linking) × Links input m × IsStillToCome m) → ⊥
+none_still_to_come input l h (m, links, cause) = h.linkable.plain (subst IsStillToCome (one_linking input m l links h.links_input) cause)
+
 pub no_cause : (input : Input) (l : Linking) → IsReady input l → (fault : Fault) → IsCause input fault → fault ≡ faults.OutOfMemory
+no_cause input l h faults.NotYet (inl beyond) = absurd (h.plain beyond)
+no_cause input l h faults.NotYet (inr cause) = absurd (none_still_to_come input l h cause)
 no_cause input l h faults.NoModule cause = let bad = sym h.links_input.hands ∙ cause in absurd cc
 no_cause input l h faults.NoWorld cause = let bad = sym h.links_input.chooses ∙ cause in absurd cc
 no_cause input l h (faults.BadModule m) cause = absurd (no_bad_module input l h.links_input m cause)
-no_cause input l h faults.NotYet (inl beyond) = absurd (h.plain beyond)
-no_cause input l h faults.NotYet (inr cause) = linked_cause input l h faults.NotYet cause
+no_cause input l h (faults.Linking fault) cause = absurd (no_linking_cause input l h fault cause)
 no_cause input l h faults.OutOfMemory cause = refl
-no_cause input l h fault cause = linked_cause input l h fault (cause.0, cause.1, cause.3)
 
 -- ---- of a component that is built
 
 pub no_build_cause : (input : Input) (bytes : List ℕ) → IsBuilt input bytes → (fault : Fault) → IsBuildCause input fault → fault ≡ faults.OutOfMemory
-no_build_cause input bytes h faults.TooLarge (m, links, plain, linkable, large) =
+no_build_cause input bytes h fault (inl cause) = no_cause input h.linking h.ready fault cause
+no_build_cause input bytes h fault (inr (is, (m, links, plain, (linkable, large)))) =
     absurd (large (subst (λ (l : Linking). Fits (component_of l)) (one_linking input h.linking m h.ready.links_input links) h.fits))
-no_build_cause input bytes h fault cause = no_cause input h.linking h.ready fault cause

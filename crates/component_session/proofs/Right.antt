@@ -10,18 +10,4 @@ use Rattle.component_session.specs.Linking.{Links}
 use Rattle.component_session.specs.Right.{IsRight}
 
 pub written_right : (input : Input) (l : Linking) (bytes : List ℕ) → Links input l → IsLinked l → IsComponent bytes (component_of l) → IsRight input bytes
-written_right input l bytes links h format =
-    let meets = written_meets l h in
-    record {
-      linking = l;
-      links_input = links;
-      definitions = component_of l;
-      format = format;
-      modules = meets.modules;
-      imports = meets.imports;
-      exports = meets.exports;
-      links = meets.links;
-      fills = tt;
-      reach = tt;
-      names = tt;
-    }
+written_right input l bytes links h format = record { linking = l; links_input = links; definitions = component_of l; format = format; meets = written_meets l h }

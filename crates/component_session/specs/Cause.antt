@@ -4,8 +4,10 @@ use Rattle.plain_imports.specs.Imports.{IsBeyond, names_of}
 use Rattle.plain_worlds.specs.World.{WorldMeaning, plain_world}
 use Rattle.wasm_format.specs.Module.{ModuleValue}
 use Rattle.wasm_format.specs.Grammar.{IsModule}
-use Rattle.wit_component.specs.declared.fault.Fault.{Fault}
-use Rattle.wit_component.specs.declared.fault.Fault.TheVariants as faults
+use Rattle.wit_component.specs.declared.fault.Fault.{Fault as LinkFault}
+use Rattle.wit_component.specs.declared.fault.Fault.TheVariants as linking
+use Rattle.component_session.specs.declared.fault.Fault.{Fault}
+use Rattle.component_session.specs.declared.fault.Fault.TheVariants as faults
 use Rattle.wit_component.specs.Linking.{Linking}
 use Rattle.wit_component.specs.Cause.{IsStillToCome, IsLinkCause, IsLinkable, IsTooLarge}
 use Rattle.wit_resolution.specs.Names.{known_of}
@@ -40,16 +42,31 @@ pub data AsksBeyond (input : Input) : Type 0 where
 
 -- ---- causes
 
+-- the input links what nothing of it asks beyond, and this is so of that
+abbrev pub OfLinking : Input → (Linking → Type 0) → Type 0
+OfLinking input P = (l : Linking) × Links input l × (AsksBeyond input → ⊥) × P l
+
+-- there is no link table for what is linked; X1 and want of memory are causes of the input's own
+abbrev pub IsLinkingCause : Input → LinkFault → Type 0
+IsLinkingCause input linking.NotYet = ⊥
+IsLinkingCause input linking.DuplicateImport = OfLinking input (λ l. IsLinkCause l linking.DuplicateImport)
+IsLinkingCause input linking.UnknownImport = OfLinking input (λ l. IsLinkCause l linking.UnknownImport)
+IsLinkingCause input linking.Ambiguous = OfLinking input (λ l. IsLinkCause l linking.Ambiguous)
+IsLinkingCause input linking.LegacyName = OfLinking input (λ l. IsLinkCause l linking.LegacyName)
+IsLinkingCause input linking.WrongCoreType = OfLinking input (λ l. IsLinkCause l linking.WrongCoreType)
+IsLinkingCause input linking.MissingCoreExport = OfLinking input (λ l. IsLinkCause l linking.MissingCoreExport)
+IsLinkingCause input linking.TooLarge = ⊥
+IsLinkingCause input linking.OutOfMemory = ⊥
+
 -- why links aren't answered
 abbrev pub IsCause : Input → Fault → Type 0
+IsCause input faults.NotYet = AsksBeyond input ⊎ ((l : Linking) × Links input l × IsStillToCome l)
 IsCause input faults.NoModule = input.main ≡ None
 IsCause input faults.NoWorld = input.world ≡ None
-IsCause input (faults.BadModule m) = (handed : ModuleInput) × (input.main ≡ Some handed) × IsModuleCause handed.bytes (faults.BadModule m)
-IsCause input faults.NotYet = AsksBeyond input ⊎ ((l : Linking) × Links input l × IsStillToCome l)
+IsCause input (faults.BadModule cause) = (handed : ModuleInput) × (input.main ≡ Some handed) × IsModuleCause handed.bytes (faults.BadModule cause)
+IsCause input (faults.Linking cause) = IsLinkingCause input cause
 IsCause input faults.OutOfMemory = Unit {0}
-IsCause input fault = (l : Linking) × Links input l × (AsksBeyond input → ⊥) × IsLinkCause l fault
 
--- and a component isn't built
+-- and a component isn't built: for that, or its size
 abbrev pub IsBuildCause : Input → Fault → Type 0
-IsBuildCause input faults.TooLarge = (l : Linking) × Links input l × (AsksBeyond input → ⊥) × IsLinkable l × IsTooLarge l
-IsBuildCause input fault = IsCause input fault
+IsBuildCause input fault = IsCause input fault ⊎ ((fault ≡ faults.Linking linking.TooLarge) × OfLinking input (λ l. IsLinkable l × IsTooLarge l))

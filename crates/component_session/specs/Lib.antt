@@ -3,6 +3,8 @@ pub mod Names
 pub mod Coming
 pub mod Kept
 pub mod Handed
+pub mod Faults
+pub mod Code
 pub mod ModuleCause
 pub mod Linking
 pub mod Cause

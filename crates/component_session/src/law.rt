@@ -12,9 +12,9 @@ ghost use Rattle.component_session.specs.Cause.{IsCause, IsBuildCause};
 ghost use Rattle.component_session.specs.Answered.{IsReady, IsBuilt};
 ghost use Rattle.component_session.specs.Judged.{IsJudged, IsAuditCause};
 
+use crate::fault::Fault;
 use crate::session::{Session, audit};
 use component_audit::Verdict;
-use wit_component::Fault;
 
 /// What is written for a linking is right for its input, whatever bytes the grammar relates to it.
 pub fn law_written_is_right()

@@ -6,7 +6,7 @@ ghost use Rattle.component_session.specs.Cause.{AsksBeyond, IsCause, IsBuildCaus
 ghost use Rattle.component_session.specs.Coming.{ComeOfTexts, files_of_groups};
 ghost use Rattle.component_session.specs.Judged.{IsJudged, IsAuditCause};
 ghost use Rattle.component_session.specs.Linking.{IsChosen, Links};
-ghost use Rattle.component_session.specs.ModuleCause.{refusal_of, IsModuleCause};
+ghost use Rattle.component_session.specs.ModuleCause.{IsModuleCause};
 ghost use Rattle.component_session.specs.Names.{pairs_of};
 ghost use Rattle.plain_imports.specs.Imports.{IsBeyond, names_of};
 ghost use Rattle.plain_worlds.specs.World.{WorldMeaning, world_meaning, world_fits, function_item};
@@ -27,6 +27,7 @@ ghost use Rattle.wit_types.specs.declared.world.World.{World as WitWorld};
 ghost use Rattle.wit_selection.specs.Selection.{IsSelected, IsSelectCause};
 ghost use Rattle.wit_selection.specs.declared.selection.SelectFault.{SelectFault};
 
+use crate::fault::{Fault, module_refusal};
 use crate::options::Options;
 use binary_grammar::ReadError;
 use component_audit::{Verdict, judge};
@@ -36,8 +37,8 @@ use plain_worlds::{World, plain_world};
 use std::alloc::{AllocError, Global};
 use std::collections::HashMap;
 use std::marker::Model;
-use wasm_format::{CoreModule, ModuleFault, read_module};
-use wit_component::{Fault, Link, Linking, StringEncoding, encode, links_of};
+use wasm_format::{CoreModule, read_module};
+use wit_component::{Link, Linking, StringEncoding, encode, links_of};
 use wit_package::UnresolvedPackageGroup;
 use wit_resolution::{Resolve, ResolveError};
 use wit_types::{PackageId, PackageName, WorldId};
@@ -382,13 +383,14 @@ impl<'a> Session<'a> {
         ensures first { self.now.main ≡ None → result ≡ Err Fault.NoModule }
     {
         let world = self.chosen_world()?;
-        links_of(self.alloc, &self.linking(&world)?)
+        let linking = self.linking(&world)?;
+        let links = links_of(self.alloc, &linking)?;
+        Ok(links)
     }
 
     /// The bytes of the component that joins the main module with the chosen world.
     ///
     /// Answers B1 before any other cause, X1, B2, B7 to B12, and B25 where none of the others holds.
-    #[tactic(auto, using(crate::proofs::Causes::encode_cause_is, crate::proofs::Causes::build_cause_is))]
     pub fn build(&self) -> Result<Vec<u8>, Fault>
         ensures right { IfOk result (λ v. IsBuilt self.now v.items) }
         ensures cause { IfErr result (IsBuildCause self.now) }
@@ -420,7 +422,9 @@ impl<'a> Session<'a> {
         ensures first { self.now.main ≡ None → result ≡ Err Fault.NoModule }
     {
         let world = self.chosen_world()?;
-        judge(self.alloc, &self.linking(&world)?, bytes)
+        let linking = self.linking(&world)?;
+        let verdict = judge(self.alloc, &linking, bytes)?;
+        Ok(verdict)
     }
 
     /// Whether imported interfaces of one version track are merged; at first they are.
@@ -484,16 +488,6 @@ impl<'a> Session<'a> {
     {
         self.options.import_name_map = names;
         self
-    }
-}
-
-/// What a module reader's refusal becomes.
-fn module_refusal(fault: ModuleFault) -> Fault
-    ensures { result ≡ refusal_of fault }
-{
-    match fault {
-        ModuleFault::OutOfMemory => Fault::OutOfMemory,
-        other => Fault::BadModule(other),
     }
 }
 

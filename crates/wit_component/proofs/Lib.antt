@@ -2,6 +2,7 @@ pub mod Naming
 pub mod Results
 pub mod LinkLines
 pub mod Lists
+pub mod Joined
 pub mod Blocks
 pub mod Given
 pub mod Right

@@ -1,12 +1,16 @@
 -- The entries of the link table, one for each place.
-use Rattle.std.proofs.Common.{◌≡◌, ℕ, zero, suc, ◌+◌, ◌<◌, List, [], ◌∷◌, ◌++◌, map, flat_map, length, drop, Option, Some, None, slice_get, slice_index_or, option_and_then, refl, sym, ap, ◌∙◌, arith, append_assoc}
-use Rattle.std.specs.Prelude.{option_map, IsSorted}
+use Rattle.std.proofs.Common.{◌≡◌, ℕ, zero, suc, ◌+◌, ◌<◌, List, [], ◌∷◌, ◌++◌, map, flat_map, length, drop, Option, Some, None, slice_get, slice_index_or, option_and_then, refl, sym, ap, subst, ◌∙◌, arith, append_assoc}
+use Rattle.std.specs.Prelude.{false, option_map, IsSorted}
+use Rattle.std.specs.Borrow.{Bor}
+use Rattle.std.specs.List.{AllByRecursion as Each}
+use Rattle.std.specs.Ordering.{is_lt}
+use Rattle.wit_component.specs.declared.link.LinkSide.TheVariants.{Import, Export}
 use Rattle.std.specs.declared.cmp.Ordering.{Ordering}
 use Rattle.std.proofs.lemmas.Option.{slice_get-map, slice_get_read, slice_get_within, same_Some}
 use Rattle.plain_worlds.specs.World.{FunctionItem}
 use Rattle.wit_component.specs.Linking.{CoreImport, CoreExport, Linking}
 use Rattle.wit_component.specs.Places.{Placed, Places, ArePlaces, ImportPlace, ExportPlace, target}
-use Rattle.wit_component.specs.Links.{import_entries_for, export_entries_for}
+use Rattle.wit_component.specs.Links.{LinkValue, import_line, export_line, import_lines_for, export_lines_for, import_text, export_text, line_cmp}
 
 placed_at : {X : Type 0} (R : X → ℕ → Type 0) (xs : List X) (ps : List ℕ) (k : ℕ) (x : X) → Placed R xs ps → slice_get xs k ≡ Some x → (p : ℕ) × (slice_get ps k ≡ Some p) × R x p
 placed_at R [] [] k x h e = absurd cc
@@ -19,18 +23,18 @@ target_at : {X : Type 0} (xs : List X) (ps : List ℕ) (k p : ℕ) (x : X) → s
 target_at xs ps k p x e f = ap (option_and_then (slice_get xs)) e ∙ f
 
 pub import_entry : (l : Linking) (t : Places) → ArePlaces l t → (k : ℕ) (i : CoreImport) → slice_get l.main.imports k ≡ Some i
-    → (f : FunctionItem) × (target l.world.imports t.imports k ≡ Some f) × (import_entries_for l i ≡ record { place = i.place; name = i.name; function = f.name } ∷ [])
+    → (f : FunctionItem) × (target l.world.imports t.imports k ≡ Some f) × (import_lines_for l i ≡ import_line i.place i.name f.name ∷ [])
 import_entry l t h k i e =
     let p = placed_at (ImportPlace l) l.main.imports t.imports k i h.imports e in
     let f = p.2 in
-    (f.0, target_at l.world.imports t.imports k p.0 f.0 p.1 f.1, ap (map (λ (g : FunctionItem). record { place = i.place; name = i.name; function = g.name })) f.2.only)
+    (f.0, target_at l.world.imports t.imports k p.0 f.0 p.1 f.1, ap (map (λ (g : FunctionItem). import_line i.place i.name g.name)) f.2.only)
 
 pub export_entry : (l : Linking) (t : Places) → ArePlaces l t → (k : ℕ) (f : FunctionItem) → slice_get l.world.exports k ≡ Some f
-    → (e : CoreExport) × (target l.main.exports t.exports k ≡ Some e) × (export_entries_for l f ≡ record { function = f.name; name = e.name } ∷ [])
+    → (e : CoreExport) × (target l.main.exports t.exports k ≡ Some e) × (export_lines_for l f ≡ export_line f.name e.name ∷ [])
 export_entry l t h k f is =
     let p = placed_at (ExportPlace l) l.world.exports t.exports k f h.exports is in
     let e = p.2 in
-    (e.0, target_at l.main.exports t.exports k p.0 e.0 p.1 e.1, ap (map (λ (g : CoreExport). record { function = f.name; name = g.name })) e.2.only)
+    (e.0, target_at l.main.exports t.exports k p.0 e.0 p.1 e.1, ap (map (λ (g : CoreExport). export_line f.name g.name)) e.2.only)
 
 -- ---- a place of the table is there
 
@@ -110,18 +114,18 @@ pub get_once : {X Y : Type 0} (f : X → Y) (xs : List X) (k : ℕ) (x : X) → 
 get_once f xs k x l is = slice_get-map f xs k ∙ ap (option_map f) (slice_get_read xs (length xs) k x refl l is)
 
 pub import_entry_read : (l : Linking) (t : Places) → ArePlaces l t → (k : ℕ) (i : CoreImport) (f : FunctionItem) → slice_get l.main.imports k ≡ Some i → target l.world.imports t.imports k ≡ Some f
-    → import_entries_for l i ≡ record { place = i.place; name = i.name; function = f.name } ∷ []
+    → import_lines_for l i ≡ import_line i.place i.name f.name ∷ []
 import_entry_read l t h k i f is e =
     let g = import_entry l t h k i is in
     let same = same_Some g.0 f (sym g.1 ∙ e) in
-    g.2 ∙ ap (λ (x : FunctionItem). record { place = i.place; name = i.name; function = x.name } ∷ []) same
+    g.2 ∙ ap (λ (x : FunctionItem). import_line i.place i.name x.name ∷ []) same
 
 pub export_entry_read : (l : Linking) (t : Places) → ArePlaces l t → (k : ℕ) (f : FunctionItem) (e : CoreExport) → slice_get l.world.exports k ≡ Some f → target l.main.exports t.exports k ≡ Some e
-    → export_entries_for l f ≡ record { function = f.name; name = e.name } ∷ []
+    → export_lines_for l f ≡ export_line f.name e.name ∷ []
 export_entry_read l t h k f e is there =
     let g = export_entry l t h k f is in
     let same = same_Some g.0 e (sym g.1 ∙ there) in
-    g.2 ∙ ap (λ (x : CoreExport). record { function = f.name; name = x.name } ∷ []) same
+    g.2 ∙ ap (λ (x : CoreExport). export_line f.name x.name ∷ []) same
 
 -- ---- a list in order, seen by a view that keeps the order
 
@@ -135,3 +139,48 @@ sorted_map f cmp [] h = λ k d low high. absurd (omega arith)
 sorted_map f cmp (x ∷ xs) h = λ k d low high.
     let more : k + 1 < length (x ∷ xs) = omega (arith, length_once f (x ∷ xs)) in
     rw (mapped_at f (x ∷ xs) (k + 1) d x more, mapped_at f (x ∷ xs) k d x (omega arith)) (h k x low more)
+
+-- ---- two lists in order, each item of the second behind each of the first
+
+module _ {X : Type 0} (cmp : X → X → Ordering) (P Q : X → Type 0) (apart : (x y : X) → P x → Q y → is_lt (cmp y x) ≡ false) where
+  next : (k : ℕ) → suc (k + 1) ≡ suc k + 1
+  next k = omega arith
+
+  sorted_behind : (x : X) (xs : List X) → IsSorted cmp (x ∷ xs) → IsSorted cmp xs
+  sorted_behind x xs h = λ k d low high. subst (λ (n : ℕ). is_lt (cmp (slice_index_or (x ∷ xs) n d) (slice_index_or xs k d)) ≡ false) (sym (next k)) (h (suc k) d (omega arith) (omega (arith, high)))
+
+  pub sorted_append : (xs ys : List X) → IsSorted cmp xs → IsSorted cmp ys → Each P xs → Each Q ys → IsSorted cmp (xs ++ ys)
+  sorted_append xs ys sx sy px qy = λ k d low high. go xs sx px k d high
+    where
+      go : (xs : List X) → IsSorted cmp xs → Each P xs → (k : ℕ) (d : X) → k + 1 < length (xs ++ ys) → is_lt (cmp (slice_index_or (xs ++ ys) (k + 1) d) (slice_index_or (xs ++ ys) k d)) ≡ false
+      go [] sx px k d high = sy k d (omega arith) high
+      go (x ∷ []) sx px zero d high = first ys qy high
+        where
+          first : (ys : List X) → Each Q ys → 0 + 1 < length (x ∷ ys) → is_lt (cmp (slice_index_or (x ∷ ys) (0 + 1) d) x) ≡ false
+          first [] qy high = absurd (omega arith)
+          first (y ∷ ys) qy high = apart x y px.0 qy.0
+      go (x ∷ z ∷ xs) sx px zero d high = sx 0 d (omega arith) (omega arith)
+      go (x ∷ xs) sx px (suc k) d high = subst (λ (n : ℕ). is_lt (cmp (slice_index_or (x ∷ (xs ++ ys)) n d) (slice_index_or (xs ++ ys) k d)) ≡ false) (next k) (go xs (sorted_behind x xs sx) px.1 k d (omega (arith, high)))
+
+-- ---- lines of imports stand before those of exports
+
+abbrev IsImport : LinkValue → Type 0
+IsImport x = x.side ≡ Import
+
+abbrev IsExport : LinkValue → Type 0
+IsExport x = x.side ≡ Export
+
+imports_first : (x y : LinkValue) → IsImport x → IsExport y → is_lt (line_cmp y x) ≡ false
+imports_first x y i e = rw (i, e) refl
+
+each_import : (ts : List (Bor (List ℕ) × Bor (List ℕ) × Bor (List ℕ))) → Each IsImport (map import_text ts)
+each_import [] = tt
+each_import (t ∷ ts) = (refl, each_import ts)
+
+each_export : (ts : List (Bor (List ℕ) × Bor (List ℕ))) → Each IsExport (map export_text ts)
+each_export [] = tt
+each_export (t ∷ ts) = (refl, each_export ts)
+
+pub lines_sorted : (is : List (Bor (List ℕ) × Bor (List ℕ) × Bor (List ℕ))) (es : List (Bor (List ℕ) × Bor (List ℕ))) → IsSorted line_cmp (map import_text is) → IsSorted line_cmp (map export_text es)
+    → IsSorted line_cmp (map import_text is ++ map export_text es)
+lines_sorted is es i e = sorted_append line_cmp IsImport IsExport imports_first (map import_text is) (map export_text es) i e (each_import is) (each_export es)

@@ -1,5 +1,5 @@
 -- Where every link is there, no cause of a refusal holds.
-use Rattle.std.proofs.Common.{◌≡◌, ℕ, zero, suc, ◌⊎◌, Bool, true, false, List, [], ◌∷◌, length, filter, Any, Some, refl, sym, ap, subst, ◌∙◌, arith, inl, inr}
+use Rattle.std.proofs.Common.{◌≡◌, ℕ, zero, suc, Bool, true, false, List, [], ◌∷◌, length, filter, Any, Some, refl, sym, ap, subst, ◌∙◌, arith, inl, inr}
 use Rattle.std.specs.Prelude.{bytes_eq}
 use Rattle.std.specs.List.{AllByRecursion as Each}
 use Rattle.std.proofs.lemmas.Bool.{cases_Bool, and_parts}
@@ -13,7 +13,7 @@ use Rattle.wit_component.specs.CoreNames.{root, standard, is_import_name, is_mem
 use Rattle.wit_component.specs.Linking.{CoreImport, CoreExport, Linking}
 use Rattle.wit_component.specs.Table.{imported_by, exported_by, ImportLink, ExportLink, IsLinked}
 use Rattle.wit_component.specs.Component.{component_of}
-use Rattle.wit_component.specs.Cause.{IsImportCause, IsExportCause, IsLinkCause, IsLinkable, IsEncodeCause}
+use Rattle.wit_component.specs.Cause.{IsImportCause, IsExportCause, HasCause, IsLinkCause, IsLinkable, IsEncodeCause}
 
 pub any_each : {X : Type 0} (P Q : X → Type 0) (xs : List X) → Each P xs → Any Q xs → (x : X) × P x × Q x
 any_each P Q [] h (k, x, l, is, q) = absurd (omega arith)
@@ -51,7 +51,11 @@ import_link l i f h faults.WrongCoreType (g, only, differs) =
     let same : f ∷ [] ≡ g ∷ [] = sym h.only ∙ only in
     let is : f ≡ g = cc in
     differs (h.matches ∙ ap (λ (x : FunctionItem). Some (flat x.ty)) is)
-import_link l i f h _ cause = absurd cause
+import_link l i f h faults.NotYet cause = absurd cause
+import_link l i f h faults.DuplicateImport cause = absurd cause
+import_link l i f h faults.MissingCoreExport cause = absurd cause
+import_link l i f h faults.TooLarge cause = absurd cause
+import_link l i f h faults.OutOfMemory cause = absurd cause
 
 export_link : (l : Linking) (f : FunctionItem) (e : CoreExport) → ExportLink l f e → (fault : Fault) → IsExportCause l fault f → ⊥
 export_link l f e h faults.MissingCoreExport none = let bad = sym h.only ∙ none in absurd cc
@@ -63,22 +67,27 @@ export_link l f e h faults.WrongCoreType (g, only, differs) =
     let same : e ∷ [] ≡ g ∷ [] = sym h.only ∙ only in
     let is : e ≡ g = cc in
     differs (ap (λ (x : CoreExport). x.ty) (sym is) ∙ h.matches)
-export_link l f e h _ cause = absurd cause
+export_link l f e h faults.NotYet cause = absurd cause
+export_link l f e h faults.DuplicateImport cause = absurd cause
+export_link l f e h faults.UnknownImport cause = absurd cause
+export_link l f e h faults.LegacyName cause = absurd cause
+export_link l f e h faults.TooLarge cause = absurd cause
+export_link l f e h faults.OutOfMemory cause = absurd cause
 
-some_link : (l : Linking) → IsLinked l → (fault : Fault) → Any (IsImportCause l fault) l.main.imports ⊎ Any (IsExportCause l fault) l.world.exports → ⊥
+some_link : (l : Linking) → IsLinked l → (fault : Fault) → HasCause l fault → ⊥
 some_link l h fault (inl any) = let at = any_each (λ i. (f : FunctionItem) × ImportLink l i f) (IsImportCause l fault) l.main.imports h.imports any in import_link l at.0 at.1.0 at.1.1 fault at.2
 some_link l h fault (inr any) = let at = any_each (λ f. (e : CoreExport) × ExportLink l f e) (IsExportCause l fault) l.world.exports h.exports any in export_link l at.0 at.1.0 at.1.1 fault at.2
 
 pub no_link_cause : (l : Linking) → IsLinkable l → (fault : Fault) → IsLinkCause l fault → fault ≡ faults.OutOfMemory
-no_link_cause l h faults.NoModule cause = absurd cause
-no_link_cause l h faults.NoWorld cause = absurd cause
-no_link_cause l h faults.WorldNotFound cause = absurd cause
-no_link_cause l h (faults.BadModule m) cause = absurd cause
 no_link_cause l h faults.TooLarge cause = absurd cause
 no_link_cause l h faults.OutOfMemory cause = refl
 no_link_cause l h faults.NotYet cause = absurd (h.plain cause)
 no_link_cause l h faults.DuplicateImport cause = absurd (h.distinct cause)
-no_link_cause l h fault cause = absurd (some_link l h.linked fault cause)
+no_link_cause l h faults.UnknownImport cause = absurd (some_link l h.linked faults.UnknownImport cause)
+no_link_cause l h faults.Ambiguous cause = absurd (some_link l h.linked faults.Ambiguous cause)
+no_link_cause l h faults.LegacyName cause = absurd (some_link l h.linked faults.LegacyName cause)
+no_link_cause l h faults.WrongCoreType cause = absurd (some_link l h.linked faults.WrongCoreType cause)
+no_link_cause l h faults.MissingCoreExport cause = absurd (some_link l h.linked faults.MissingCoreExport cause)
 
 pub no_encode_cause : (l : Linking) → IsLinkable l → Fits (component_of l) → (fault : Fault) → IsEncodeCause l fault → fault ≡ faults.OutOfMemory
 no_encode_cause l h fits fault (inl cause) = no_link_cause l h fault cause

@@ -20,10 +20,6 @@ use Rattle.wit_component.proofs.PlacesRepeats.{repeats_at, pair_there}
 -- a core import's cause is one of the table
 pub import_cause : (l : Linking) (e : Fault) → Any (IsImportCause l e) l.main.imports → IsLinkCause l e
 import_cause l faults.NotYet h = absurd h.4
-import_cause l faults.WorldNotFound h = absurd h.4
-import_cause l faults.NoModule h = absurd h.4
-import_cause l faults.NoWorld h = absurd h.4
-import_cause l (faults.BadModule m) h = absurd h.4
 import_cause l faults.DuplicateImport h = absurd h.4
 import_cause l faults.UnknownImport h = inl h
 import_cause l faults.Ambiguous h = inl h
@@ -37,10 +33,6 @@ import_cause l faults.OutOfMemory h = tt
 pub name_cause : (l : Linking) (e : Fault) (is more : List CoreImport) (i : CoreImport) (old : Table) → old.legacy ≡ names_in is root → old.standard ≡ names_in is standard
     → l.main.imports ≡ is ++ i ∷ more → ((P : CoreImport → Type 0) → P i → Any P l.main.imports) → IsNameCause old i.place i.name e → IsLinkCause l e
 name_cause l faults.NotYet is more i old legacy of_standard parts at h = absurd h
-name_cause l faults.WorldNotFound is more i old legacy of_standard parts at h = absurd h
-name_cause l faults.NoModule is more i old legacy of_standard parts at h = absurd h
-name_cause l faults.NoWorld is more i old legacy of_standard parts at h = absurd h
-name_cause l (faults.BadModule m) is more i old legacy of_standard parts at h = absurd h
 name_cause l faults.DuplicateImport is more i old legacy of_standard parts at h =
     subst RepeatsPair (sym parts) (repeats_at i is more (pair_there is i old old legacy of_standard h.0 false h.1))
 name_cause l faults.UnknownImport is more i old legacy of_standard parts at h = inl (at (IsImportCause l faults.UnknownImport) (no_place l i h))

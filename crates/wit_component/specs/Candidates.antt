@@ -74,4 +74,9 @@ abbrev pub IsNameCause : Table → List ℕ → List ℕ → Fault → Type 0
 IsNameCause old place name faults.DuplicateImport = (((bytes_eq place standard || bytes_eq place root) ≡ true) × (is_new (if bytes_eq place standard then old.standard else old.legacy) name ≡ false))
 IsNameCause old place name faults.UnknownImport = (bytes_eq place standard || bytes_eq place root) ≡ false
 IsNameCause old place name faults.OutOfMemory = Unit {0}
-IsNameCause old place name _ = ⊥
+IsNameCause old place name faults.NotYet = ⊥
+IsNameCause old place name faults.Ambiguous = ⊥
+IsNameCause old place name faults.LegacyName = ⊥
+IsNameCause old place name faults.WrongCoreType = ⊥
+IsNameCause old place name faults.MissingCoreExport = ⊥
+IsNameCause old place name faults.TooLarge = ⊥

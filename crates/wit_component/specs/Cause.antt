@@ -31,26 +31,39 @@ IsImportCause l faults.UnknownImport i = imported_by l i ≡ []
 IsImportCause l faults.Ambiguous i = 1 < length (imported_by l i)
 IsImportCause l faults.LegacyName i = (l.rejects_legacy ≡ true) × Any (λ f. is_legacy_import i.place i.name f.name ≡ true) l.world.imports
 IsImportCause l faults.WrongCoreType i = (f : FunctionItem) × (imported_by l i ≡ f ∷ []) × ¬ (i.ty ≡ Some (flat f.ty))
-IsImportCause l _ i = ⊥
+IsImportCause l faults.NotYet i = ⊥
+IsImportCause l faults.DuplicateImport i = ⊥
+IsImportCause l faults.MissingCoreExport i = ⊥
+IsImportCause l faults.TooLarge i = ⊥
+IsImportCause l faults.OutOfMemory i = ⊥
 
 -- why an exported function has no link; a text that is also the memory's has two meanings
 abbrev pub IsExportCause : Linking → Fault → FunctionItem → Type 0
 IsExportCause l faults.MissingCoreExport f = exported_by l f ≡ []
 IsExportCause l faults.Ambiguous f = (1 < length (exported_by l f)) ⊎ Any (λ e. is_memory_name l.rejects_legacy e.name ≡ true) (exported_by l f)
 IsExportCause l faults.WrongCoreType f = (e : CoreExport) × (exported_by l f ≡ e ∷ []) × ¬ (e.ty ≡ Some (flat f.ty))
-IsExportCause l _ f = ⊥
+IsExportCause l faults.NotYet f = ⊥
+IsExportCause l faults.DuplicateImport f = ⊥
+IsExportCause l faults.UnknownImport f = ⊥
+IsExportCause l faults.LegacyName f = ⊥
+IsExportCause l faults.TooLarge f = ⊥
+IsExportCause l faults.OutOfMemory f = ⊥
+
+-- of one of the core imports, or of one of the exported functions
+abbrev pub HasCause : Linking → Fault → Type 0
+HasCause l fault = Any (IsImportCause l fault) l.main.imports ⊎ Any (IsExportCause l fault) l.world.exports
 
 -- why there is no link table
 abbrev pub IsLinkCause : Linking → Fault → Type 0
-IsLinkCause l faults.NoModule = ⊥
-IsLinkCause l faults.NoWorld = ⊥
-IsLinkCause l faults.WorldNotFound = ⊥
-IsLinkCause l (faults.BadModule m) = ⊥
-IsLinkCause l faults.TooLarge = ⊥
-IsLinkCause l faults.OutOfMemory = Unit {0}
 IsLinkCause l faults.NotYet = IsStillToCome l
 IsLinkCause l faults.DuplicateImport = RepeatsPair l.main.imports
-IsLinkCause l fault = Any (IsImportCause l fault) l.main.imports ⊎ Any (IsExportCause l fault) l.world.exports
+IsLinkCause l faults.UnknownImport = HasCause l faults.UnknownImport
+IsLinkCause l faults.Ambiguous = HasCause l faults.Ambiguous
+IsLinkCause l faults.LegacyName = HasCause l faults.LegacyName
+IsLinkCause l faults.WrongCoreType = HasCause l faults.WrongCoreType
+IsLinkCause l faults.MissingCoreExport = HasCause l faults.MissingCoreExport
+IsLinkCause l faults.TooLarge = ⊥
+IsLinkCause l faults.OutOfMemory = Unit {0}
 
 -- ---- why a component isn't built: what links are refused for, or its size where nothing else is in the way
 

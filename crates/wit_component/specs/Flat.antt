@@ -1,11 +1,11 @@
 -- Core types of functions (Component Model, Canonical ABI, Flattening), of the primitive types.
-use Rattle.std.specs.Prelude.{List, [], ◌∷◌, map, Option, Some, None}
+use Rattle.std.specs.Prelude.{List, [], ◌∷◌, map, length, nat_le, if◌then◌else◌, Option, Some, None}
 use Rattle.wasm_types.specs.declared.types.ValType.{ValType}
 use Rattle.wasm_types.specs.declared.types.ValType.TheVariants.{I32, I64}
 use Rattle.wasm_types.specs.Types.{FuncTypeValue}
 use Rattle.plain_worlds.specs.declared.world.PrimitiveType.{PrimitiveType}
 use Rattle.plain_worlds.specs.declared.world.PrimitiveType.TheVariants as primitives
-use Rattle.plain_worlds.specs.World.{FunctionTypeValue}
+use Rattle.plain_worlds.specs.World.{ParameterValue, FunctionTypeValue}
 
 -- integers of 64 bits are i64, all else of this shape is i32
 abbrev pub flat_value : PrimitiveType → ValType
@@ -23,6 +23,10 @@ abbrev pub flat_result : Option PrimitiveType → List ValType
 flat_result None = []
 flat_result (Some p) = flat_value p ∷ []
 
--- The core type of a function of at most 16 parameters: each parameter, and the result, has one core value.
+-- one core value for each of at most 16 parameters; more of them lie in memory, and their place is given
+abbrev pub flat_params : List ParameterValue → List ValType
+flat_params ps = if nat_le (length ps) 16 then map (λ p. flat_value p.ty) ps else I32 ∷ []
+
+-- the core type of a function; the result has one core value
 abbrev pub flat : FunctionTypeValue → FuncTypeValue
-flat t = record { params = map (λ p. flat_value p.ty) t.params; results = flat_result t.result }
+flat t = record { params = flat_params t.params; results = flat_result t.result }

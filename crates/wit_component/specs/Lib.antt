@@ -8,6 +8,7 @@ pub mod Links
 pub mod View
 pub mod Cause
 pub mod Code
+pub mod Findings
 pub mod Meaning
 pub mod Right
 pub mod Texts

@@ -1,11 +1,13 @@
--- The link table as it is answered: its entries in the order of their texts, by their bytes, and a link for each.
-use Rattle.std.specs.Prelude.{◌≡◌, ℕ, List, ◌++◌, map, flat_map, Option, Some, None, option_map, string_bytes, codes, IsPermutation, IsSorted}
+-- The link table: a line for each function that a core import stands for, and for each core export that stands for an exported
+-- function, which is one for each where the input is linked (Canonical ABI, canon lift and canon lower); and its lines in order.
+use Rattle.std.specs.Prelude.{ℕ, List, ◌++◌, map, flat_map, Option, Some, None, option_map, string_bytes, codes, IsPermutation, IsSorted}
 use Rattle.std.specs.Borrow.{Bor}
 use Rattle.std.specs.Ordering.{ordering_then, nat_cmp}
+use Rattle.std.specs.Option.{option_cmp}
 use Rattle.std.specs.declared.cmp.Ordering.{Ordering}
 use Rattle.std.specs.Cmp.Lexicographic.{slice_cmp}
 use Rattle.wit_component.specs.declared.link.LinkSide.{LinkSide}
-use Rattle.wit_component.specs.declared.link.LinkSide.TheVariants.{Import, Export}
+use Rattle.wit_component.specs.declared.link.LinkSide.TheVariants.{Import, Export, Dtor, Start}
 use Rattle.wit_component.specs.declared.link.LinkKind.{LinkKind}
 use Rattle.wit_component.specs.declared.link.LinkKind.TheVariants.{Lower, Core}
 use Rattle.wit_component.specs.declared.link.Owner.{Owner}
@@ -17,45 +19,7 @@ use Rattle.plain_worlds.specs.World.{FunctionItem}
 use Rattle.wit_component.specs.Linking.{CoreImport, Linking}
 use Rattle.wit_component.specs.Table.{imported_by, exported_by}
 
--- ---- entries: a core import and its function, an exported function and its core export
-
-pub record ImportEntry : Type 0 where
-  pub place : List ℕ
-  pub name : List ℕ
-  pub function : List ℕ
-
-pub record ExportEntry : Type 0 where
-  pub function : List ℕ
-  pub name : List ℕ
-
-abbrev pub import_texts : Bor (List ℕ) × Bor (List ℕ) × Bor (List ℕ) → ImportEntry
-import_texts t = record { place = t.0.now; name = t.1.now; function = t.2.now }
-
-abbrev pub export_texts : Bor (List ℕ) × Bor (List ℕ) → ExportEntry
-export_texts t = record { function = t.0.now; name = t.1.now }
-
--- an entry for each function that a core import stands for: one where it is linked
-abbrev pub import_entries_for : Linking → CoreImport → List ImportEntry
-import_entries_for l i = map (λ f. record { place = i.place; name = i.name; function = f.name }) (imported_by l i)
-
--- an entry for each core export that stands for a function: one where it is linked
-abbrev pub export_entries_for : Linking → FunctionItem → List ExportEntry
-export_entries_for l f = map (λ e. record { function = f.name; name = e.name }) (exported_by l f)
-
-abbrev pub import_entries : Linking → List ImportEntry
-import_entries l = flat_map (import_entries_for l) l.main.imports
-
-abbrev pub export_entries : Linking → List ExportEntry
-export_entries l = flat_map (export_entries_for l) l.world.exports
-
--- imports by module text and then by name, exports by function
-abbrev pub import_cmp : ImportEntry → ImportEntry → Ordering
-import_cmp a b = ordering_then (ordering_then (slice_cmp nat_cmp a.place b.place) (slice_cmp nat_cmp a.name b.name)) (slice_cmp nat_cmp a.function b.function)
-
-abbrev pub export_cmp : ExportEntry → ExportEntry → Ordering
-export_cmp a b = ordering_then (slice_cmp nat_cmp a.function b.function) (slice_cmp nat_cmp a.name b.name)
-
--- ---- links, without where their texts lie in memory
+-- ---- lines, without where their texts lie in memory
 
 pub record LinkValue : Type 0 where
   pub side : LinkSide
@@ -92,16 +56,17 @@ link_value l = record {
   hook = option_map string_bytes l.hook;
 }
 
--- a function of the world asks for no memory, no realloc and no encoding in this shape
-abbrev pub import_link : ImportEntry → LinkValue
-import_link e = record {
+-- a core import, by its two texts, that ends in the lowering of a function of the world: that asks for no memory, no realloc and no
+-- encoding in this shape
+abbrev pub import_line : List ℕ → List ℕ → List ℕ → LinkValue
+import_line place name function = record {
   side = Import;
   owner = None;
-  «module» = Some e.place;
-  name = Some e.name;
+  «module» = Some place;
+  name = Some name;
   kind = Lower;
   place = Some root;
-  item = Some e.function;
+  item = Some function;
   memory = None;
   realloc = None;
   encoding = None;
@@ -109,15 +74,16 @@ import_link e = record {
   hook = None;
 }
 
-abbrev pub export_link : ExportEntry → LinkValue
-export_link e = record {
+-- a function that is exported, that ends at a core export of the main module
+abbrev pub export_line : List ℕ → List ℕ → LinkValue
+export_line function name = record {
   side = Export;
   owner = None;
   «module» = Some root;
-  name = Some e.function;
+  name = Some function;
   kind = Core;
   place = Some (codes "main");
-  item = Some e.name;
+  item = Some name;
   memory = None;
   realloc = None;
   encoding = None;
@@ -125,12 +91,50 @@ export_link e = record {
   hook = None;
 }
 
+-- ---- the table
+
+abbrev pub import_lines_for : Linking → CoreImport → List LinkValue
+import_lines_for l i = map (λ f. import_line i.place i.name f.name) (imported_by l i)
+
+abbrev pub export_lines_for : Linking → FunctionItem → List LinkValue
+export_lines_for l f = map (λ e. export_line f.name e.name) (exported_by l f)
+
+abbrev pub import_lines : Linking → List LinkValue
+import_lines l = flat_map (import_lines_for l) l.main.imports
+
+abbrev pub export_lines : Linking → List LinkValue
+export_lines l = flat_map (export_lines_for l) l.world.exports
+
+abbrev pub table : Linking → List LinkValue
+table l = import_lines l ++ export_lines l
+
+-- ---- its order
+
+-- imports first, then exports, destructors, and what is called at the start
+abbrev pub side_place : LinkSide → ℕ
+side_place Import = 0
+side_place Export = 1
+side_place Dtor = 2
+side_place Start = 3
+
+abbrev pub text_cmp : Option (List ℕ) → Option (List ℕ) → Ordering
+text_cmp = option_cmp (slice_cmp nat_cmp)
+
+-- by side, and then by the bytes of module, name and item
+abbrev pub line_cmp : LinkValue → LinkValue → Ordering
+line_cmp a b =
+    ordering_then (nat_cmp (side_place a.side) (side_place b.side))
+    (ordering_then (ordering_then (text_cmp a.«module» b.«module») (text_cmp a.name b.name)) (text_cmp a.item b.item))
+
 -- these are the links of a linking, in order
 pub record AreLinks (l : Linking) (links : List LinkValue) : Type 0 where
-  pub imports : List ImportEntry
-  pub exports : List ExportEntry
-  pub import_items : IsPermutation (import_entries l) imports
-  pub import_order : IsSorted import_cmp imports
-  pub export_items : IsPermutation (export_entries l) exports
-  pub export_order : IsSorted export_cmp exports
-  pub values : links ≡ map import_link imports ++ map export_link exports
+  pub items : IsPermutation (table l) links
+  pub order : IsSorted line_cmp links
+
+-- ---- texts of a line, as the code has them
+
+abbrev pub import_text : Bor (List ℕ) × Bor (List ℕ) × Bor (List ℕ) → LinkValue
+import_text t = import_line t.0.now t.1.now t.2.now
+
+abbrev pub export_text : Bor (List ℕ) × Bor (List ℕ) → LinkValue
+export_text t = export_line t.0.now t.1.now

@@ -1,10 +1,15 @@
--- What has to hold of what a component stands for, one record a kind of finding (Component Model, Explainer, Component Definitions).
-use Rattle.std.specs.Prelude.{◌≡◌, ◌⊎◌, List, [], ◌∷◌, map, Option, Some, option_map}
+-- What has to hold of what a component stands for, one condition for each kind of finding (Component Model, Explainer, Component
+-- Definitions).
+use Rattle.std.specs.Prelude.{◌≡◌, ◌⊎◌, ℕ, List, [], ◌∷◌, map, Option, Some, option_map}
 use Rattle.std.specs.List.{AllByRecursion as Each}
-use Rattle.plain_worlds.specs.World.{FunctionItem}
+use Rattle.wasm_types.specs.Types.{FuncTypeValue}
+use Rattle.plain_worlds.specs.World.{FunctionTypeValue, FunctionItem}
+use Rattle.wit_component.specs.declared.finding.FindingKind.{FindingKind}
+use Rattle.wit_component.specs.declared.finding.FindingKind.TheVariants as findings
+use Rattle.wit_component.specs.Flat.{flat}
 use Rattle.wit_component.specs.Linking.{CoreImport, CoreExport, Linking}
 use Rattle.wit_component.specs.Table.{ImportLink, ExportLink, needed}
-use Rattle.wit_component.specs.Meaning.{Spaces, CoreFunction, ImportEntry, ExportEntry, lowering, import_with, lifted}
+use Rattle.wit_component.specs.Meaning.{Spaces, Origin, Source, of_main, of_unknown, of_items, CoreFunction, ComponentFunction, ImportEntry, ExportEntry, of_export, of_lower, of_lift, import_with, item_at, all_given}
 
 -- x is one of these
 abbrev pub IsIn : {X : Type 0} → X → List X → Type 0
@@ -24,10 +29,17 @@ listed f = record { name = f.name; item = Some f.ty }
 abbrev pub type_seen : ExportEntry → ImportEntry
 type_seen e = record { name = e.name; item = option_map (λ f. f.ty) e.item }
 
--- F4: each core module is the main module, which is instantiated once
-pub record ModulesRight (l : Linking) (s : Spaces) : Type 0 where
-  pub modules : Each (λ bytes. bytes ≡ l.main.bytes) s.modules
-  pub once : (given : List (Option CoreFunction)) × (s.given ≡ given ∷ [])
+-- ---- ends: what a core function, and a function, are of
+
+-- the lowering of the import of that name
+abbrev pub IsLoweringOf : Spaces → List ℕ → CoreFunction → Type 0
+IsLoweringOf s name c = (n : ℕ) × (t : FunctionTypeValue) × (c.origin ≡ of_lower n) × (item_at s.functions n ≡ Some (import_with name t))
+
+-- the lift of the main module's export of that name, of that core type
+abbrev pub IsLiftOf : Spaces → List ℕ → FuncTypeValue → Origin → Type 0
+IsLiftOf s name core_type origin = (n k : ℕ) × (origin ≡ of_lift n) × (item_at s.core_functions n ≡ Some (record { origin = of_export k name; ty = core_type }))
+
+-- ---- the conditions
 
 -- F2: at least what links need is imported, and at most what the world lists, each under its name with its type
 pub record ImportsRight (l : Linking) (s : Spaces) : Type 0 where
@@ -38,40 +50,64 @@ pub record ImportsRight (l : Linking) (s : Spaces) : Type 0 where
 abbrev pub ExportsRight : Linking → Spaces → Type 0
 ExportsRight l s = SameItems (map type_seen s.exports) (map listed l.world.exports)
 
--- the core function that ends at a function of the world
-abbrev pub lowering_of : FunctionItem → CoreFunction
-lowering_of f = lowering (import_with f.name f.ty)
+-- there is one instance of the main module, which is given all that it asks
+abbrev pub IsOnce : List (List (Option CoreFunction)) → Type 0
+IsOnce all = (given : List CoreFunction) × (all ≡ map (λ f. Some f) given ∷ [])
 
--- a core import is given the lowering of its own function
-abbrev pub IsGiven : Linking → CoreImport → Option CoreFunction → Type 0
-IsGiven l i given = (f : FunctionItem) × ImportLink l i f × (given ≡ Some (lowering_of f))
+-- F4: each core module is the main module, which is instantiated once
+pub record ModulesRight (l : Linking) (s : Spaces) : Type 0 where
+  pub modules : Each (λ bytes. bytes ≡ l.main.bytes) s.modules
+  pub once : IsOnce (all_given s.instances)
 
-abbrev pub EachGiven : Linking → List CoreImport → List (Option CoreFunction) → Type 0
-EachGiven l [] [] = Unit {0}
-EachGiven l [] (g ∷ given) = ⊥
-EachGiven l (i ∷ more) [] = ⊥
-EachGiven l (i ∷ more) (g ∷ given) = IsGiven l i g × EachGiven l more given
+-- a core import is given the lowering of its own function, of that function's core type
+pub record IsGiven (l : Linking) (s : Spaces) (i : CoreImport) (given : Option CoreFunction) : Type 0 where
+  pub function : FunctionItem
+  pub link : ImportLink l i function
+  pub core : CoreFunction
+  pub is : given ≡ Some core
+  pub lowers : IsLoweringOf s function.name core
+  pub matches : core.ty ≡ flat function.ty
 
--- an exported function lifts its own core export
-abbrev pub lifting_of : FunctionItem → CoreExport → ExportEntry
-lifting_of f e = record { name = f.name; item = Some (record { end = lifted e.name; ty = f.ty }) }
+abbrev pub EachGiven : Linking → Spaces → List CoreImport → List (Option CoreFunction) → Type 0
+EachGiven l s [] [] = Unit {0}
+EachGiven l s [] (g ∷ given) = ⊥
+EachGiven l s (i ∷ more) [] = ⊥
+EachGiven l s (i ∷ more) (g ∷ given) = IsGiven l s i g × EachGiven l s more given
 
--- an export lifts the core export of its function
-pub record LiftsOwn (l : Linking) (x : ExportEntry) : Type 0 where
+-- so is each that an instance of the main module asks for
+abbrev pub TakesOwn : Linking → Spaces → Source → Type 0
+TakesOwn l s (of_main given) = EachGiven l s l.main.imports given
+TakesOwn l s of_unknown = Unit {0}
+TakesOwn l s of_items = Unit {0}
+
+-- an export lifts the core export of its function, which has that function's core type
+pub record LiftsOwn (l : Linking) (s : Spaces) (x : ExportEntry) : Type 0 where
   pub function : FunctionItem
   pub export : CoreExport
   pub listed : IsIn function l.world.exports
   pub link : ExportLink l function export
-  pub is : x ≡ lifting_of function export
+  pub name : x.name ≡ function.name
+  pub item : ComponentFunction
+  pub is : x.item ≡ Some item
+  pub lifts : IsLiftOf s export.name (flat function.ty) item.origin
 
 -- F5: every core import and every export ends at its entry of the link table
 pub record LinksRight (l : Linking) (s : Spaces) : Type 0 where
-  pub imports : Each (EachGiven l l.main.imports) s.given
-  pub exports : Each (LiftsOwn l) s.exports
+  pub imports : Each (λ i. TakesOwn l s i.source) s.instances
+  pub exports : Each (LiftsOwn l s) s.exports
+
+-- The condition of each kind. F1 holds of bytes that are a component; F6, F7 and F8 hold, since no link of this shape passes a slot,
+-- no core module has one, and every type is written out.
+abbrev pub Holds : Linking → Spaces → FindingKind → Type 0
+Holds l s findings.Format = Unit {0}
+Holds l s findings.Import = ImportsRight l s
+Holds l s findings.Export = ExportsRight l s
+Holds l s findings.Module = ModulesRight l s
+Holds l s findings.Link = LinksRight l s
+Holds l s findings.Fill = Unit {0}
+Holds l s findings.SlotReach = Unit {0}
+Holds l s findings.Name = Unit {0}
 
 -- what a component stands for meets all conditions
-pub record MeetsAll (l : Linking) (s : Spaces) : Type 0 where
-  pub modules : ModulesRight l s
-  pub imports : ImportsRight l s
-  pub exports : ExportsRight l s
-  pub links : LinksRight l s
+abbrev pub MeetsAll : Linking → Spaces → Type 0
+MeetsAll l s = (kind : FindingKind) → Holds l s kind

@@ -1,30 +1,17 @@
-//! Why a call of a session is refused.
+//! Why what is linked has no link table, or isn't encoded.
 
 ghost use Rattle.std.specs.Prelude.{◌≡◌, option_map};
 ghost use Rattle.wit_component.specs.Code as spec;
 
 use std::alloc::{AllocError, AllocFailed};
 use thiserror::Error;
-use wasm_format::ModuleFault;
 
-/// Why a call is refused; its text is what the program prints behind `error: `.
+/// Why there is no link table, or no component; its text is what the program prints behind `error: `.
 #[derive(Clone, Copy, Debug, PartialEq, Eq, Drop, Error)]
 pub enum Fault {
-    /// X1: the input lies outside what is built so far.
+    /// X1: what is linked, or judged, lies outside what is built so far.
     #[error("X1 NotYet")]
     NotYet,
-    /// G8: the text or list names no single world.
-    #[error("G8 WorldNotFound")]
-    WorldNotFound,
-    /// B1: no main module was handed in; given before any other.
-    #[error("B1 NoModule")]
-    NoModule,
-    /// B2: no world was chosen.
-    #[error("B2 NoWorld")]
-    NoWorld,
-    /// B6: the bytes of a module can't be read.
-    #[error("{0}")]
-    BadModule(ModuleFault),
     /// B7: the module imports one pair of names twice.
     #[error("B7 DuplicateImport")]
     DuplicateImport,
@@ -78,15 +65,6 @@ impl Fault {
     {
         match self {
             Fault::NotYet => Some("X1"),
-            Fault::WorldNotFound => Some("G8"),
-            Fault::NoModule => Some("B1"),
-            Fault::NoWorld => Some("B2"),
-            Fault::BadModule(fault) => match fault {
-                ModuleFault::Malformed => Some("M1"),
-                ModuleFault::Unsupported => Some("M2"),
-                ModuleFault::TooLarge => Some("M3"),
-                ModuleFault::OutOfMemory => None,
-            },
             Fault::DuplicateImport => Some("B7"),
             Fault::UnknownImport => Some("B8"),
             Fault::Ambiguous => Some("B9"),
@@ -104,15 +82,6 @@ impl Fault {
     {
         match self {
             Fault::NotYet => "NotYet",
-            Fault::WorldNotFound => "WorldNotFound",
-            Fault::NoModule => "NoModule",
-            Fault::NoWorld => "NoWorld",
-            Fault::BadModule(fault) => match fault {
-                ModuleFault::Malformed => "Malformed",
-                ModuleFault::Unsupported => "Unsupported",
-                ModuleFault::TooLarge => "TooLarge",
-                ModuleFault::OutOfMemory => "OutOfMemory",
-            },
             Fault::DuplicateImport => "DuplicateImport",
             Fault::UnknownImport => "UnknownImport",
             Fault::Ambiguous => "Ambiguous",
@@ -122,12 +91,5 @@ impl Fault {
             Fault::TooLarge => "TooLarge",
             Fault::OutOfMemory => "OutOfMemory",
         }
-    }
-
-    /// Its place in a text, as `PATH:LINE:COLUMN`; no fault of this stage has one.
-    pub fn place(&self) -> Option<&str>
-        ensures { option_map (λ s. s.now) result ≡ spec.place self.now }
-    {
-        None
     }
 }

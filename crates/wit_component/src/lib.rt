@@ -3,6 +3,7 @@
 
 mod encoder;
 mod fault;
+mod finding;
 mod law;
 mod link;
 mod linking;
@@ -12,9 +13,10 @@ mod table;
 
 pub use encoder::encode;
 pub use fault::Fault;
+pub use finding::FindingKind;
 pub use law::{law_linkable_has_no_cause, law_written_meets_all};
 pub use link::{Link, LinkKind, LinkSide, Owner, lines_of};
-pub use linking::{Linking, flat_value, is_flat_result};
+pub use linking::{Linking, flat_value, is_flat_result, is_one_place};
 pub use links::links_of;
 pub use string_encoding::StringEncoding;
 pub use table::{Table, needed_functions, references, table_of};

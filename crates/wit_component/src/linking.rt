@@ -4,7 +4,7 @@ ghost use Rattle.std.specs.Prelude.{◌≡◌, ◌∷◌, [], map, option_map, S
 ghost use Rattle.wit_component.specs.Meaning.{same_values};
 ghost use Rattle.wasm_types.specs.Types.{func_type_value};
 ghost use Rattle.wasm_format.specs.Module.{module_value, imported_type, exported_type};
-ghost use Rattle.wit_component.specs.Flat.{flat_value, flat_result, flat};
+ghost use Rattle.wit_component.specs.Flat.{flat_value, flat_result, flat_params, flat};
 ghost use Rattle.plain_worlds.specs.World.{param_item, function_item};
 
 use plain_worlds::{Function, Param, PrimitiveType, World};
@@ -79,8 +79,8 @@ pub fn is_flat_result(values: &[ValType], result_type: Option<PrimitiveType>) ->
     }
 }
 
-/// Whether these are the core values of parameters.
-fn are_flat(values: &[ValType], params: &[Param]) -> bool
+/// Whether these are the core values of parameters, one of each.
+fn are_flat_values(values: &[ValType], params: &[Param]) -> bool
     ensures is { result ≡ true → values.now ≡ map (λ p. flat_value p.ty) (map param_item params.now) }
     ensures is_not { result ≡ false → ¬ (values.now ≡ map (λ p. flat_value p.ty) (map param_item params.now)) }
 {
@@ -93,6 +93,30 @@ fn are_flat(values: &[ValType], params: &[Param]) -> bool
         }
     }
     true
+}
+
+/// Whether these are one place in memory.
+pub fn is_one_place(values: &[ValType]) -> bool
+    ensures is { result ≡ true → values.now ≡ ValType.I32 ∷ [] }
+    ensures is_not { result ≡ false → ¬ (values.now ≡ ValType.I32 ∷ []) }
+    ensures same { result ≡ same_values values.now (ValType.I32 ∷ []) }
+{
+    match values {
+        [value] => *value == ValType::I32,
+        _ => false,
+    }
+}
+
+/// Whether these are the core values of parameters: one for each of at most 16, else a place in memory (Canonical ABI, Flattening).
+fn are_flat(values: &[ValType], params: &[Param]) -> bool
+    ensures is { result ≡ true → values.now ≡ flat_params (map param_item params.now) }
+    ensures is_not { result ≡ false → ¬ (values.now ≡ flat_params (map param_item params.now)) }
+{
+    if params.len() <= 16 {
+        are_flat_values(values, params)
+    } else {
+        is_one_place(values)
+    }
 }
 
 /// Whether a core type is that of a function.

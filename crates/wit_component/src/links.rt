@@ -19,7 +19,7 @@ use wasm_format::Export;
 
 /// The link of a core import that ends in the lowering of a function of the world.
 fn import_link(alloc: Global, place: &str, name: &str, function: &str) -> Result<Link, AllocError>
-    ensures { IfOk result (λ l. spec.link_value l ≡ spec.import_link (record { place = place.now; name = name.now; function = function.now })) }
+    ensures { IfOk result (λ l. spec.link_value l ≡ spec.import_line place.now name.now function.now) }
 {
     Ok(Link {
         side: LinkSide::Import,
@@ -39,7 +39,7 @@ fn import_link(alloc: Global, place: &str, name: &str, function: &str) -> Result
 
 /// The link of an exported function that is a core export of the main module.
 fn export_link(alloc: Global, function: &str, name: &str) -> Result<Link, AllocError>
-    ensures { IfOk result (λ l. spec.link_value l ≡ spec.export_link (record { function = function.now; name = name.now })) }
+    ensures { IfOk result (λ l. spec.link_value l ≡ spec.export_line function.now name.now) }
 {
     Ok(Link {
         side: LinkSide::Export,
@@ -83,7 +83,7 @@ fn import_entry<'l>(
 ) -> (&'l str, &'l str, &'l str)
     requires places { ArePlaces (view.linking linking.now) (view.places table.now) }
     requires there { index < length linking.now.main.imports.items }
-    ensures { (i : CoreImport) × (slice_get (view.linking linking.now).main.imports index ≡ Some i) × (spec.import_entries_for (view.linking linking.now) i ≡ spec.import_texts result ∷ []) }
+    ensures { (i : CoreImport) × (slice_get (view.linking linking.now).main.imports index ≡ Some i) × (spec.import_lines_for (view.linking linking.now) i ≡ spec.import_text result ∷ []) }
 {
     let import = &linking.main.imports[index];
     let function = import_target(linking, table, index);
@@ -94,7 +94,7 @@ fn import_entry<'l>(
 fn export_entry<'l>(linking: &'l Linking<'l, 'l>, table: &Table, index: usize) -> (&'l str, &'l str)
     requires places { ArePlaces (view.linking linking.now) (view.places table.now) }
     requires there { index < length linking.now.world.now.exports.items }
-    ensures { (f : FunctionItem) × (slice_get (view.linking linking.now).world.exports index ≡ Some f) × (spec.export_entries_for (view.linking linking.now) f ≡ spec.export_texts result ∷ []) }
+    ensures { (f : FunctionItem) × (slice_get (view.linking linking.now).world.exports index ≡ Some f) × (spec.export_lines_for (view.linking linking.now) f ≡ spec.export_text result ∷ []) }
 {
     let function = &linking.world.exports[index];
     let export = export_target(linking, table, index);
@@ -108,7 +108,7 @@ fn import_entries<'l>(
     table: &Table,
 ) -> Result<Vec<(&'l str, &'l str, &'l str)>, AllocError>
     requires { ArePlaces (view.linking linking.now) (view.places table.now) }
-    ensures { IfOk result (λ v. map spec.import_texts v.items ≡ spec.import_entries (view.linking linking.now)) }
+    ensures { IfOk result (λ v. map spec.import_text v.items ≡ spec.import_lines (view.linking linking.now)) }
 {
     let mut found = Vec::new(alloc);
     for index in 0..linking.main.imports.as_slice().len() {
@@ -124,7 +124,7 @@ fn export_entries<'l>(
     table: &Table,
 ) -> Result<Vec<(&'l str, &'l str)>, AllocError>
     requires { ArePlaces (view.linking linking.now) (view.places table.now) }
-    ensures { IfOk result (λ v. map spec.export_texts v.items ≡ spec.export_entries (view.linking linking.now)) }
+    ensures { IfOk result (λ v. map spec.export_text v.items ≡ spec.export_lines (view.linking linking.now)) }
 {
     let mut found = Vec::new(alloc);
     for index in 0..linking.world.exports.as_slice().len() {
@@ -139,7 +139,7 @@ fn links_in_order(
     imports: &[(&str, &str, &str)],
     exports: &[(&str, &str)],
 ) -> Result<Vec<Link>, AllocError>
-    ensures { IfOk result (λ v. map spec.link_value v.items ≡ map spec.import_link (map spec.import_texts imports.now) ++ map spec.export_link (map spec.export_texts exports.now)) }
+    ensures { IfOk result (λ v. map spec.link_value v.items ≡ map spec.import_text imports.now ++ map spec.export_text exports.now) }
 {
     let mut links = Vec::new(alloc);
     for (place, name, function) in imports {

@@ -15,7 +15,7 @@ returns-in_err-ty c =
     sym (ap (λ (xs : List Export). slice_get xs c.args.place) seen)
     ∙ slice_get-get_or c.deref.result.now c.args.place c.in_ok-export.export.now c.in_ok-export.ensures.lookup.3.0 ∙ ap Some (sym c.in_ok-export.ensures.lookup.1) in
     let none : c.from_residual-in_err-ty.result ≡ None = search rules in
-    ap (option_map core_function) none ∙ export_here (module_value c.args.self.now.linking.now.main) c.args.self.now.linking.now.bytes.now c.args.self.now.linking.now.main.exports.items c.args.place c.in_ok-export.export.now None at c.in_err-ty.ensures
+    ap (option_map core_function) none ∙ export_here (module_value c.args.self.now.linking.now.main) c.args.self.now.linking.now.bytes.now c.args.instance c.args.self.now.linking.now.main.exports.items c.args.place c.in_ok-export.export.now None at c.in_err-ty.ensures
 
 pub returns : goal.returns
 returns c =
@@ -23,4 +23,4 @@ returns c =
     let at : slice_get c.args.self.now.linking.now.main.exports.items c.args.place ≡ Some c.in_ok-export.export.now =
     sym (ap (λ (xs : List Export). slice_get xs c.args.place) seen)
     ∙ slice_get-get_or c.deref.result.now c.args.place c.in_ok-export.export.now c.in_ok-export.ensures.lookup.3.0 ∙ ap Some (sym c.in_ok-export.ensures.lookup.1) in
-    export_here (module_value c.args.self.now.linking.now.main) c.args.self.now.linking.now.bytes.now c.args.self.now.linking.now.main.exports.items c.args.place c.in_ok-export.export.now (Some (func_type_value c.in_ok-ty.ty.now)) at c.in_ok-ty.ensures
+    export_here (module_value c.args.self.now.linking.now.main) c.args.self.now.linking.now.bytes.now c.args.instance c.args.self.now.linking.now.main.exports.items c.args.place c.in_ok-export.export.now (Some (func_type_value c.in_ok-ty.ty.now)) at c.in_ok-ty.ensures

@@ -10,4 +10,4 @@ use Rattle.component_audit.specs.WalkView.{spaces_of}
 use Rattle.component_audit.proofs.walk.Walk.given.Given as goal
 
 abbrev pub invariant-loop-import : goal.invariant-loop-import
-invariant-loop-import l = map (option_map core_function) l.given.items ≡ map (given_for (spaces_of l.self) (map argument_value l.args)) (map (core_import (module_value l.self.linking.now.main)) (map import_value (take l.import-index l.import-items)))
+invariant-loop-import l = map (option_map core_function) l.given.items ≡ map (given_for (spaces_of l.self).instances (map argument_value l.args)) (map (core_import (module_value l.self.linking.now.main)) (map import_value (take l.import-index l.import-items)))

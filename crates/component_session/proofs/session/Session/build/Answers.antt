@@ -1,7 +1,16 @@
 use Rattle.wit_component.specs.View as view
-use Rattle.component_session.proofs.Causes.{built}
+use Rattle.wit_component.proofs.Results.{moved_up}
+use Rattle.component_session.specs.Cause.{IsBuildCause}
+use Rattle.component_session.specs.Faults.{of_linking}
+use Rattle.component_session.proofs.Causes.{encode_cause_is, built}
 use Rattle.component_session.proofs.session.Session.build.Goals as goal
 
 pub returns-clause-right : goal.returns-clause-right
 returns-clause-right c =
     built c.args.self.now (view.linking c.in_ok-linking.linking) c.in_ok-bytes.bytes.items c.in_ok-linking.ensures.found c.in_ok-linking.ensures.plain c.in_ok-bytes.ensures.linkable c.in_ok-bytes.ensures.fits c.in_ok-bytes.ensures.found
+
+pub returns-in_err-bytes-clause-cause : goal.returns-in_err-bytes-clause-cause
+returns-in_err-bytes-clause-cause c =
+    let fault = c.in_err-bytes.field-0.0 in
+    moved_up c.from_residual-in_err-bytes.result (of_linking fault) (IsBuildCause c.args.self.now) c.from_residual-in_err-bytes.ensures.1
+    (encode_cause_is c.args.self.now (view.linking c.in_ok-linking.linking) fault c.in_ok-linking.ensures.found c.in_ok-linking.ensures.plain c.in_err-bytes.ensures.cause)

@@ -3,11 +3,11 @@ use Rattle.std.proofs.lemmas.Option.{same_Some}
 use Rattle.wasm_format.specs.Module.{module_value}
 use Rattle.wasm_format.specs.Grammar.{IsModule}
 use Rattle.component_session.specs.Input.{ModuleInput}
-use Rattle.component_session.specs.ModuleCause.{refusal_of}
+use Rattle.component_session.specs.Faults.{of_module}
 use Rattle.component_session.proofs.session.Session.module.Goals as goal
 
 pub returns-in-Err-clause-only : goal.returns-in-Err-clause-only
-returns-in-Err-clause-only c = λ m h. c.module_refusal.ensures ∙ ap refusal_of (c.in-Err.ensures.only m h)
+returns-in-Err-clause-only c = λ m h. c.module_refusal.ensures ∙ ap of_module (c.in-Err.ensures.only m h)
 
 pub invariant_of-self : goal.invariant_of-self
 invariant_of-self c = record { come = c.self.invariant.come; chosen = c.self.invariant.chosen; handed = λ x e. (module_value c.in_default.field-0, subst (λ (y : ModuleInput). IsModule y.bytes (module_value c.in_default.field-0)) (same_Some _ x e) c.in_default.ensures.found) }

@@ -1,0 +1,160 @@
+//! Why a call of a session is refused.
+
+ghost use Rattle.std.specs.Prelude.{◌≡◌, option_map};
+ghost use Rattle.component_session.specs.Code as spec;
+ghost use Rattle.component_session.specs.Faults.{of_module};
+
+use std::alloc::{AllocError, AllocFailed};
+use thiserror::Error;
+use wasm_format::ModuleFault;
+use wit_component::Fault as LinkFault;
+
+/// Why the bytes of a module aren't taken.
+#[derive(Clone, Copy, Debug, PartialEq, Eq, Error)]
+pub enum ModuleCause {
+    /// M1: they are no module.
+    #[error("M1 Malformed")]
+    Malformed,
+    /// M2: they have a part that is still to come.
+    #[error("M2 Unsupported")]
+    Unsupported,
+    /// M3: there are more than 4,294,967,295 of them.
+    #[error("M3 TooLarge")]
+    TooLarge,
+}
+
+/// Why a call is refused; its text is what the program prints behind `error: `. What packages are refused for is a `ResolveError`.
+#[derive(Clone, Copy, Debug, PartialEq, Eq, Drop, Error)]
+pub enum Fault {
+    /// X1: the input, or what is judged, lies outside what is built so far.
+    #[error("X1 NotYet")]
+    NotYet,
+    /// B1: no main module was handed in; given before any other.
+    #[error("B1 NoModule")]
+    NoModule,
+    /// B2: no world was chosen.
+    #[error("B2 NoWorld")]
+    NoWorld,
+    /// B6: the bytes of a module can't be read, for M1, M2 or M3.
+    #[error("{0}")]
+    BadModule(ModuleCause),
+    /// B7 to B12 and B25: what is linked has no link table, or no component says it. X1 and want of memory are this fault's own.
+    #[error("{0}")]
+    Linking(LinkFault),
+    /// A request for memory was refused.
+    #[error("out of memory")]
+    OutOfMemory,
+}
+
+impl From<AllocError> for Fault {
+    ghost use Rattle.component_session.specs.declared.fault.Fault.TheVariants.{OutOfMemory};
+
+    ghost from_gives = { λ _ e. e ≡ OutOfMemory };
+
+    fn from(_e: AllocError) -> Fault {
+        Fault::OutOfMemory
+    }
+}
+
+impl<T: Drop> From<AllocFailed<T>> for Fault {
+    ghost use Rattle.component_session.specs.declared.fault.Fault.TheVariants.{OutOfMemory};
+
+    ghost from_gives = { λ _ e. e ≡ OutOfMemory };
+
+    fn from(_e: AllocFailed<T>) -> Fault {
+        Fault::OutOfMemory
+    }
+}
+
+impl From<LinkFault> for Fault {
+    ghost use Rattle.component_session.specs.Faults.{of_linking};
+
+    ghost from_gives = { λ fault e. e ≡ of_linking fault };
+
+    fn from(fault: LinkFault) -> Fault {
+        match fault {
+            LinkFault::NotYet => Fault::NotYet,
+            LinkFault::OutOfMemory => Fault::OutOfMemory,
+            LinkFault::DuplicateImport
+            | LinkFault::UnknownImport
+            | LinkFault::Ambiguous
+            | LinkFault::LegacyName
+            | LinkFault::WrongCoreType
+            | LinkFault::MissingCoreExport
+            | LinkFault::TooLarge => Fault::Linking(fault),
+        }
+    }
+}
+
+/// What a module reader's refusal becomes.
+pub fn module_refusal(fault: ModuleFault) -> Fault
+    ensures { result ≡ of_module fault }
+{
+    match fault {
+        ModuleFault::Malformed => Fault::BadModule(ModuleCause::Malformed),
+        ModuleFault::Unsupported => Fault::BadModule(ModuleCause::Unsupported),
+        ModuleFault::TooLarge => Fault::BadModule(ModuleCause::TooLarge),
+        ModuleFault::OutOfMemory => Fault::OutOfMemory,
+    }
+}
+
+impl ModuleCause {
+    /// Its code, as `M1`.
+    pub fn code(self) -> &'static str
+        ensures { result.now ≡ spec.module_code self }
+    {
+        match self {
+            ModuleCause::Malformed => "M1",
+            ModuleCause::Unsupported => "M2",
+            ModuleCause::TooLarge => "M3",
+        }
+    }
+
+    /// Its name, as `Malformed`.
+    pub fn name(self) -> &'static str
+        ensures { result.now ≡ spec.module_name self }
+    {
+        match self {
+            ModuleCause::Malformed => "Malformed",
+            ModuleCause::Unsupported => "Unsupported",
+            ModuleCause::TooLarge => "TooLarge",
+        }
+    }
+}
+
+impl Fault {
+    /// The code of its cause, as `B8`; none for want of memory.
+    pub fn code(&self) -> Option<&'static str>
+        ensures { option_map (λ s. s.now) result ≡ spec.code self.now }
+    {
+        match self {
+            Fault::NotYet => Some("X1"),
+            Fault::NoModule => Some("B1"),
+            Fault::NoWorld => Some("B2"),
+            Fault::BadModule(cause) => Some(cause.code()),
+            Fault::Linking(fault) => fault.code(),
+            Fault::OutOfMemory => None,
+        }
+    }
+
+    /// The name of its cause, as `UnknownImport`.
+    pub fn name(&self) -> &'static str
+        ensures { result.now ≡ spec.name self.now }
+    {
+        match self {
+            Fault::NotYet => "NotYet",
+            Fault::NoModule => "NoModule",
+            Fault::NoWorld => "NoWorld",
+            Fault::BadModule(cause) => cause.name(),
+            Fault::Linking(fault) => fault.name(),
+            Fault::OutOfMemory => "OutOfMemory",
+        }
+    }
+
+    /// Its place in a text, as `PATH:LINE:COLUMN`; no fault of this stage has one.
+    pub fn place(&self) -> Option<&str>
+        ensures { option_map (λ s. s.now) result ≡ spec.place self.now }
+    {
+        None
+    }
+}
