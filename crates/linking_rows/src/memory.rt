@@ -232,7 +232,7 @@ fn choose(page: &mut Page, session: &mut Session, id: PackageId) -> Option<World
 /// Hands in the module, if the world is one of the session.
 fn module(session: &mut Session<'static>, world: WorldId) -> Result<(), Fault> {
     if world.index() >= session.resolve().worlds().len() {
-        return Err(Fault::WorldNotFound);
+        return Err(Fault::NotYet);
     }
     session.module(IMPORTER, world, StringEncoding::UTF8)
 }
