@@ -113,6 +113,7 @@ abbrev pub is_export_of : Option CoreFunction → List ℕ → Option FuncTypeVa
 is_export_of None name t = false
 is_export_of (Some c) name t = is_named c.origin name && is_of_core_type t (Some c)
 
+-- the lift of one of these core functions, which is that export
 abbrev pub is_lift : List (Option CoreFunction) → Origin → List ℕ → Option FuncTypeValue → Bool
 is_lift cores (of_import x) name t = false
 is_lift cores (of_lift n) name t = is_export_of (item_at cores n) name t
@@ -122,6 +123,7 @@ abbrev pub is_lift_of : List (Option CoreFunction) → Option ComponentFunction 
 is_lift_of cores None name t = false
 is_lift_of cores (Some f) name t = is_lift cores f.origin name t
 
+-- the import of this name
 abbrev pub is_imported : Origin → List ℕ → Bool
 is_imported (of_import x) name = bytes_eq x name
 is_imported (of_lift n) name = false
@@ -131,6 +133,7 @@ abbrev pub is_import_of : Option ComponentFunction → List ℕ → Bool
 is_import_of None name = false
 is_import_of (Some f) name = is_imported f.origin name
 
+-- the lowering of one of these functions, which is that import
 abbrev pub is_lowering : List (Option ComponentFunction) → CoreOrigin → List ℕ → Bool
 is_lowering functions (of_export k x) name = false
 is_lowering functions (of_lower n) name = is_import_of (item_at functions n) name

@@ -16,7 +16,6 @@ ghost use Rattle.component_audit.specs.Judged.{Finds, IsOutside, IsSoFar, IsJudg
 ghost use Rattle.wit_component.specs.Linking.{core_import, core_export};
 ghost use Rattle.wit_component.specs.Meaning as meant;
 ghost use Rattle.wit_component.specs.Places.{ArePlaces, ImportPlace};
-ghost use Rattle.wit_component.specs.Right as right;
 ghost use Rattle.wit_component.specs.Right.{IsIn, IsOnce, IsGiven, EachGiven, TakesOwn, LiftsOwn, ImportsRight, LinksRight, type_seen};
 ghost use Rattle.component_audit.specs.SpacesView as seen;
 ghost use Rattle.wit_component.specs.View as view;

@@ -12,10 +12,10 @@ use wit_component::Fault as LinkFault;
 /// Why the bytes of a module aren't taken.
 #[derive(Clone, Copy, Debug, PartialEq, Eq, Error)]
 pub enum ModuleCause {
-    /// M1: they are no module.
+    /// M1: they are no core module.
     #[error("M1 Malformed")]
     Malformed,
-    /// M2: they have a part that is still to come.
+    /// M2: they have a form of the core format that is never read.
     #[error("M2 Unsupported")]
     Unsupported,
     /// M3: there are more than 4,294,967,295 of them.
@@ -38,7 +38,8 @@ pub enum Fault {
     /// B6: the bytes of a module can't be read, for M1, M2 or M3.
     #[error("{0}")]
     BadModule(ModuleCause),
-    /// B7 to B12 and B25: what is linked has no link table, or no component says it. X1 and want of memory are this fault's own.
+    /// B7 to B12: what is linked has no link table; B25: no component says it. Never X1 or want of memory, which are `NotYet` and
+    /// `OutOfMemory`.
     #[error("{0}")]
     Linking(LinkFault),
     /// A request for memory was refused.

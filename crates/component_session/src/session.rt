@@ -244,7 +244,7 @@ impl<'a> Session<'a> {
     /// Hands in the main module, with the world whose exports it supplies and the encoding of its strings; one
     /// handed in before is replaced.
     ///
-    /// Answers B6 where the module reader refuses the bytes, and X1 where they have a part that is still to come.
+    /// Refuses with M1, M2 or M3 (B6) where the module reader refuses the bytes.
     pub fn module(
         &mut self,
         bytes: &'a [u8],

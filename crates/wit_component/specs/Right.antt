@@ -31,7 +31,7 @@ type_seen e = record { name = e.name; item = option_map (λ f. f.ty) e.item }
 
 -- ---- ends: what a core function, and a function, are of
 
--- the lowering of the import of that name
+-- the lowering of the import of that name, of whatever type: that is asked of imports (F2)
 abbrev pub IsLoweringOf : Spaces → List ℕ → CoreFunction → Type 0
 IsLoweringOf s name c = (n : ℕ) × (t : FunctionTypeValue) × (c.origin ≡ of_lower n) × (item_at s.functions n ≡ Some (import_with name t))
 
@@ -80,7 +80,7 @@ TakesOwn l s (of_main given) = EachGiven l s l.main.imports given
 TakesOwn l s of_unknown = Unit {0}
 TakesOwn l s of_items = Unit {0}
 
--- an export lifts the core export of its function, which has that function's core type
+-- an export lifts the core export of its function, which has that function's core type; of whatever type: that is asked of exports (F3)
 pub record LiftsOwn (l : Linking) (s : Spaces) (x : ExportEntry) : Type 0 where
   pub function : FunctionItem
   pub export : CoreExport

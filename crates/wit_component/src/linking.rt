@@ -95,7 +95,7 @@ fn are_flat_values(values: &[ValType], params: &[Param]) -> bool
     true
 }
 
-/// Whether these are one place in memory.
+/// Whether these core values are one place in memory, an `i32` (Canonical ABI, Flattening).
 pub fn is_one_place(values: &[ValType]) -> bool
     ensures is { result ≡ true → values.now ≡ ValType.I32 ∷ [] }
     ensures is_not { result ≡ false → ¬ (values.now ≡ ValType.I32 ∷ []) }
