@@ -10,7 +10,7 @@ use Rattle.distinct_names.specs.Names.{is_new, all_new}
 use Rattle.plain_worlds.specs.World.{FunctionTypeValue}
 use Rattle.plain_worlds.specs.declared.world.Function.{Function}
 use Rattle.component_audit.specs.declared.spaces.ImportEntry.{ImportEntry as Imported}
-use Rattle.component_audit.specs.SpacesView.{import_entry}
+use Rattle.component_audit.specs.SpacesView.{import_entry, source, instance, all_given}
 use Rattle.plain_worlds.specs.World.{FunctionItem, function_item}
 use Rattle.name_places.specs.FirstPlaces.{place_of}
 use Rattle.wit_component.specs.Linking.{MainModule, Linking}
@@ -20,8 +20,7 @@ use Rattle.wit_component.specs.Table.{is_needed, needed}
 use Rattle.wit_component.specs.Meaning.{Spaces, CoreFunction, ImportEntry, all_there, given_by}
 use Rattle.wit_component.specs.Right.{IsIn, IsOnce, listed, type_seen, ImportsRight, ExportsRight, ModulesRight, LinksRight, MeetsAll}
 use Rattle.component_audit.specs.declared.spaces.CoreInstance.{CoreInstance}
-use Rattle.component_audit.specs.SpacesView.{source, instance, all_given}
-use Rattle.component_audit.specs.Judged.{Finds, IsOutside, function_named, is_type_of, is_listed, is_there}
+use Rattle.component_audit.specs.Tests.{Finds, IsOutside, function_named, is_type_of, is_listed, is_there}
 use Rattle.wit_component.proofs.Lists.{bytes_eq_refl, bytes_eq_is, each_in, each_at, each_map, in_map, from_filter}
 use Rattle.component_audit.proofs.Equal.{type_of_function_decides}
 use Rattle.wit_component.proofs.WrittenNames.{names_of, is_new-append, all_new_without}

@@ -15,12 +15,13 @@ use Rattle.name_places.specs.FirstPlaces.{place_of}
 use Rattle.plain_worlds.specs.World.{FunctionTypeValue, FunctionItem}
 use Rattle.wit_component.specs.Flat.{flat}
 use Rattle.wit_component.specs.Linking.{CoreImport, CoreExport, Linking, core_import}
-use Rattle.wit_component.specs.Table.{exported_by, ImportLink, ExportLink}
-use Rattle.wit_component.specs.Places.{ImportPlace, ExportPlace, Placed, Places, ArePlaces}
+use Rattle.wit_component.specs.Table.{Entry, import_entry, export_entry, entries_of_export}
+use Rattle.wit_component.specs.Places.{ImportLink, ExportLink, ImportPlace, ExportPlace, Placed, Places, ArePlaces}
 use Rattle.wit_component.specs.Meaning.{Spaces, CoreOrigin, of_export, of_lower, Origin, of_import, of_lift, CoreFunction, ComponentFunction, ExportEntry, import_with, item_at, is_of_core_type}
 use Rattle.wit_component.specs.Right.{IsLoweringOf, IsLiftOf, IsGiven, EachGiven, LiftsOwn}
-use Rattle.component_audit.specs.Judged.{function_named, is_named, is_export_of, is_lift, is_lift_of, is_imported, is_import_of, is_lowering, is_lowering_of}
+use Rattle.component_audit.specs.Tests.{function_named, is_named, is_export_of, is_lift, is_lift_of, is_imported, is_import_of, is_lowering, is_lowering_of}
 use Rattle.wit_component.proofs.Lists.{bytes_eq_refl, bytes_eq_is}
+use Rattle.wit_component.proofs.Entries.{import_entered, export_entered}
 use Rattle.component_audit.proofs.Equal.{core_type_decides}
 use Rattle.wit_component.proofs.PlacesLists.{view_at}
 use Rattle.wit_component.proofs.WrittenNames.{names_of}
@@ -51,34 +52,40 @@ export_is (Some c) name t wanted e h =
 is_export : (k : ℕ) (name : List ℕ) (t : Option FuncTypeValue) (wanted : FuncTypeValue) → t ≡ Some wanted → is_export_of (Some (record { origin = of_export k name; ty = wanted })) name t ≡ true
 is_export k name t wanted e = and_from (bytes_eq name name) (is_of_core_type t (Some (record { origin = of_export k name; ty = wanted }))) (bytes_eq_refl name) (of_its_type t (record { origin = of_export k name; ty = wanted }) e)
 
-lift_is : (s : Spaces) (o : Origin) (name : List ℕ) (t : Option FuncTypeValue) (wanted : FuncTypeValue) → t ≡ Some wanted → is_lift s.core_functions o name t ≡ true → IsLiftOf s name wanted o
-lift_is s (of_import x) name t wanted e h = absurd cc
-lift_is s (of_lift n) name t wanted e h = let at = export_is (item_at s.core_functions n) name t wanted e h in (n, at.0, refl, at.1)
+-- the lift that an entry speaks of
+lift_is : (s : Spaces) (e : Entry) (o : Origin) (name : List ℕ) (t : Option FuncTypeValue) → e.line.item ≡ Some name → t ≡ Some e.core_type → is_lift s.core_functions o name t ≡ true → IsLiftOf s e o
+lift_is s e (of_import x) name t named typed h = absurd cc
+lift_is s e (of_lift n) name t named typed h =
+    let at = export_is (item_at s.core_functions n) name t e.core_type typed h in
+    record { name = name; named = named; core = n; lifts = refl; instance = at.0; is = at.1 }
 
-is_its_lift : (s : Spaces) (o : Origin) (name : List ℕ) (t : Option FuncTypeValue) (wanted : FuncTypeValue) → t ≡ Some wanted → IsLiftOf s name wanted o → is_lift s.core_functions o name t ≡ true
-is_its_lift s o name t wanted e h =
-    ap (λ (x : Origin). is_lift s.core_functions x name t) h.2 ∙ (ap (λ (x : Option CoreFunction). is_export_of x name t) h.3 ∙ is_export h.1 name t wanted e)
+is_its_lift : (s : Spaces) (e : Entry) (o : Origin) (name : List ℕ) (t : Option FuncTypeValue) → e.line.item ≡ Some name → t ≡ Some e.core_type → IsLiftOf s e o → is_lift s.core_functions o name t ≡ true
+is_its_lift s e o name t named typed h =
+    let same : h.name ≡ name = same_Some h.name name (sym h.named ∙ named) in
+    ap (λ (x : Origin). is_lift s.core_functions x name t) h.lifts
+    ∙ (ap (λ (x : Option CoreFunction). is_export_of x name t) (h.is ∙ ap (λ (x : List ℕ). Some (record { origin = of_export h.instance x; ty = e.core_type })) same)
+    ∙ is_export h.instance name t e.core_type typed)
 
-item_lifts : (s : Spaces) (o : Option ComponentFunction) (name : List ℕ) (t : Option FuncTypeValue) (wanted : FuncTypeValue) → t ≡ Some wanted → is_lift_of s.core_functions o name t ≡ true
-    → (c : ComponentFunction) × (o ≡ Some c) × IsLiftOf s name wanted c.origin
-item_lifts s None name t wanted e h = absurd cc
-item_lifts s (Some c) name t wanted e h = (c, refl, lift_is s c.origin name t wanted e h)
+item_lifts : (s : Spaces) (e : Entry) (o : Option ComponentFunction) (name : List ℕ) (t : Option FuncTypeValue) → e.line.item ≡ Some name → t ≡ Some e.core_type → is_lift_of s.core_functions o name t ≡ true
+    → (c : ComponentFunction) × (o ≡ Some c) × IsLiftOf s e c.origin
+item_lifts s e None name t named typed h = absurd cc
+item_lifts s e (Some c) name t named typed h = (c, refl, lift_is s e c.origin name t named typed h)
 
 module _ (l : Linking) (s : Spaces) (distinct : all_new [] (names_of l.world.exports) ≡ true) (x : ExportEntry) where
   own_is : (f : FunctionItem) → function_named x.name l.world.exports ≡ Some f → (e : CoreExport) → ExportLink l f e → LiftsOwn l s x → is_lift_of s.core_functions x.item e.name e.ty ≡ true
   own_is f named e link own =
       let same : own.function ≡ f = same_Some own.function f (sym (named_in l.world.exports distinct own.function own.listed) ∙ (ap (λ n. function_named n l.world.exports) (sym own.name) ∙ named)) in
-      let one : own.export ∷ [] ≡ e ∷ [] = sym own.link.only ∙ (ap (exported_by l) same ∙ link.only) in
-      let export : own.export ≡ e = cc in
-      let lifts : IsLiftOf s e.name (flat f.ty) own.item.origin = subst (λ (y : CoreExport). IsLiftOf s y.name (flat f.ty) own.item.origin) export (subst (λ (g : FunctionItem). IsLiftOf s own.export.name (flat g.ty) own.item.origin) same own.lifts) in
-      ap (λ (i : Option ComponentFunction). is_lift_of s.core_functions i e.name e.ty) own.is ∙ is_its_lift s own.item.origin e.name e.ty (flat f.ty) link.matches lifts
+      let one : own.entry ∷ [] ≡ export_entry f e ∷ [] = sym own.is_entry.entry.only ∙ (ap (entries_of_export l) same ∙ (export_entered l f e link).entry.only) in
+      let entry : own.entry ≡ export_entry f e = cc in
+      let lifts : IsLiftOf s (export_entry f e) own.item.origin = subst (λ (y : Entry). IsLiftOf s y own.item.origin) entry own.ends in
+      ap (λ (i : Option ComponentFunction). is_lift_of s.core_functions i e.name e.ty) own.is ∙ is_its_lift s (export_entry f e) own.item.origin e.name e.ty refl link.matches lifts
 
   pub lift_decides : (f : FunctionItem) → function_named x.name l.world.exports ≡ Some f → (e : CoreExport) → ExportLink l f e → Decides (is_lift_of s.core_functions x.item e.name e.ty) (LiftsOwn l s x)
   lift_decides f named e link = (
     λ h.
-        let at = item_lifts s x.item e.name e.ty (flat f.ty) link.matches h in
+        let at = item_lifts s (export_entry f e) x.item e.name e.ty refl link.matches h in
         let of = named_is x.name l.world.exports f named in
-        record { function = f; export = e; listed = of.1; link = link; name = sym of.0; item = at.0; is = at.1; lifts = at.2 },
+        record { function = f; listed = of.1; name = sym of.0; entry = export_entry f e; is_entry = export_entered l f e link; item = at.0; is = at.1; ends = at.2 },
     λ own. own_is f named e link own,
   )
 
@@ -97,28 +104,40 @@ import_is : (o : Option ComponentFunction) (name : List ℕ) → is_import_of o 
 import_is None name h = absurd cc
 import_is (Some f) name h = let is = imported_is f.origin name h in (f.ty, λ i. Some (record { origin = is i; ty = f.ty }))
 
-lowers_import : (s : Spaces) (c : CoreFunction) (o : CoreOrigin) (name : List ℕ) → c.origin ≡ o → is_lowering s.functions o name ≡ true → IsLoweringOf s name c
-lowers_import s c (of_export k x) name e h = absurd cc
-lowers_import s c (of_lower n) name e h = let at = import_is (item_at s.functions n) name h in (n, at.0, e, at.1)
+-- the lowering that an entry speaks of
+lowers_import : (s : Spaces) (e : Entry) (c : CoreFunction) (o : CoreOrigin) (name : List ℕ) → e.line.item ≡ Some name → c.origin ≡ o → is_lowering s.functions o name ≡ true → IsLoweringOf s e c
+lowers_import s e c (of_export k x) name named is h = absurd cc
+lowers_import s e c (of_lower n) name named is h =
+    let at = import_is (item_at s.functions n) name h in
+    record { name = name; named = named; function = n; lowers = is; ty = at.0; is = at.1 }
 
-is_its_lowering : (s : Spaces) (c : CoreFunction) (name : List ℕ) → IsLoweringOf s name c → is_lowering s.functions c.origin name ≡ true
-is_its_lowering s c name h =
-    ap (λ (o : CoreOrigin). is_lowering s.functions o name) h.2 ∙ (ap (λ (x : Option ComponentFunction). is_import_of x name) h.3 ∙ bytes_eq_refl name)
+is_its_lowering : (s : Spaces) (e : Entry) (c : CoreFunction) (name : List ℕ) → e.line.item ≡ Some name → IsLoweringOf s e c → is_lowering s.functions c.origin name ≡ true
+is_its_lowering s e c name named h =
+    let same : h.name ≡ name = same_Some h.name name (sym h.named ∙ named) in
+    ap (λ (o : CoreOrigin). is_lowering s.functions o name) h.lowers
+    ∙ (ap (λ (x : Option ComponentFunction). is_import_of x name) (h.is ∙ ap (λ (x : List ℕ). Some (import_with x h.ty)) same) ∙ bytes_eq_refl name)
 
 given_of : (l : Linking) (s : Spaces) (i : CoreImport) (f : FunctionItem) → ImportLink l i f → (g : Option CoreFunction) → is_lowering_of s.functions g f.name ≡ true → is_of_core_type i.ty g ≡ true → IsGiven l s i g
 given_of l s i f link None h t = absurd cc
-given_of l s i f link (Some c) h t = record { function = f; link = link; core = c; is = refl; lowers = lowers_import s c c.origin f.name refl h; matches = core_type_of i.ty c (flat f.ty) link.matches t }
+given_of l s i f link (Some c) h t = record {
+  entry = import_entry i f;
+  is_entry = import_entered l i f link;
+  core = c;
+  is = refl;
+  ends = lowers_import s (import_entry i f) c c.origin f.name refl refl h;
+  matches = core_type_of i.ty c (flat f.ty) link.matches t;
+}
 
 pub given_decides : (l : Linking) (s : Spaces) (i : CoreImport) (f : FunctionItem) → ImportLink l i f → (g : Option CoreFunction) → Decides (is_lowering_of s.functions g f.name && is_of_core_type i.ty g) (IsGiven l s i g)
 given_decides l s i f link g = (
   λ h. let p = and_parts (is_lowering_of s.functions g f.name) (is_of_core_type i.ty g) h in given_of l s i f link g p.0 p.1,
   λ own.
-      let one : own.function ∷ [] ≡ f ∷ [] = sym own.link.only ∙ link.only in
-      let same : own.function ≡ f = cc in
-      let lowers : IsLoweringOf s f.name own.core = subst (λ (x : FunctionItem). IsLoweringOf s x.name own.core) same own.lowers in
-      let asked : i.ty ≡ Some own.core.ty = own.link.matches ∙ ap (λ (t : FuncTypeValue). Some t) (sym own.matches) in
+      let one : own.entry ∷ [] ≡ import_entry i f ∷ [] = sym own.is_entry.only ∙ (import_entered l i f link).only in
+      let entry : own.entry ≡ import_entry i f = cc in
+      let ends : IsLoweringOf s (import_entry i f) own.core = subst (λ (e : Entry). IsLoweringOf s e own.core) entry own.ends in
+      let asked : i.ty ≡ Some own.core.ty = link.matches ∙ ap (λ (t : FuncTypeValue). Some t) (sym (own.matches ∙ ap (λ (e : Entry). e.core_type) entry)) in
       and_from (is_lowering_of s.functions g f.name) (is_of_core_type i.ty g)
-      (ap (λ (o : Option CoreFunction). is_lowering_of s.functions o f.name) own.is ∙ is_its_lowering s own.core f.name lowers)
+      (ap (λ (o : Option CoreFunction). is_lowering_of s.functions o f.name) own.is ∙ is_its_lowering s (import_entry i f) own.core f.name refl ends)
       (ap (λ (o : Option CoreFunction). is_of_core_type i.ty o) own.is ∙ of_its_type i.ty own.core asked),
 )
 

@@ -1,4 +1,5 @@
 pub mod SpacesView
 pub mod WalkView
 pub mod Judged
+pub mod Tests
 pub mod Texts

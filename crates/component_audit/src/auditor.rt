@@ -10,10 +10,10 @@ ghost use Rattle.known_definitions.specs.Definition.{function_type_value, parame
 ghost use Rattle.known_definitions.specs.Definition.{AreWithin as DefinitionsWithin};
 ghost use Rattle.distinct_names.specs.Names.{all_new};
 ghost use Rattle.component_sections.specs.Component.{BreaksComponent};
-ghost use Rattle.wit_component.specs.Linking.{Linking as LinkingValue};
+ghost use Rattle.wit_component.specs.Linking.{Linking as LinkingValue, core_import, core_export};
 ghost use Rattle.wit_component.specs.Cause.{IsLinkable};
-ghost use Rattle.component_audit.specs.Judged.{Finds, IsOutside, IsSoFar, IsJudgeCause, Says, SaysOf, function_named, is_listed, is_there, is_export_of, is_lift_of, is_import_of, is_lowering_of, IsOwnExport};
-ghost use Rattle.wit_component.specs.Linking.{core_import, core_export};
+ghost use Rattle.component_audit.specs.Tests.{Finds, IsOutside, IsSoFar, function_named, is_listed, is_there, is_export_of, is_lift_of, is_import_of, is_lowering_of, IsOwnExport};
+ghost use Rattle.component_audit.specs.Judged.{IsJudgeCause, Says, SaysOf};
 ghost use Rattle.wit_component.specs.Meaning as meant;
 ghost use Rattle.wit_component.specs.Places.{ArePlaces, ImportPlace};
 ghost use Rattle.wit_component.specs.Right.{IsIn, IsOnce, IsGiven, EachGiven, TakesOwn, LiftsOwn, ImportsRight, LinksRight, type_seen};

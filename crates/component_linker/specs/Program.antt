@@ -17,10 +17,9 @@ use Rattle.command_line.specs.declared.line.LineFault.TheVariants as faults
 use Rattle.component_audit.specs.Texts.{verdict_text}
 use Rattle.component_audit.specs.declared.verdict.Verdict.{Verdict}
 use Rattle.component_audit.specs.declared.verdict.Verdict.TheVariants.{Yes, Finding}
-use Rattle.component_session.specs.Answered.{IsBuilt, IsLinkTable}
+use Rattle.component_session.specs.Headline.{IsBuilt, IsLinkTable, IsJudged}
 use Rattle.component_session.specs.Input.{Input, ModuleInput, OptionsInput, empty_input}
-use Rattle.component_session.specs.Judged.{IsJudged}
-use Rattle.wit_component.specs.Links.{link_value}
+use Rattle.wit_component.specs.Line.{link_value}
 use Rattle.wit_component.specs.Texts.{lines_text}
 use Rattle.wit_component.specs.declared.link.Link.{Link}
 use Rattle.wit_component.specs.declared.string_encoding.StringEncoding.{StringEncoding}

@@ -10,11 +10,9 @@ use Rattle.command_line.specs.declared.line.Input.TheVariants as inputs
 use Rattle.command_line.specs.declared.line.Line.{Line}
 use Rattle.command_line.specs.declared.line.LineFault.{LineFault}
 use Rattle.command_line.specs.declared.line.LineFault.TheVariants as faults
-use Rattle.component_session.specs.Cause.{IsCause, IsBuildCause}
+use Rattle.component_session.specs.Refusals.{IsCause, IsBuildCause, IsAuditCause, IsModuleCause}
 use Rattle.component_session.specs.Input.{Input}
-use Rattle.component_session.specs.Judged.{IsAuditCause}
-use Rattle.component_session.specs.ModuleCause.{IsModuleCause}
-use Rattle.component_session.specs.Code.{code, name, place}
+use Rattle.component_session.specs.Faults.{code, name, place}
 use Rattle.component_session.specs.declared.fault.Fault.{Fault}
 use Rattle.component_session.specs.declared.fault.Fault.TheVariants as causes
 use Rattle.wit_resolution.specs.Errors.{of_selection}

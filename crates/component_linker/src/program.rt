@@ -6,8 +6,7 @@ ghost use Rattle.std.specs.Io.KnownBytes.{Appends};
 ghost use Rattle.component_linker.specs.Program as spec;
 ghost use Rattle.component_linker.specs.Program.{line_status, verdict_status, IsFile, file_at, missing_path, textless_path, input_fault, file_fault, text_or, last_main, HasComponent, Handed, IsComponentAnswer, IsLinksAnswer, IsVerdictAnswer, IsAnswer, Writes, IsOutcome};
 ghost use Rattle.component_linker.specs.Stops.{AppendsFront, AppendsPart, WritesPart, refusal_text, fault_text, stop_text, stop_status, line_fault_text, out_path, IsFileStop, IsResolveStop, IsTextsStop, IsNameError, IsInputStop, IsHandStop, IsCompleteStop, IsPrepareStop, IsComponentStop, IsWriteStop, IsAnswerStop, IsStop, IsStopped};
-ghost use Rattle.component_session.specs.Cause.{IsCause, IsBuildCause};
-ghost use Rattle.component_session.specs.Judged.{IsAuditCause};
+ghost use Rattle.component_session.specs.Refusals.{IsCause, IsBuildCause, IsAuditCause};
 ghost use Rattle.wit_package.specs.GroupView.{texts};
 ghost use Rattle.wit_resolution.specs.Pushes.{AreTextsPushed, AreTextsError};
 

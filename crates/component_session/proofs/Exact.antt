@@ -12,11 +12,10 @@ use Rattle.component_audit.specs.declared.verdict.Verdict.TheVariants.{Yes, Find
 use Rattle.component_session.specs.Input.{Input}
 use Rattle.wit_component.specs.Linking.{Linking}
 use Rattle.wit_component.specs.Meaning.{meaning}
-use Rattle.component_session.specs.Right.{IsRight}
-use Rattle.component_session.specs.Answered.{IsReady}
+use Rattle.component_session.specs.Headline.{IsRight, IsJudged}
+use Rattle.component_session.specs.Refusals.{IsReady, IsAuditCause}
 use Rattle.wit_component.specs.Right.{MeetsAll}
 use Rattle.component_audit.specs.Judged.{IsFinding, IsBeyond}
-use Rattle.component_session.specs.Judged.{IsJudged, IsAuditCause}
 use Rattle.wit_component.proofs.NoCause.{any_each}
 use Rattle.component_session.proofs.NoCause.{one_linking, no_cause}
 
@@ -45,4 +44,4 @@ none_beyond input bytes h l ready (inr (ds, is, other)) =
 
 pub right_is_judged : (input : Input) (bytes : List ℕ) (l : Linking) → IsReady input l → IsRight input bytes → (fault : Fault) → IsAuditCause input bytes fault → fault ≡ faults.OutOfMemory
 right_is_judged input bytes l ready h fault (inl cause) = no_cause input l ready fault cause
-right_is_judged input bytes l ready h fault (inr (later, (k, is, beyond))) = absurd (none_beyond input bytes h k is beyond)
+right_is_judged input bytes l ready h fault (inr (later, k, is, beyond)) = absurd (none_beyond input bytes h k is beyond)

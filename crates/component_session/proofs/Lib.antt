@@ -1,6 +1,6 @@
-pub mod Right
+pub mod Refusals
+pub mod Headline
 pub mod NoCause
-pub mod Causes
 pub mod Exact
 pub mod Linked
 pub mod Chosen

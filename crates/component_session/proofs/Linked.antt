@@ -19,9 +19,10 @@ use Rattle.wit_core_names.specs.Texts.{Known}
 use Rattle.wit_resolution.specs.Names.{known_of}
 use Rattle.wit_types.specs.declared.world.World.{World}
 use Rattle.component_session.specs.Faults.{of_module}
-use Rattle.component_session.specs.Input.{Input, ModuleInput, world_at, worlds_of}
-use Rattle.component_session.specs.Linking.{IsChosen}
-use Rattle.component_session.specs.Cause.{AsksBeyond, ImportsBeyond, IsCause}
+use Rattle.wit_component.specs.Linking.{reading}
+use Rattle.wit_component.proofs.Readings.{reading_is}
+use Rattle.component_session.specs.Input.{Input, ModuleInput, world_at, worlds_of, IsChosen}
+use Rattle.component_session.specs.Refusals.{AsksBeyond, ImportsBeyond, IsCause}
 
 -- reading the main module again fails for want of memory alone
 pub memory_alone : (input : Input) (handed : ModuleInput) (fault : ModuleFault) → ForSome input.main (λ m. (core : ModuleValue) × IsModule m.bytes core) → input.main ≡ Some handed
@@ -95,3 +96,7 @@ beyond_moved k k2 w w2 fs fs2 is is2 a b c d h =
     (subst (λ (x : List Function). Any (IsBeyond k2 w2 (names_of (map function_item x))) (map import_value is)) c
     (subst (λ (x : World). Any (IsBeyond k2 x (names_of (map function_item fs))) (map import_value is)) b
     (subst (λ (x : Known). Any (IsBeyond x w (names_of (map function_item fs))) (map import_value is)) a h)))
+
+-- a module is what its bytes are read as
+pub read_is : (bytes : List ℕ) (m : ModuleValue) → IsModule bytes m → reading bytes ≡ Some m
+read_is bytes m h = reading_is bytes m h

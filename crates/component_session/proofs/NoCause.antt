@@ -6,25 +6,22 @@ use Rattle.wasm_format.specs.declared.fault.ModuleFault.TheVariants as modules
 use Rattle.wasm_format.specs.Module.{ModuleValue}
 use Rattle.wasm_format.specs.Grammar.{IsModule, IsModuleFault}
 use Rattle.wasm_format.proofs.Modules.{one_break, one_module}
-use Rattle.known_definitions.specs.Component.{Fits}
 use Rattle.wit_component.specs.declared.fault.Fault.{Fault as LinkFault}
 use Rattle.wit_component.specs.declared.fault.Fault.TheVariants as linking
 use Rattle.component_session.specs.declared.fault.ModuleCause.{ModuleCause}
 use Rattle.component_session.specs.declared.fault.Fault.{Fault}
 use Rattle.component_session.specs.declared.fault.Fault.TheVariants as faults
 use Rattle.wit_component.specs.Linking.{Linking, main_of}
-use Rattle.wit_component.specs.Component.{component_of}
-use Rattle.wit_component.specs.Cause.{IsLinkCause, IsStillToCome}
+use Rattle.wit_component.specs.Cause.{IsLinkCause, IsStillToCome, IsTooLarge}
 use Rattle.wit_component.proofs.NoCause.{no_link_cause}
-use Rattle.component_session.specs.Input.{Input, ModuleInput, world_at}
+use Rattle.component_session.specs.Input.{Input, ModuleInput, world_at, IsLinkingOf}
 use Rattle.component_session.specs.Faults.{of_module}
-use Rattle.component_session.specs.Linking.{Links}
-use Rattle.component_session.specs.Cause.{OfLinking, IsLinkingCause, IsCause, IsBuildCause}
-use Rattle.component_session.specs.Answered.{IsReady, IsBuilt}
+use Rattle.component_session.specs.Refusals.{OfLinking, IsLinkingCause, IsCause, IsBuildCause, IsReady}
+use Rattle.component_session.specs.Headline.{IsBuilt}
 
 -- ---- an input is linked in one way
 
-pub one_linking : (input : Input) (l m : Linking) → Links input l → Links input m → l ≡ m
+pub one_linking : (input : Input) (l m : Linking) → IsLinkingOf input l → IsLinkingOf input m → l ≡ m
 one_linking input l m h k =
     let chosen = same_Some h.chosen k.chosen (sym h.chooses ∙ k.chooses) in
     let world = same_Some l.world m.world (sym h.world ∙ ap (world_at input) chosen ∙ k.world) in
@@ -42,7 +39,7 @@ no_module_cause bytes core h modules.TooLarge cause = absurd (omega (arith, h.sm
 no_module_cause bytes core h modules.Malformed (small, e, breaks, is) = absurd ((one_break bytes e breaks).0 core h)
 no_module_cause bytes core h modules.Unsupported (small, e, breaks, is) = absurd ((one_break bytes e breaks).0 core h)
 
-no_bad_module : (input : Input) (l : Linking) → Links input l → (m : ModuleCause) → IsCause input (faults.BadModule m) → ⊥
+no_bad_module : (input : Input) (l : Linking) → IsLinkingOf input l → (m : ModuleCause) → IsCause input (faults.BadModule m) → ⊥
 no_bad_module input l h m (handed, hands, (n, is, cause)) =
     let same = same_Some h.handed handed (sym h.hands ∙ hands) in
     let read = subst (λ (x : ModuleInput). IsModule x.bytes h.core) same h.reads in
@@ -65,7 +62,7 @@ no_linking_cause input l h linking.MissingCoreExport cause = let bad = linked_ca
 no_linking_cause input l h linking.TooLarge cause = absurd cause
 no_linking_cause input l h linking.OutOfMemory cause = absurd cause
 
-none_still_to_come : (input : Input) (l : Linking) → IsReady input l → ((m : Linking) × Links input m × IsStillToCome m) → ⊥
+none_still_to_come : (input : Input) (l : Linking) → IsReady input l → ((m : Linking) × IsLinkingOf input m × IsStillToCome m) → ⊥
 none_still_to_come input l h (m, links, cause) = h.linkable.plain (subst IsStillToCome (one_linking input m l links h.links_input) cause)
 
 pub no_cause : (input : Input) (l : Linking) → IsReady input l → (fault : Fault) → IsCause input fault → fault ≡ faults.OutOfMemory
@@ -81,5 +78,4 @@ no_cause input l h faults.OutOfMemory cause = refl
 
 pub no_build_cause : (input : Input) (bytes : List ℕ) → IsBuilt input bytes → (fault : Fault) → IsBuildCause input fault → fault ≡ faults.OutOfMemory
 no_build_cause input bytes h fault (inl cause) = no_cause input h.linking h.ready fault cause
-no_build_cause input bytes h fault (inr (is, (m, links, plain, (linkable, large)))) =
-    absurd (large (subst (λ (l : Linking). Fits (component_of l)) (one_linking input h.linking m h.ready.links_input links) h.fits))
+no_build_cause input bytes h fault (inr (is, m, ready, large)) = absurd (h.fits (subst IsTooLarge (one_linking input m h.linking ready.links_input h.ready.links_input) large))

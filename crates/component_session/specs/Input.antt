@@ -1,5 +1,8 @@
--- The input of a session: all that was handed in.
-use Rattle.std.specs.Prelude.{ℕ, Bool, true, false, List, [], Option, None, option_and_then, slice_get}
+-- The input of a session: all that was handed in, and what of it is linked.
+use Rattle.std.specs.Prelude.{◌≡◌, ℕ, Bool, true, false, List, [], Option, Some, None, option_and_then, slice_get}
+use Rattle.wasm_format.specs.Module.{ModuleValue}
+use Rattle.wasm_format.specs.Grammar.{IsModule}
+use Rattle.wit_component.specs.Linking.{Linking, main_of}
 use Rattle.wit_component.specs.declared.string_encoding.StringEncoding.{StringEncoding}
 use Rattle.plain_worlds.specs.World.{WorldMeaning, plain_world}
 use Rattle.wit_resolution.specs.Pushes.{Resolved, nothing_resolved}
@@ -48,3 +51,21 @@ worlds_of r = r.graph.tables.worlds.elaborated
 -- the plain functions of a world, if it is linked so far
 abbrev pub world_at : Input → ℕ → Option WorldMeaning
 world_at input w = option_and_then plain_world (slice_get (worlds_of input.resolved) w)
+
+-- ---- what is linked
+
+-- the chosen world has these plain functions
+abbrev pub IsChosen : Input → WorldMeaning → Type 0
+IsChosen input plain = (chosen : ℕ) × (input.world ≡ Some chosen) × (world_at input chosen ≡ Some plain)
+
+-- the chosen world, and the module that was handed in last, as its bytes are read
+pub record IsLinkingOf (input : Input) (l : Linking) : Type 0 where
+  pub chosen : ℕ
+  pub handed : ModuleInput
+  pub core : ModuleValue
+  pub chooses : input.world ≡ Some chosen
+  pub world : world_at input chosen ≡ Some l.world
+  pub hands : input.main ≡ Some handed
+  pub reads : IsModule handed.bytes core
+  pub main : l.main ≡ main_of handed.bytes core
+  pub rejects : l.rejects_legacy ≡ input.options.reject_legacy_names

@@ -1,13 +1,7 @@
 pub mod Input
-pub mod Names
 pub mod Coming
 pub mod Kept
 pub mod Handed
 pub mod Faults
-pub mod Code
-pub mod ModuleCause
-pub mod Linking
-pub mod Cause
-pub mod Right
-pub mod Answered
-pub mod Judged
+pub mod Refusals
+pub mod Headline

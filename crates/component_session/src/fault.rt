@@ -1,7 +1,7 @@
 //! Why a call of a session is refused.
 
 ghost use Rattle.std.specs.Prelude.{◌≡◌, option_map};
-ghost use Rattle.component_session.specs.Code as spec;
+ghost use Rattle.component_session.specs.Faults as spec;
 ghost use Rattle.component_session.specs.Faults.{of_module};
 
 use std::alloc::{AllocError, AllocFailed};

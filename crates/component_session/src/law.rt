@@ -2,15 +2,12 @@
 
 ghost use Rattle.std.specs.Prelude.{◌≡◌, ℕ, List, MatchResult};
 ghost use Rattle.known_definitions.specs.Component.{IsComponent};
-ghost use Rattle.component_session.specs.Input.{Input};
+ghost use Rattle.component_session.specs.Input.{Input, IsLinkingOf};
 ghost use Rattle.wit_component.specs.Linking.{Linking};
-ghost use Rattle.component_session.specs.Linking.{Links};
 ghost use Rattle.wit_component.specs.Table.{IsLinked};
 ghost use Rattle.wit_component.specs.Component.{component_of};
-ghost use Rattle.component_session.specs.Right.{IsRight};
-ghost use Rattle.component_session.specs.Cause.{IsCause, IsBuildCause};
-ghost use Rattle.component_session.specs.Answered.{IsReady, IsBuilt};
-ghost use Rattle.component_session.specs.Judged.{IsJudged, IsAuditCause};
+ghost use Rattle.component_session.specs.Headline.{IsRight, IsBuilt, IsJudged};
+ghost use Rattle.component_session.specs.Refusals.{IsCause, IsBuildCause, IsReady, IsAuditCause};
 
 use crate::fault::Fault;
 use crate::session::{Session, audit};
@@ -18,13 +15,13 @@ use component_audit::Verdict;
 
 /// What is written for a linking is right for its input, whatever bytes the grammar relates to it.
 pub fn law_written_is_right()
-    ensures { (input : Input) (l : Linking) (bytes : List ℕ) → Links input l → IsLinked l → IsComponent bytes (component_of l) → IsRight input bytes }
+    ensures { (input : Input) (l : Linking) (bytes : List ℕ) → IsLinkingOf input l → IsLinked l → IsComponent bytes (component_of l) → IsRight input bytes }
 {}
 
 /// An input links one world and one module in one way; where nothing stands in its way, no cause of a refusal holds, want
 /// of memory aside.
 pub fn law_ready_has_no_cause()
-    ensures one { (input : Input) (l m : Linking) → Links input l → Links input m → l ≡ m }
+    ensures one { (input : Input) (l m : Linking) → IsLinkingOf input l → IsLinkingOf input m → l ≡ m }
     ensures none { (input : Input) (l : Linking) → IsReady input l → (fault : Fault) → IsCause input fault → fault ≡ Fault.OutOfMemory }
 {}
 

@@ -27,7 +27,7 @@ pub struct Options {
 
 impl Model for Options {
     ghost use Rattle.component_session.specs.Input.{OptionsInput};
-    ghost use Rattle.component_session.specs.Names.{pairs_of};
+    ghost use Rattle.component_session.specs.Handed.{pairs_of};
 
     ghost Value = { OptionsInput };
 

@@ -1,19 +1,17 @@
 //! A session: texts, a chosen world, modules and options.
 
 ghost use Rattle.std.specs.Prelude.{◌≡◌, ℕ, ◌<◌, ◌⊎◌, ◌∷◌, [], true, false, length, Some, None, Err, IfOk, OnOk, OnErr, IfErr, MatchResult, Any, map, slice_get, option_map};
-ghost use Rattle.component_session.specs.Answered.{IsLinkTable, IsBuilt};
-ghost use Rattle.component_session.specs.Cause.{AsksBeyond, IsCause, IsBuildCause};
+ghost use Rattle.component_session.specs.Headline.{IsLinkTable, IsBuilt, IsJudged};
+ghost use Rattle.component_session.specs.Refusals.{AsksBeyond, IsCause, IsBuildCause, IsAuditCause, IsModuleCause};
 ghost use Rattle.component_session.specs.Coming.{ComeOfTexts, files_of_groups};
-ghost use Rattle.component_session.specs.Judged.{IsJudged, IsAuditCause};
-ghost use Rattle.component_session.specs.Linking.{IsChosen, Links};
-ghost use Rattle.component_session.specs.ModuleCause.{IsModuleCause};
-ghost use Rattle.component_session.specs.Names.{pairs_of};
+ghost use Rattle.component_session.specs.Input.{IsChosen, IsLinkingOf};
+ghost use Rattle.component_session.specs.Handed.{pairs_of};
 ghost use Rattle.plain_imports.specs.Imports.{IsBeyond, names_of};
 ghost use Rattle.plain_worlds.specs.World.{WorldMeaning, world_meaning, world_fits, function_item};
 ghost use Rattle.wasm_format.specs.Grammar.{IsModule};
 ghost use Rattle.wasm_format.specs.Module.{ModuleValue, module_value};
 ghost use Rattle.wasm_types.specs.Entries.{import_value};
-ghost use Rattle.wit_component.specs.Links.{link_value};
+ghost use Rattle.wit_component.specs.Line.{link_value};
 ghost use Rattle.wit_component.specs.View as view;
 ghost use Rattle.wit_features.specs.Features.{with_name};
 ghost use Rattle.wit_package.specs.GroupView.{texts};
@@ -343,11 +341,12 @@ impl<'a> Session<'a> {
     }
 
     /// What is linked, where the chosen world has these plain functions and the options ask for nothing else, or why nothing can be.
+    #[tactic(auto, using(crate::proofs::Linked::read_is))]
     fn linking<'s>(&'s self, plain: &'s World) -> Result<Linking<'s, 'a>, Fault>
         requires chosen { IsChosen self.now (world_meaning plain.now) }
         requires fits { world_fits (world_meaning plain.now) ≡ true }
         requires options { (self.now.options.shim_return_call_ref ≡ false) × (self.now.options.debug_names ≡ false) }
-        ensures found { IfOk result (λ l. Links self.now (view.linking l)) }
+        ensures found { IfOk result (λ l. IsLinkingOf self.now (view.linking l)) }
         ensures fits { IfOk result (λ l. world_fits (view.linking l).world ≡ true) }
         ensures plain { IfOk result (λ l. AsksBeyond self.now → ⊥) }
         ensures cause { IfErr result (IsCause self.now) }

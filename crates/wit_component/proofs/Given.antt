@@ -9,11 +9,13 @@ use Rattle.plain_worlds.specs.World.{FunctionItem}
 use Rattle.wit_component.specs.Flat.{flat}
 use Rattle.wit_component.specs.CoreNames.{root, standard, is_import_name, is_legacy_import, is_standard_import}
 use Rattle.wit_component.specs.Linking.{CoreImport, Linking}
-use Rattle.wit_component.specs.Table.{ImportLink, is_needed, needed}
+use Rattle.wit_component.specs.Table.{is_needed, needed}
+use Rattle.wit_component.specs.Places.{ImportLink}
 use Rattle.wit_component.specs.Meaning.{Spaces, CoreFunction, ComponentFunction, CoreInstance, entry_named, exported, argument_named, if_matches, same_core_type, given_for, all_there, lowering, import_with}
 use Rattle.wit_component.specs.Component.{numbered, is_given_under, given_at, given_under, instance_with, argument_for, arguments_for}
 use Rattle.wit_component.specs.Right.{IsIn, IsGiven, EachGiven}
 use Rattle.wit_component.proofs.Lists.{bytes_eq_refl, bytes_eq_is, same_core_type_refl, slice_get_at, length_one_more, moved, any_in, filter_yes, filter_no, only_one, only_kept}
+use Rattle.wit_component.proofs.Entries.{needed_is_asked}
 use Rattle.wit_component.proofs.Blocks.{imported_function, lowered_function, entries_of, instance_of}
 
 -- a pair of texts that may stand for a function is one of the two module texts, and the function's name
@@ -116,7 +118,7 @@ pub given_found : (l : Linking) (i : CoreImport) (f : FunctionItem) → IsIn i l
 given_found l i f m h =
     let one = only_one (may_be l i.place i.name) l.world.imports f h.only in
     let names = stands_for l.rejects_legacy i.place i.name f.name one.1 in
-    let kept : is_needed l f ≡ true = any_in (λ (x : CoreImport). is_import_name l.rejects_legacy x.place x.name f.name) l.main.imports i one.1 m in
+    let kept : is_needed l f ≡ true = needed_is_asked l f one.0 ∙ any_in (λ (x : CoreImport). is_import_name l.rejects_legacy x.place x.name f.name) l.main.imports i one.1 m in
     let asked : (bytes_eq i.place i.place && bytes_eq i.name f.name) ≡ true = rw (bytes_eq_refl i.place, names.1) (bytes_eq_refl f.name) in
     let given : is_given_under l i.place f ≡ true = any_in (λ (x : CoreImport). bytes_eq x.place i.place && bytes_eq x.name f.name) l.main.imports i asked m in
     let found = entry_found l i.place i.name (lowerings l) [] 0 f (needed l) refl refl (only_kept (may_be l i.place i.name) (is_needed l) l.world.imports f h.only kept) one.1 given in

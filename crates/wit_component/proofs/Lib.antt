@@ -1,7 +1,9 @@
 pub mod Naming
 pub mod Results
+pub mod Readings
 pub mod LinkLines
 pub mod Lists
+pub mod Entries
 pub mod Joined
 pub mod Blocks
 pub mod Given

@@ -9,8 +9,10 @@ use Rattle.std.specs.declared.cmp.Ordering.{Ordering}
 use Rattle.std.proofs.lemmas.Option.{slice_get-map, slice_get_read, slice_get_within, same_Some}
 use Rattle.plain_worlds.specs.World.{FunctionItem}
 use Rattle.wit_component.specs.Linking.{CoreImport, CoreExport, Linking}
-use Rattle.wit_component.specs.Places.{Placed, Places, ArePlaces, ImportPlace, ExportPlace, target}
-use Rattle.wit_component.specs.Links.{LinkValue, import_line, export_line, import_lines_for, export_lines_for, import_text, export_text, line_cmp}
+use Rattle.wit_component.specs.Line.{LinkValue, import_line, export_line}
+use Rattle.wit_component.specs.Links.{lines, line_cmp}
+use Rattle.wit_component.specs.Table.{import_entry, export_entry}
+use Rattle.wit_component.specs.Places.{Placed, Places, ArePlaces, ImportPlace, ExportPlace, target, lines_of_import, lines_of_export, import_text, export_text}
 
 placed_at : {X : Type 0} (R : X → ℕ → Type 0) (xs : List X) (ps : List ℕ) (k : ℕ) (x : X) → Placed R xs ps → slice_get xs k ≡ Some x → (p : ℕ) × (slice_get ps k ≡ Some p) × R x p
 placed_at R [] [] k x h e = absurd cc
@@ -22,19 +24,19 @@ placed_at R (y ∷ ys) (p ∷ ps) (suc k) x h e = placed_at R ys ps k x h.1 e
 target_at : {X : Type 0} (xs : List X) (ps : List ℕ) (k p : ℕ) (x : X) → slice_get ps k ≡ Some p → slice_get xs p ≡ Some x → target xs ps k ≡ Some x
 target_at xs ps k p x e f = ap (option_and_then (slice_get xs)) e ∙ f
 
-pub import_entry : (l : Linking) (t : Places) → ArePlaces l t → (k : ℕ) (i : CoreImport) → slice_get l.main.imports k ≡ Some i
-    → (f : FunctionItem) × (target l.world.imports t.imports k ≡ Some f) × (import_lines_for l i ≡ import_line i.place i.name f.name ∷ [])
-import_entry l t h k i e =
+pub import_line_at : (l : Linking) (t : Places) → ArePlaces l t → (k : ℕ) (i : CoreImport) → slice_get l.main.imports k ≡ Some i
+    → (f : FunctionItem) × (target l.world.imports t.imports k ≡ Some f) × (lines_of_import l i ≡ import_line i.place i.name f.name ∷ [])
+import_line_at l t h k i e =
     let p = placed_at (ImportPlace l) l.main.imports t.imports k i h.imports e in
     let f = p.2 in
-    (f.0, target_at l.world.imports t.imports k p.0 f.0 p.1 f.1, ap (map (λ (g : FunctionItem). import_line i.place i.name g.name)) f.2.only)
+    (f.0, target_at l.world.imports t.imports k p.0 f.0 p.1 f.1, ap (λ (fs : List FunctionItem). lines (map (import_entry i) fs)) f.2.only)
 
-pub export_entry : (l : Linking) (t : Places) → ArePlaces l t → (k : ℕ) (f : FunctionItem) → slice_get l.world.exports k ≡ Some f
-    → (e : CoreExport) × (target l.main.exports t.exports k ≡ Some e) × (export_lines_for l f ≡ export_line f.name e.name ∷ [])
-export_entry l t h k f is =
+pub export_line_at : (l : Linking) (t : Places) → ArePlaces l t → (k : ℕ) (f : FunctionItem) → slice_get l.world.exports k ≡ Some f
+    → (e : CoreExport) × (target l.main.exports t.exports k ≡ Some e) × (lines_of_export l f ≡ export_line f.name e.name ∷ [])
+export_line_at l t h k f is =
     let p = placed_at (ExportPlace l) l.world.exports t.exports k f h.exports is in
     let e = p.2 in
-    (e.0, target_at l.main.exports t.exports k p.0 e.0 p.1 e.1, ap (map (λ (g : CoreExport). export_line f.name g.name)) e.2.only)
+    (e.0, target_at l.main.exports t.exports k p.0 e.0 p.1 e.1, ap (λ (es : List CoreExport). lines (map (export_entry f) es)) e.2.only)
 
 -- ---- a place of the table is there
 
@@ -114,16 +116,16 @@ pub get_once : {X Y : Type 0} (f : X → Y) (xs : List X) (k : ℕ) (x : X) → 
 get_once f xs k x l is = slice_get-map f xs k ∙ ap (option_map f) (slice_get_read xs (length xs) k x refl l is)
 
 pub import_entry_read : (l : Linking) (t : Places) → ArePlaces l t → (k : ℕ) (i : CoreImport) (f : FunctionItem) → slice_get l.main.imports k ≡ Some i → target l.world.imports t.imports k ≡ Some f
-    → import_lines_for l i ≡ import_line i.place i.name f.name ∷ []
+    → lines_of_import l i ≡ import_line i.place i.name f.name ∷ []
 import_entry_read l t h k i f is e =
-    let g = import_entry l t h k i is in
+    let g = import_line_at l t h k i is in
     let same = same_Some g.0 f (sym g.1 ∙ e) in
     g.2 ∙ ap (λ (x : FunctionItem). import_line i.place i.name x.name ∷ []) same
 
 pub export_entry_read : (l : Linking) (t : Places) → ArePlaces l t → (k : ℕ) (f : FunctionItem) (e : CoreExport) → slice_get l.world.exports k ≡ Some f → target l.main.exports t.exports k ≡ Some e
-    → export_lines_for l f ≡ export_line f.name e.name ∷ []
+    → lines_of_export l f ≡ export_line f.name e.name ∷ []
 export_entry_read l t h k f e is there =
-    let g = export_entry l t h k f is in
+    let g = export_line_at l t h k f is in
     let same = same_Some g.0 e (sym g.1 ∙ there) in
     g.2 ∙ ap (λ (x : CoreExport). export_line f.name x.name ∷ []) same
 

@@ -1,19 +1,17 @@
--- Where every link is there, no cause of a refusal holds.
-use Rattle.std.proofs.Common.{◌≡◌, ℕ, zero, suc, Bool, true, false, List, [], ◌∷◌, length, filter, Any, Some, refl, sym, ap, subst, ◌∙◌, arith, inl, inr}
+-- Where every entry is there, no cause of a refusal holds.
+use Rattle.std.proofs.Common.{◌≡◌, ℕ, zero, suc, Bool, true, false, List, [], ◌∷◌, length, filter, Any, refl, sym, ap, subst, ◌∙◌, arith, inl, inr}
 use Rattle.std.specs.Prelude.{bytes_eq}
 use Rattle.std.specs.List.{AllByRecursion as Each}
 use Rattle.std.proofs.lemmas.Bool.{cases_Bool, and_parts}
 use Rattle.std.proofs.lemmas.Slice.Eq.{bytes_eq-Decides}
 use Rattle.plain_worlds.specs.World.{FunctionItem}
-use Rattle.known_definitions.specs.Component.{Fits}
 use Rattle.wit_component.specs.declared.fault.Fault.{Fault}
 use Rattle.wit_component.specs.declared.fault.Fault.TheVariants as faults
-use Rattle.wit_component.specs.Flat.{flat}
-use Rattle.wit_component.specs.CoreNames.{root, standard, is_import_name, is_memory_name}
-use Rattle.wit_component.specs.Linking.{CoreImport, CoreExport, Linking}
-use Rattle.wit_component.specs.Table.{imported_by, exported_by, ImportLink, ExportLink, IsLinked}
-use Rattle.wit_component.specs.Component.{component_of}
-use Rattle.wit_component.specs.Cause.{IsImportCause, IsExportCause, HasCause, IsLinkCause, IsLinkable, IsEncodeCause}
+use Rattle.wit_component.specs.CoreNames.{root, standard, is_import_name}
+use Rattle.wit_component.specs.Linking.{CoreImport, Linking}
+use Rattle.wit_component.specs.Table.{Entry, entries_of_import, entries_of_export, IsTyped, IsEntry, is_of_memory, IsExportEntry, IsLinked}
+use Rattle.wit_component.specs.Cause.{IsImportCause, IsExportCause, HasCause, IsLinkCause, IsLinkable, IsEncodeCause, IsTooLarge}
+use Rattle.wit_component.proofs.Entries.{import_linked}
 
 pub any_each : {X : Type 0} (P Q : X → Type 0) (xs : List X) → Each P xs → Any Q xs → (x : X) × P x × Q x
 any_each P Q [] h (k, x, l, is, q) = absurd (omega arith)
@@ -39,56 +37,57 @@ rejected place name function e = elim (cases_Bool (bytes_eq place standard)) [
   | inr other ↦ absurd (let bad = rw other at e in cc)
 ]
 
-import_link : (l : Linking) (i : CoreImport) (f : FunctionItem) → ImportLink l i f → (fault : Fault) → IsImportCause l fault i → ⊥
-import_link l i f h faults.UnknownImport none = let bad = sym h.only ∙ none in absurd cc
-import_link l i f h faults.Ambiguous several = let one : length (imported_by l i) ≡ 1 = ap length h.only in absurd (omega arith)
-import_link l i f h faults.LegacyName (rejects, any) =
-    let stands : is_import_name l.rejects_legacy i.place i.name f.name ≡ true = passes (λ g. is_import_name l.rejects_legacy i.place i.name g.name) l.world.imports f [] h.only in
-    let under = rejected i.place i.name f.name (rw rejects at stands) in
+import_entry_alone : (l : Linking) (i : CoreImport) (e : Entry) → IsEntry (entries_of_import l i) e → (fault : Fault) → IsImportCause l fault i → ⊥
+import_entry_alone l i e h faults.UnknownImport (none, plain) = let bad = sym h.only ∙ none in absurd cc
+import_entry_alone l i e h faults.Ambiguous several = let one : length (entries_of_import l i) ≡ 1 = ap length h.only in absurd (omega arith)
+import_entry_alone l i e h faults.LegacyName (rejects, any) =
+    let link = import_linked l i e h in
+    let stands : is_import_name l.rejects_legacy i.place i.name link.0.name ≡ true = passes (λ g. is_import_name l.rejects_legacy i.place i.name g.name) l.world.imports link.0 [] link.1.only in
+    let under = rejected i.place i.name link.0.name (subst (λ (b : Bool). is_import_name b i.place i.name link.0.name ≡ true) rejects stands) in
     let legacy = (and_parts (bytes_eq i.place root) (bytes_eq i.name any.1.name) any.4).0 in
     two_places i.place legacy under
-import_link l i f h faults.WrongCoreType (g, only, differs) =
-    let same : f ∷ [] ≡ g ∷ [] = sym h.only ∙ only in
-    let is : f ≡ g = cc in
-    differs (h.matches ∙ ap (λ (x : FunctionItem). Some (flat x.ty)) is)
-import_link l i f h faults.NotYet cause = absurd cause
-import_link l i f h faults.DuplicateImport cause = absurd cause
-import_link l i f h faults.MissingCoreExport cause = absurd cause
-import_link l i f h faults.TooLarge cause = absurd cause
-import_link l i f h faults.OutOfMemory cause = absurd cause
-
-export_link : (l : Linking) (f : FunctionItem) (e : CoreExport) → ExportLink l f e → (fault : Fault) → IsExportCause l fault f → ⊥
-export_link l f e h faults.MissingCoreExport none = let bad = sym h.only ∙ none in absurd cc
-export_link l f e h faults.Ambiguous (inl several) = let one : length (exported_by l f) ≡ 1 = ap length h.only in absurd (omega arith)
-export_link l f e h faults.Ambiguous (inr memory) =
-    let shared = any_each (λ x. is_memory_name l.rejects_legacy x.name ≡ false) (λ x. is_memory_name l.rejects_legacy x.name ≡ true) (e ∷ []) (h.one_meaning, tt) (subst (λ xs. Any (λ x. is_memory_name l.rejects_legacy x.name ≡ true) xs) h.only memory) in
-    let bad : false ≡ true = sym shared.1 ∙ shared.2 in absurd cc
-export_link l f e h faults.WrongCoreType (g, only, differs) =
+import_entry_alone l i e h faults.WrongCoreType (g, only, differs) =
     let same : e ∷ [] ≡ g ∷ [] = sym h.only ∙ only in
     let is : e ≡ g = cc in
-    differs (ap (λ (x : CoreExport). x.ty) (sym is) ∙ h.matches)
-export_link l f e h faults.NotYet cause = absurd cause
-export_link l f e h faults.DuplicateImport cause = absurd cause
-export_link l f e h faults.UnknownImport cause = absurd cause
-export_link l f e h faults.LegacyName cause = absurd cause
-export_link l f e h faults.TooLarge cause = absurd cause
-export_link l f e h faults.OutOfMemory cause = absurd cause
+    differs (subst IsTyped is h.typed)
+import_entry_alone l i e h faults.NotYet cause = absurd cause
+import_entry_alone l i e h faults.DuplicateImport cause = absurd cause
+import_entry_alone l i e h faults.MissingCoreExport cause = absurd cause
+import_entry_alone l i e h faults.TooLarge cause = absurd cause
+import_entry_alone l i e h faults.OutOfMemory cause = absurd cause
 
-some_link : (l : Linking) → IsLinked l → (fault : Fault) → HasCause l fault → ⊥
-some_link l h fault (inl any) = let at = any_each (λ i. (f : FunctionItem) × ImportLink l i f) (IsImportCause l fault) l.main.imports h.imports any in import_link l at.0 at.1.0 at.1.1 fault at.2
-some_link l h fault (inr any) = let at = any_each (λ f. (e : CoreExport) × ExportLink l f e) (IsExportCause l fault) l.world.exports h.exports any in export_link l at.0 at.1.0 at.1.1 fault at.2
+export_entry_alone : (l : Linking) (f : FunctionItem) (e : Entry) → IsExportEntry l f e → (fault : Fault) → IsExportCause l fault f → ⊥
+export_entry_alone l f e h faults.MissingCoreExport none = let bad = sym h.entry.only ∙ none in absurd cc
+export_entry_alone l f e h faults.Ambiguous (inl several) = let one : length (entries_of_export l f) ≡ 1 = ap length h.entry.only in absurd (omega arith)
+export_entry_alone l f e h faults.Ambiguous (inr memory) =
+    let shared = any_each (λ (x : Entry). is_of_memory l.rejects_legacy x.line.item ≡ false) (λ (x : Entry). is_of_memory l.rejects_legacy x.line.item ≡ true) (e ∷ []) (h.one_meaning, tt) (subst (λ (xs : List Entry). Any (λ (x : Entry). is_of_memory l.rejects_legacy x.line.item ≡ true) xs) h.entry.only memory) in
+    let bad : false ≡ true = sym shared.1 ∙ shared.2 in absurd cc
+export_entry_alone l f e h faults.WrongCoreType (g, only, differs) =
+    let same : e ∷ [] ≡ g ∷ [] = sym h.entry.only ∙ only in
+    let is : e ≡ g = cc in
+    differs (subst IsTyped is h.entry.typed)
+export_entry_alone l f e h faults.NotYet cause = absurd cause
+export_entry_alone l f e h faults.DuplicateImport cause = absurd cause
+export_entry_alone l f e h faults.UnknownImport cause = absurd cause
+export_entry_alone l f e h faults.LegacyName cause = absurd cause
+export_entry_alone l f e h faults.TooLarge cause = absurd cause
+export_entry_alone l f e h faults.OutOfMemory cause = absurd cause
+
+some_entry : (l : Linking) → IsLinked l → (fault : Fault) → HasCause l fault → ⊥
+some_entry l h fault (inl any) = let at = any_each (λ i. (e : Entry) × IsEntry (entries_of_import l i) e) (IsImportCause l fault) l.main.imports h.imports any in import_entry_alone l at.0 at.1.0 at.1.1 fault at.2
+some_entry l h fault (inr any) = let at = any_each (λ f. (e : Entry) × IsExportEntry l f e) (IsExportCause l fault) l.world.exports h.exports any in export_entry_alone l at.0 at.1.0 at.1.1 fault at.2
 
 pub no_link_cause : (l : Linking) → IsLinkable l → (fault : Fault) → IsLinkCause l fault → fault ≡ faults.OutOfMemory
 no_link_cause l h faults.TooLarge cause = absurd cause
 no_link_cause l h faults.OutOfMemory cause = refl
 no_link_cause l h faults.NotYet cause = absurd (h.plain cause)
 no_link_cause l h faults.DuplicateImport cause = absurd (h.distinct cause)
-no_link_cause l h faults.UnknownImport cause = absurd (some_link l h.linked faults.UnknownImport cause)
-no_link_cause l h faults.Ambiguous cause = absurd (some_link l h.linked faults.Ambiguous cause)
-no_link_cause l h faults.LegacyName cause = absurd (some_link l h.linked faults.LegacyName cause)
-no_link_cause l h faults.WrongCoreType cause = absurd (some_link l h.linked faults.WrongCoreType cause)
-no_link_cause l h faults.MissingCoreExport cause = absurd (some_link l h.linked faults.MissingCoreExport cause)
+no_link_cause l h faults.UnknownImport cause = absurd (some_entry l h.linked faults.UnknownImport cause)
+no_link_cause l h faults.Ambiguous cause = absurd (some_entry l h.linked faults.Ambiguous cause)
+no_link_cause l h faults.LegacyName cause = absurd (some_entry l h.linked faults.LegacyName cause)
+no_link_cause l h faults.WrongCoreType cause = absurd (some_entry l h.linked faults.WrongCoreType cause)
+no_link_cause l h faults.MissingCoreExport cause = absurd (some_entry l h.linked faults.MissingCoreExport cause)
 
-pub no_encode_cause : (l : Linking) → IsLinkable l → Fits (component_of l) → (fault : Fault) → IsEncodeCause l fault → fault ≡ faults.OutOfMemory
+pub no_encode_cause : (l : Linking) → IsLinkable l → (IsTooLarge l → ⊥) → (fault : Fault) → IsEncodeCause l fault → fault ≡ faults.OutOfMemory
 no_encode_cause l h fits fault (inl cause) = no_link_cause l h fault cause
-no_encode_cause l h fits fault (inr (is, linkable, large)) = absurd (large fits)
+no_encode_cause l h fits fault (inr (is, linkable, large)) = absurd (fits large)

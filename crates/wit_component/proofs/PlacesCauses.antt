@@ -1,7 +1,8 @@
 -- Why there is no link table.
-use Rattle.std.proofs.Common.{◌≡◌, ℕ, Bool, true, false, List, [], ◌∷◌, ◌++◌, refl, sym, ap, subst, ◌∙◌, inl, inr, Option}
+use Rattle.std.proofs.Common.{◌≡◌, ℕ, Bool, true, false, List, [], ◌∷◌, ◌++◌, map, refl, sym, ap, subst, ◌∙◌, inl, inr, Option}
 use Rattle.std.specs.Prelude.{Any, ◌||◌, ◌⊎◌}
 use Rattle.std.specs.List.{AllByRecursion as Each, list_any}
+use Rattle.std.proofs.lemmas.Bool.{cases_Bool}
 use Rattle.std.proofs.lemmas.List.Folds.{Any-from_list_any, list_any-from_Any}
 use Rattle.wit_component.specs.declared.fault.Fault.{Fault}
 use Rattle.wit_component.specs.declared.fault.Fault.TheVariants as faults
@@ -11,9 +12,10 @@ use Rattle.wit_component.specs.Candidates.{names_in, Notes, has_hook, has_post_r
 use Rattle.wit_component.specs.Cause.{RepeatsPair, IsImportCause, IsLinkCause, IsStillToCome}
 use Rattle.wit_component.specs.CoreNames.{root, standard, is_outer_memory, is_hook_name, is_initialize_name, is_post_return_name}
 use Rattle.wit_component.specs.Linking.{CoreImport, CoreExport, Linking}
-use Rattle.wit_component.specs.Places.{Placed, ImportPlace, ExportPlace}
-use Rattle.wit_component.specs.Table.{ImportLink, ExportLink, IsLinked}
+use Rattle.wit_component.specs.Places.{ImportLink, ExportLink, Placed, ImportPlace, ExportPlace}
+use Rattle.wit_component.specs.Table.{import_entry, IsLinked}
 use Rattle.plain_worlds.specs.World.{FunctionItem}
+use Rattle.wit_component.proofs.Entries.{all_entered}
 use Rattle.wit_component.proofs.PlacesNames.{no_place, still_offered}
 use Rattle.wit_component.proofs.PlacesRepeats.{repeats_at, pair_there}
 
@@ -29,19 +31,26 @@ import_cause l faults.MissingCoreExport h = inl h
 import_cause l faults.TooLarge h = absurd h.4
 import_cause l faults.OutOfMemory h = tt
 
+-- a core import doesn't ask for what is still to come
+not_asked : (l : Linking) (i : CoreImport) → ((P : CoreImport → Type 0) → P i → Any P l.main.imports) → (IsStillToCome l → ⊥) → is_outer_memory i.place i.name ≡ false
+not_asked l i at plain = elim (cases_Bool (is_outer_memory i.place i.name)) [
+  | inl asks ↦ absurd (plain (inl (at (λ j. is_outer_memory j.place j.name ≡ true) asks)))
+  | inr plain_one ↦ plain_one
+]
+
 -- and so is that of its name, behind the imports so far
 pub name_cause : (l : Linking) (e : Fault) (is more : List CoreImport) (i : CoreImport) (old : Table) → old.legacy ≡ names_in is root → old.standard ≡ names_in is standard
-    → l.main.imports ≡ is ++ i ∷ more → ((P : CoreImport → Type 0) → P i → Any P l.main.imports) → IsNameCause old i.place i.name e → IsLinkCause l e
-name_cause l faults.NotYet is more i old legacy of_standard parts at h = absurd h
-name_cause l faults.DuplicateImport is more i old legacy of_standard parts at h =
+    → l.main.imports ≡ is ++ i ∷ more → ((P : CoreImport → Type 0) → P i → Any P l.main.imports) → (IsStillToCome l → ⊥) → IsNameCause old i.place i.name e → IsLinkCause l e
+name_cause l faults.NotYet is more i old legacy of_standard parts at plain h = absurd h
+name_cause l faults.DuplicateImport is more i old legacy of_standard parts at plain h =
     subst RepeatsPair (sym parts) (repeats_at i is more (pair_there is i old old legacy of_standard h.0 false h.1))
-name_cause l faults.UnknownImport is more i old legacy of_standard parts at h = inl (at (IsImportCause l faults.UnknownImport) (no_place l i h))
-name_cause l faults.Ambiguous is more i old legacy of_standard parts at h = absurd h
-name_cause l faults.LegacyName is more i old legacy of_standard parts at h = absurd h
-name_cause l faults.WrongCoreType is more i old legacy of_standard parts at h = absurd h
-name_cause l faults.MissingCoreExport is more i old legacy of_standard parts at h = absurd h
-name_cause l faults.TooLarge is more i old legacy of_standard parts at h = absurd h
-name_cause l faults.OutOfMemory is more i old legacy of_standard parts at h = tt
+name_cause l faults.UnknownImport is more i old legacy of_standard parts at plain h = inl (at (IsImportCause l faults.UnknownImport) (ap (map (import_entry i)) (no_place l i h), not_asked l i at plain))
+name_cause l faults.Ambiguous is more i old legacy of_standard parts at plain h = absurd h
+name_cause l faults.LegacyName is more i old legacy of_standard parts at plain h = absurd h
+name_cause l faults.WrongCoreType is more i old legacy of_standard parts at plain h = absurd h
+name_cause l faults.MissingCoreExport is more i old legacy of_standard parts at plain h = absurd h
+name_cause l faults.TooLarge is more i old legacy of_standard parts at plain h = absurd h
+name_cause l faults.OutOfMemory is more i old legacy of_standard parts at plain h = tt
 
 -- ---- what is still to come
 
@@ -97,7 +106,7 @@ placed_each R Q h (x ∷ xs) [] placed = absurd placed
 placed_each R Q h (x ∷ xs) (p ∷ ps) placed = (h x p placed.0, placed_each R Q h xs ps placed.1)
 
 pub linked_from : (l : Linking) (imports exports : List ℕ) → Placed (ImportPlace l) l.main.imports imports → Placed (ExportPlace l) l.world.exports exports → IsLinked l
-linked_from l imports exports i e = record {
+linked_from l imports exports i e = all_entered l (record {
   imports = placed_each (ImportPlace l) (λ i. (f : FunctionItem) × ImportLink l i f) (λ i p h. (h.0, h.2)) l.main.imports imports i;
   exports = placed_each (ExportPlace l) (λ f. (e : CoreExport) × ExportLink l f e) (λ f p h. (h.0, h.2)) l.world.exports exports e;
-}
+})

@@ -2,11 +2,11 @@
 use Rattle.std.proofs.Common.{◌≡◌, ℕ, Bool, true, false, List, [], ◌++◌, length, Option, Some, refl, sym, ap, subst, ◌∙◌, arith, inl, inr}
 use Rattle.std.specs.Prelude.{filter, not, ◌||◌, ◌&&◌, bytes_eq, codes, Any}
 use Rattle.std.specs.List.{list_any}
-use Rattle.std.proofs.lemmas.Bool.{cases_Bool}
+use Rattle.std.proofs.lemmas.Bool.{cases_Bool, or_cases}
 use Rattle.std.proofs.lemmas.List.Folds.{Any-from_list_any}
 use Rattle.wit_component.specs.declared.table.Candidates.{Candidates}
 use Rattle.plain_worlds.specs.World.{FunctionItem}
-use Rattle.wit_component.specs.CoreNames.{root, standard, standard_export, is_import_name, is_legacy_import, is_export_name, is_hook_name, is_initialize_name, is_post_return_name}
+use Rattle.wit_component.specs.CoreNames.{root, standard, standard_export, is_import_name, is_legacy_import, is_outer_memory, is_export_name, is_hook_name, is_initialize_name, is_post_return_name}
 use Rattle.wit_component.specs.Linking.{CoreImport, Linking}
 use Rattle.wit_component.specs.Table.{imported_by}
 use Rattle.wit_component.specs.Candidates.{Stands, Notes, has, has_hook, has_post_return, named_by}
@@ -98,6 +98,13 @@ module _ (l : Linking) (i : CoreImport) where
 
   pub no_place : (bytes_eq i.place standard || bytes_eq i.place root) ≡ false → imported_by l i ≡ []
   no_place e = filter_none (λ (f : FunctionItem). is_import_name l.rejects_legacy i.place i.name f.name) (λ f. other_place (bytes_eq i.place standard) (bytes_eq i.place root) l.rejects_legacy (bytes_eq i.name f.name) e) l.world.imports
+
+  -- what stands under one of the two module texts isn't the memory of the surroundings
+  pub no_memory : (bytes_eq i.place standard || bytes_eq i.place root) ≡ true → is_outer_memory i.place i.name ≡ false
+  no_memory e = elim (or_cases (bytes_eq i.place standard) (bytes_eq i.place root) e) [
+    | inl s ↦ ap (λ (p : List ℕ). is_outer_memory p i.name) (bytes_eq_is i.place standard s)
+    | inr r ↦ ap (λ (p : List ℕ). is_outer_memory p i.name) (bytes_eq_is i.place root r)
+  ]
 
   both : (a b : Bool) → (a && b) ≡ true → (a ≡ true) × (b ≡ true)
   both true b h = (refl, h)

@@ -10,24 +10,26 @@ use Rattle.plain_worlds.specs.World.{FunctionItem}
 use Rattle.wit_component.specs.CoreNames.{root, standard, is_export_name}
 use Rattle.wit_component.specs.Flat.{flat}
 use Rattle.wit_component.specs.Linking.{CoreExport, Linking}
-use Rattle.wit_component.specs.Table.{ImportLink, ExportLink, IsLinked, is_needed, needed}
+use Rattle.wit_component.specs.Table.{import_entry, export_entry, IsLinked, is_needed, needed}
+use Rattle.wit_component.specs.Places.{ImportLink, ExportLink}
 use Rattle.wit_component.specs.Meaning.{Spaces, CoreFunction, ComponentFunction, CoreEntry, CoreInstance, of_export, of_lower, of_main, lifting, no_spaces, after, meaning, entry_named, all_there, exports_of, main_instance, all_given}
 use Rattle.wit_component.specs.Component.{numbered, types_of, given_under, instance_with, instances_for, arguments_for, aliases_of, import_side, instance_side, export_side, component_of}
 use Rattle.wit_component.specs.declared.finding.FindingKind.{FindingKind}
 use Rattle.wit_component.specs.declared.finding.FindingKind.TheVariants as findings
 use Rattle.wit_component.specs.Right.{IsIn, listed, type_seen, ModulesRight, ImportsRight, ExportsRight, IsGiven, EachGiven, TakesOwn, LiftsOwn, LinksRight, Holds, MeetsAll}
 use Rattle.wit_component.proofs.Lists.{bytes_eq_refl, bytes_eq_is, slice_get_at, length_one_more, moved, each_in, each_at, each_map, in_map, same_items_refl, from_filter, filter_yes, filter_no, only_one}
+use Rattle.wit_component.proofs.Entries.{AreLinked, are_linked, import_entered, export_entered}
 use Rattle.wit_component.proofs.Joined.{one_module, one_instance}
 use Rattle.wit_component.proofs.Blocks.{Leads, then, imported_function, lowered_function, own_export, own_lift, own_entry, instance_of, length-instance_of, HasExport, types_block, imports_block, lowers_block, inline_block, aliases_block, lifts_block, exports_block}
 use Rattle.wit_component.proofs.Given.{lowerings, instances_given, given_of, imported_at, given_found, each_given, all_given_something, all_are_there}
 
 -- ---- the core exports of the main module
 
-abbrev pub export_entry : ℕ → CoreExport → CoreEntry
-export_entry k e = record { name = e.name; item = option_map (λ t. record { origin = of_export k e.name; ty = t }) e.ty }
+abbrev pub core_entry : ℕ → CoreExport → CoreEntry
+core_entry k e = record { name = e.name; item = option_map (λ t. record { origin = of_export k e.name; ty = t }) e.ty }
 
 -- a name leads to the only one of its kind
-named_found : (test : List ℕ → Bool) (k : ℕ) (e : CoreExport) (es : List CoreExport) → test e.name ≡ true → filter (λ x. test x.name) es ≡ e ∷ [] → entry_named e.name (map (export_entry k) es) ≡ (export_entry k e).item
+named_found : (test : List ℕ → Bool) (k : ℕ) (e : CoreExport) (es : List CoreExport) → test e.name ≡ true → filter (λ x. test x.name) es ≡ e ∷ [] → entry_named e.name (map (core_entry k) es) ≡ (core_entry k e).item
 named_found test k e [] t only = absurd cc
 named_found test k e (x ∷ es) t only = elim (cases_Bool (test x.name)) [
   | inl u ↦ let same : x ∷ filter (λ y. test y.name) es ≡ e ∷ [] = sym (filter_yes (λ (y : CoreExport). test y.name) x es u) ∙ only in let is : x ≡ e = cc in rw is (rw (bytes_eq_refl e.name) refl)
@@ -91,7 +93,7 @@ whole l = record (lifts_there l) {
 
 -- ---- what the main module is given
 
-given_right : (l : Linking) → IsLinked l → EachGiven l (whole l) l.main.imports (all_of_given l)
+given_right : (l : Linking) → AreLinked l → EachGiven l (whole l) l.main.imports (all_of_given l)
 given_right l h =
     let all = (whole l).functions in
     let parts : all ≡ map imported_function (needed l) ++ (own_lifts l ++ own_lifts l) = simp append_assoc in
@@ -100,15 +102,15 @@ given_right l h =
     let found = given_found l i link.0 m link.1 in
     let at : slice_get all found.0 ≡ Some (imported_function link.0) = imported_at 0 (needed l) link.0 found.0 [] (own_lifts l ++ own_lifts l) all found.1 refl parts in
     record {
-      function = link.0;
-      link = link.1;
+      entry = import_entry i link.0;
+      is_entry = import_entered l i link.0 link.1;
       core = record { origin = of_lower found.0; ty = flat link.0.ty };
       is = found.2;
-      lowers = (found.0, link.0.ty, refl, rw at refl);
+      ends = record { name = link.0.name; named = refl; function = found.0; lowers = refl; ty = link.0.ty; is = rw at refl };
       matches = refl;
     }))
 
-something_given : (l : Linking) → IsLinked l → (cs : List CoreFunction) × (all_of_given l ≡ map (λ c. Some c) cs)
+something_given : (l : Linking) → AreLinked l → (cs : List CoreFunction) × (all_of_given l ≡ map (λ c. Some c) cs)
 something_given l h = all_given_something l (whole l) l.main.imports (all_of_given l) (given_right l h)
 
 instances_long : (cores : List (Option CoreFunction)) (a b : List InlineExportValue) → length (instance_of cores a ++ instance_of cores b) ≡ length (instance_with a ++ instance_with b)
@@ -119,13 +121,13 @@ instances_long cores a b =
 before_own : (l : Linking) → length (instances_given l) ≡ instance_at l
 before_own l = instances_long (lowerings l) (given_under l root) (given_under l standard)
 
-made_is : (l : Linking) → IsLinked l → main_instance l.main (length (instances_given l)) (all_of_given l) ≡ own_instance l
+made_is : (l : Linking) → AreLinked l → main_instance l.main (length (instances_given l)) (all_of_given l) ≡ own_instance l
 made_is l h =
     let some = something_given l h in
     let matched : all_there (all_of_given l) ≡ true = ap all_there some.1 ∙ all_are_there some.0 in
     rw (matched, before_own l) refl
 
-instance_block : (l : Linking) → IsLinked l → after l.main (inlines_there l) (instantiation_of 0 (arguments_for l)) ≡ instance_there l
+instance_block : (l : Linking) → AreLinked l → after l.main (inlines_there l) (instantiation_of 0 (arguments_for l)) ≡ instance_there l
 instance_block l h = rw (bytes_eq_refl l.main.bytes, made_is l h) (one_instance (inlines_there l) (own_instance l))
 
 -- the main module's instance has the core export of each linked function
@@ -138,7 +140,7 @@ export_there l f e h =
     let found = named_found (is_export_name l.rejects_legacy f.name) (instance_at l) e l.main.exports named h.only in
     record { export = e; only = h.only; found = rw (own_there l) (found ∙ ap (option_map (λ t. record { origin = of_export (instance_at l) e.name; ty = t })) h.matches) }
 
-exports_there : (l : Linking) → IsLinked l → Each (HasExport l (instance_there l).instances (instance_at l)) l.world.exports
+exports_there : (l : Linking) → AreLinked l → Each (HasExport l (instance_there l).instances (instance_at l)) l.world.exports
 exports_there l h = each_in (HasExport l (instance_there l).instances (instance_at l)) l.world.exports (λ f m.
     let link = each_at (λ x. (e : CoreExport) × ExportLink l x e) l.world.exports f h.exports m in
     export_there l f link.0 link.1)
@@ -155,7 +157,7 @@ import_part l =
     let lowers : Leads main (module_there l) (numbered (λ n f. lower_of n) 0 fs) (lowers_there l) = record { is = lowers_block main (module_there l) 0 [] fs [] refl (sym (append-nil (map imported_function fs))) } in
     then types (then imports (then core_module lowers))
 
-instance_part : (l : Linking) → IsLinked l → Leads l.main (lowers_there l) (instance_side l) (instance_there l)
+instance_part : (l : Linking) → AreLinked l → Leads l.main (lowers_there l) (instance_side l) (instance_there l)
 instance_part l h =
     let main = l.main in
     let first : Leads main (lowers_there l) (instance_with (given_under l root)) (root_there l) = record { is = inline_block main (lowers_there l) (given_under l root) } in
@@ -163,7 +165,7 @@ instance_part l h =
     let instance : Leads main (inlines_there l) (instantiation_of 0 (arguments_for l) ∷ []) (instance_there l) = record { is = instance_block l h } in
     then (then first second) instance
 
-export_part : (l : Linking) → IsLinked l → Leads l.main (instance_there l) (export_side l) (whole l)
+export_part : (l : Linking) → AreLinked l → Leads l.main (instance_there l) (export_side l) (whole l)
 export_part l h =
     let main = l.main in
     let fs = l.world.exports in
@@ -179,11 +181,14 @@ export_part l h =
     record { is = exports_block main (lifts_there l) n (map imported_function (needed l)) fs [] functions_long (ap (λ ys. map imported_function (needed l) ++ ys) (sym (append-nil (own_lifts l)))) } in
     then aliases (then more_types (then lifts exports))
 
-pub written : (l : Linking) → IsLinked l → meaning l.main (component_of l) ≡ whole l
+written_whole : (l : Linking) → AreLinked l → meaning l.main (component_of l) ≡ whole l
 unfolding meaning component_of
-written l h =
+written_whole l h =
     let all : Leads l.main no_spaces (import_side l ++ (instance_side l ++ export_side l)) (whole l) = then (import_part l) (then (instance_part l h) (export_part l h)) in
     all.is
+
+pub written : (l : Linking) → IsLinked l → meaning l.main (component_of l) ≡ whole l
+written l h = written_whole l (are_linked l h)
 
 -- ---- right
 
@@ -199,7 +204,7 @@ one_given l =
     let b = instance_of (lowerings l) (given_under l standard) in
     ap all_given (append_assoc a b own) ∙ none_given (lowerings l) (given_under l root) (b ++ own) ∙ none_given (lowerings l) (given_under l standard) own
 
-modules_right : (l : Linking) → IsLinked l → ModulesRight l (whole l)
+modules_right : (l : Linking) → AreLinked l → ModulesRight l (whole l)
 modules_right l h =
     let some = something_given l h in
     record { modules = (refl, tt); once = (some.0, one_given l ∙ ap (λ (given : List (Option CoreFunction)). given ∷ []) some.1) }
@@ -229,13 +234,13 @@ each_lifts l s k n (f ∷ fs) front long e links =
     let at : slice_get s.core_functions n ≡ Some (own_export l k f) = rw e (slice_get_at front (own_export l k f) (map (own_export l k) fs) n long) in
     let own : LiftsOwn l s (own_entry n f) = record {
       function = f;
-      export = link.1.0;
       listed = link.0;
-      link = link.1.1;
       name = refl;
+      entry = export_entry f link.1.0;
+      is_entry = export_entered l f link.1.0 link.1.1;
       item = lifting n f.ty;
       is = refl;
-      lifts = (n, k, refl, rw at core);
+      ends = record { name = link.1.0.name; named = refl; core = n; lifts = refl; instance = k; is = rw at core };
     } in
     (own, each_lifts l s k (suc n) fs (front ++ own_export l k f ∷ []) (length_one_more front (own_export l k f) n long) (moved s.core_functions front (own_export l k f) (map (own_export l k) fs) e) (λ g m. links g (inr m)))
 
@@ -248,7 +253,7 @@ none_takes : (l : Linking) (s : Spaces) (cores : List (Option CoreFunction)) (es
 none_takes l s cores [] more h = h
 none_takes l s cores (x ∷ xs) more h = (tt, h)
 
-all_take : (l : Linking) → IsLinked l → Each (λ (i : CoreInstance). TakesOwn l (whole l) i.source) (whole l).instances
+all_take : (l : Linking) → AreLinked l → Each (λ (i : CoreInstance). TakesOwn l (whole l) i.source) (whole l).instances
 all_take l h =
     let own : List CoreInstance = own_instance l ∷ [] in
     let a = instance_of (lowerings l) (given_under l root) in
@@ -256,14 +261,14 @@ all_take l h =
     subst (Each (λ (i : CoreInstance). TakesOwn l (whole l) i.source)) (sym (append_assoc a b own))
     (none_takes l (whole l) (lowerings l) (given_under l root) (b ++ own) (none_takes l (whole l) (lowerings l) (given_under l standard) own (given_right l h, tt)))
 
-links_right : (l : Linking) → IsLinked l → LinksRight l (whole l)
+links_right : (l : Linking) → AreLinked l → LinksRight l (whole l)
 links_right l h = record {
   imports = all_take l h;
   exports = each_lifts l (whole l) (instance_at l) (length (needed l)) l.world.exports (lowerings l) (lowerings_long 0 (needed l)) refl
       (λ f m. (m, each_at (λ x. (e : CoreExport) × ExportLink l x e) l.world.exports f h.exports m));
 }
 
-meets : (l : Linking) → IsLinked l → (kind : FindingKind) → Holds l (whole l) kind
+meets : (l : Linking) → AreLinked l → (kind : FindingKind) → Holds l (whole l) kind
 meets l h findings.Format = tt
 meets l h findings.Import = imports_right l
 meets l h findings.Export = exports_right l
@@ -275,4 +280,4 @@ meets l h findings.Name = tt
 
 -- what is written for a linking stands for what meets all conditions
 pub written_meets : (l : Linking) → IsLinked l → MeetsAll l (meaning l.main (component_of l))
-written_meets l h kind = subst (λ s. Holds l s kind) (sym (written l h)) (meets l h kind)
+written_meets l h kind = let links = are_linked l h in subst (λ s. Holds l s kind) (sym (written l h)) (meets l links kind)

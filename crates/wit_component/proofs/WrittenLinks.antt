@@ -7,7 +7,7 @@ use Rattle.std.proofs.lemmas.Bool.{and_parts, cases_Bool}
 use Rattle.std.proofs.lemmas.Bool.Decides.{same_from_decides, Decides-like}
 use Rattle.std.proofs.lemmas.Slice.Eq.{bytes_eq-Decides}
 use Rattle.std.proofs.lemmas.List.{map-append, take_more}
-use Rattle.std.proofs.lemmas.List.Elements.{filter_agree, All-nil, All-cons}
+use Rattle.std.proofs.lemmas.List.Elements.{All-nil, All-cons}
 use Rattle.std.proofs.lemmas.Option.{slice_get-map, slice_get-get_or, slice_get_within}
 use Rattle.std.specs.List.{All}
 use Rattle.std.specs.Prelude.{option_map}
@@ -24,6 +24,8 @@ use Rattle.wit_component.specs.Linking.{CoreImport, CoreExport, Linking}
 use Rattle.wit_component.specs.Table.{exported_by, is_needed, needed}
 use Rattle.wit_component.specs.Places.{ImportPlace, ExportPlace, Placed, names_under, Places, ArePlaces}
 use Rattle.wit_component.specs.Component.{numbered, given_at, given_under}
+use Rattle.wit_component.specs.Right.{IsIn}
+use Rattle.wit_component.proofs.Entries.{needed_is_asked, filter_among}
 
 -- ---- names under a module text
 
@@ -98,16 +100,16 @@ module _ (l : Linking) where
       ∙ or_swap (is_legacy_import i.place i.name name) (is_standard_import i.place i.name name) _ _
 
   module _ (t : Places) (h : ArePlaces l t) where
-    wanted_is_needed : (f : FunctionItem) → wanted t.legacy t.standard f ≡ is_needed l f
-    wanted_is_needed f =
+    wanted_is_needed : (f : FunctionItem) → IsIn f l.world.imports → wanted t.legacy t.standard f ≡ is_needed l f
+    wanted_is_needed f m =
         ap (λ ns. not (is_new ns f.name) || not (is_new t.standard f.name)) h.legacy
         ∙ ap (λ ns. not (is_new (names_under l root) f.name) || not (is_new ns f.name)) h.standard
         ∙ ap (λ b. b || not (is_new (names_under l standard) f.name)) (is_under root f.name l.main.imports)
         ∙ ap (λ b. list_any (λ i. is_legacy_import i.place i.name f.name) l.main.imports || b) (is_under standard f.name l.main.imports)
-        ∙ sym (any_either l.main.imports t.imports h.imports f.name)
+        ∙ sym (any_either l.main.imports t.imports h.imports f.name) ∙ sym (needed_is_asked l f m)
 
     pub wanted_are_needed : filter (wanted t.legacy t.standard) l.world.imports ≡ needed l
-    wanted_are_needed = filter_agree (wanted t.legacy t.standard) (is_needed l) wanted_is_needed l.world.imports
+    wanted_are_needed = filter_among (wanted t.legacy t.standard) (is_needed l) l.world.imports wanted_is_needed
 
 -- ---- the core exports at places
 

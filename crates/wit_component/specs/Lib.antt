@@ -1,6 +1,7 @@
 pub mod Flat
 pub mod CoreNames
 pub mod Linking
+pub mod Line
 pub mod Table
 pub mod Component
 pub mod Places

@@ -2,13 +2,11 @@
 -- Definitions).
 use Rattle.std.specs.Prelude.{◌≡◌, ◌⊎◌, ℕ, List, [], ◌∷◌, map, Option, Some, option_map}
 use Rattle.std.specs.List.{AllByRecursion as Each}
-use Rattle.wasm_types.specs.Types.{FuncTypeValue}
 use Rattle.plain_worlds.specs.World.{FunctionTypeValue, FunctionItem}
 use Rattle.wit_component.specs.declared.finding.FindingKind.{FindingKind}
 use Rattle.wit_component.specs.declared.finding.FindingKind.TheVariants as findings
-use Rattle.wit_component.specs.Flat.{flat}
-use Rattle.wit_component.specs.Linking.{CoreImport, CoreExport, Linking}
-use Rattle.wit_component.specs.Table.{ImportLink, ExportLink, needed}
+use Rattle.wit_component.specs.Linking.{CoreImport, Linking}
+use Rattle.wit_component.specs.Table.{Entry, IsEntry, entries_of_import, IsExportEntry, needed}
 use Rattle.wit_component.specs.Meaning.{Spaces, Origin, Source, of_main, of_unknown, of_items, CoreFunction, ComponentFunction, ImportEntry, ExportEntry, of_export, of_lower, of_lift, import_with, item_at, all_given}
 
 -- x is one of these
@@ -31,13 +29,23 @@ type_seen e = record { name = e.name; item = option_map (λ f. f.ty) e.item }
 
 -- ---- ends: what a core function, and a function, are of
 
--- the lowering of the import of that name, of whatever type: that is asked of imports (F2)
-abbrev pub IsLoweringOf : Spaces → List ℕ → CoreFunction → Type 0
-IsLoweringOf s name c = (n : ℕ) × (t : FunctionTypeValue) × (c.origin ≡ of_lower n) × (item_at s.functions n ≡ Some (import_with name t))
+-- the lowering of the import that the entry names, of whatever type: that is asked of imports (F2)
+pub record IsLoweringOf (s : Spaces) (e : Entry) (c : CoreFunction) : Type 0 where
+  pub name : List ℕ
+  pub named : e.line.item ≡ Some name
+  pub function : ℕ
+  pub lowers : c.origin ≡ of_lower function
+  pub ty : FunctionTypeValue
+  pub is : item_at s.functions function ≡ Some (import_with name ty)
 
--- the lift of the main module's export of that name, of that core type
-abbrev pub IsLiftOf : Spaces → List ℕ → FuncTypeValue → Origin → Type 0
-IsLiftOf s name core_type origin = (n k : ℕ) × (origin ≡ of_lift n) × (item_at s.core_functions n ≡ Some (record { origin = of_export k name; ty = core_type }))
+-- the lift of the core export that the entry names, of the entry's core type
+pub record IsLiftOf (s : Spaces) (e : Entry) (o : Origin) : Type 0 where
+  pub name : List ℕ
+  pub named : e.line.item ≡ Some name
+  pub core : ℕ
+  pub lifts : o ≡ of_lift core
+  pub instance : ℕ
+  pub is : item_at s.core_functions core ≡ Some (record { origin = of_export instance name; ty = e.core_type })
 
 -- ---- the conditions
 
@@ -59,14 +67,14 @@ pub record ModulesRight (l : Linking) (s : Spaces) : Type 0 where
   pub modules : Each (λ bytes. bytes ≡ l.main.bytes) s.modules
   pub once : IsOnce (all_given s.instances)
 
--- a core import is given the lowering of its own function, of that function's core type
+-- what is given for a core import ends as its entry says, and has that entry's core type
 pub record IsGiven (l : Linking) (s : Spaces) (i : CoreImport) (given : Option CoreFunction) : Type 0 where
-  pub function : FunctionItem
-  pub link : ImportLink l i function
+  pub entry : Entry
+  pub is_entry : IsEntry (entries_of_import l i) entry
   pub core : CoreFunction
   pub is : given ≡ Some core
-  pub lowers : IsLoweringOf s function.name core
-  pub matches : core.ty ≡ flat function.ty
+  pub ends : IsLoweringOf s entry core
+  pub matches : core.ty ≡ entry.core_type
 
 abbrev pub EachGiven : Linking → Spaces → List CoreImport → List (Option CoreFunction) → Type 0
 EachGiven l s [] [] = Unit {0}
@@ -80,16 +88,16 @@ TakesOwn l s (of_main given) = EachGiven l s l.main.imports given
 TakesOwn l s of_unknown = Unit {0}
 TakesOwn l s of_items = Unit {0}
 
--- an export lifts the core export of its function, which has that function's core type; of whatever type: that is asked of exports (F3)
+-- an export ends as the entry of its function says; of whatever type: that is asked of exports (F3)
 pub record LiftsOwn (l : Linking) (s : Spaces) (x : ExportEntry) : Type 0 where
   pub function : FunctionItem
-  pub export : CoreExport
   pub listed : IsIn function l.world.exports
-  pub link : ExportLink l function export
   pub name : x.name ≡ function.name
+  pub entry : Entry
+  pub is_entry : IsExportEntry l function entry
   pub item : ComponentFunction
   pub is : x.item ≡ Some item
-  pub lifts : IsLiftOf s export.name (flat function.ty) item.origin
+  pub ends : IsLiftOf s entry item.origin
 
 -- F5: every core import and every export ends at its entry of the link table
 pub record LinksRight (l : Linking) (s : Spaces) : Type 0 where

@@ -1,8 +1,7 @@
 //! Laws of what is written.
 
 ghost use Rattle.std.specs.Prelude.{◌≡◌, true};
-ghost use Rattle.known_definitions.specs.Component.{Fits};
-ghost use Rattle.wit_component.specs.Cause.{IsLinkable, IsLinkCause, IsEncodeCause};
+ghost use Rattle.wit_component.specs.Cause.{IsLinkable, IsLinkCause, IsEncodeCause, IsTooLarge};
 ghost use Rattle.wit_component.specs.Component.{component_of};
 ghost use Rattle.wit_component.specs.Linking.{Linking};
 ghost use Rattle.wit_component.specs.Meaning.{meaning};
@@ -16,9 +15,9 @@ pub fn law_written_meets_all()
     ensures { (l : Linking) → IsLinked l → MeetsAll l (meaning l.main (component_of l)) }
 {}
 
-/// Where every link is there and nothing is asked for that is still to come, no cause holds that links are refused for, and
+/// Where every entry is there and nothing is asked for that is still to come, no cause holds that links are refused for, and
 /// where 32 bits say the component besides, none that it isn't encoded for, want of memory aside.
 pub fn law_linkable_has_no_cause()
     ensures links { (l : Linking) → IsLinkable l → (fault : Fault) → IsLinkCause l fault → fault ≡ Fault.OutOfMemory }
-    ensures component { (l : Linking) → IsLinkable l → Fits (component_of l) → (fault : Fault) → IsEncodeCause l fault → fault ≡ Fault.OutOfMemory }
+    ensures component { (l : Linking) → IsLinkable l → (IsTooLarge l → ⊥) → (fault : Fault) → IsEncodeCause l fault → fault ≡ Fault.OutOfMemory }
 {}

@@ -3,6 +3,8 @@
 ghost use Rattle.std.specs.Prelude.{◌≡◌, ◌∷◌, [], map, option_map, Some, true, false};
 ghost use Rattle.wit_component.specs.Meaning.{same_values};
 ghost use Rattle.wasm_types.specs.Types.{func_type_value};
+ghost use Rattle.wit_component.specs.Linking.{reading};
+ghost use Rattle.wasm_format.specs.Grammar.{IsModule};
 ghost use Rattle.wasm_format.specs.Module.{module_value, imported_type, exported_type};
 ghost use Rattle.wit_component.specs.Flat.{flat_value, flat_result, flat_params, flat};
 ghost use Rattle.plain_worlds.specs.World.{param_item, function_item};
@@ -17,13 +19,21 @@ pub struct Linking<'s, 'a> {
     pub world: &'s World,
     /// The bytes of the main module.
     pub bytes: &'a [u8],
-    /// What a reader found in them.
+    /// What they are read as (WebAssembly Core, Binary Format, Modules).
     pub main: CoreModule<'a>,
     /// Names of the legacy mangling stand for nothing.
     pub rejects_legacy: bool,
+    ghost reads: { reading bytes.now ≡ Some (module_value main) },
 }
 
 impl<'s, 'a> Linking<'s, 'a> {
+    /// What holds of each linking: the main module is what its bytes are.
+    pub fn law_main_is_read(&self)
+        ensures { IsModule self.now.bytes.now (module_value self.now.main) }
+    {
+        let _ = &self.main;
+    }
+
     /// The core type of an import; none where it isn't a function.
     pub fn import_type(&self, import: &Import) -> Option<&FuncType>
         ensures { option_map (λ t. func_type_value t.now) result ≡ imported_type (module_value self.now.main) import.now.ty }

@@ -4,8 +4,9 @@ ghost use Rattle.std.specs.Prelude.{◌≡◌, ◌<◌, ◌++◌, ◌∷◌, [],
 ghost use Rattle.wit_component.specs.Cause.{IsLinkable, IsLinkCause};
 ghost use Rattle.wit_component.specs.Linking.{CoreImport};
 ghost use Rattle.plain_worlds.specs.World.{FunctionItem};
-ghost use Rattle.wit_component.specs.Links as spec;
+ghost use Rattle.wit_component.specs.Line.{import_line, export_line, link_value};
 ghost use Rattle.wit_component.specs.Links.{AreLinks};
+ghost use Rattle.wit_component.specs.Places as spec;
 ghost use Rattle.wit_component.specs.Places.{ArePlaces, target};
 ghost use Rattle.wit_component.specs.View as view;
 
@@ -19,7 +20,7 @@ use wasm_format::Export;
 
 /// The link of a core import that ends in the lowering of a function of the world.
 fn import_link(alloc: Global, place: &str, name: &str, function: &str) -> Result<Link, AllocError>
-    ensures { IfOk result (λ l. spec.link_value l ≡ spec.import_line place.now name.now function.now) }
+    ensures { IfOk result (λ l. link_value l ≡ import_line place.now name.now function.now) }
 {
     Ok(Link {
         side: LinkSide::Import,
@@ -39,7 +40,7 @@ fn import_link(alloc: Global, place: &str, name: &str, function: &str) -> Result
 
 /// The link of an exported function that is a core export of the main module.
 fn export_link(alloc: Global, function: &str, name: &str) -> Result<Link, AllocError>
-    ensures { IfOk result (λ l. spec.link_value l ≡ spec.export_line function.now name.now) }
+    ensures { IfOk result (λ l. link_value l ≡ export_line function.now name.now) }
 {
     Ok(Link {
         side: LinkSide::Export,
@@ -83,7 +84,7 @@ fn import_entry<'l>(
 ) -> (&'l str, &'l str, &'l str)
     requires places { ArePlaces (view.linking linking.now) (view.places table.now) }
     requires there { index < length linking.now.main.imports.items }
-    ensures { (i : CoreImport) × (slice_get (view.linking linking.now).main.imports index ≡ Some i) × (spec.import_lines_for (view.linking linking.now) i ≡ spec.import_text result ∷ []) }
+    ensures { (i : CoreImport) × (slice_get (view.linking linking.now).main.imports index ≡ Some i) × (spec.lines_of_import (view.linking linking.now) i ≡ spec.import_text result ∷ []) }
 {
     let import = &linking.main.imports[index];
     let function = import_target(linking, table, index);
@@ -94,7 +95,7 @@ fn import_entry<'l>(
 fn export_entry<'l>(linking: &'l Linking<'l, 'l>, table: &Table, index: usize) -> (&'l str, &'l str)
     requires places { ArePlaces (view.linking linking.now) (view.places table.now) }
     requires there { index < length linking.now.world.now.exports.items }
-    ensures { (f : FunctionItem) × (slice_get (view.linking linking.now).world.exports index ≡ Some f) × (spec.export_lines_for (view.linking linking.now) f ≡ spec.export_text result ∷ []) }
+    ensures { (f : FunctionItem) × (slice_get (view.linking linking.now).world.exports index ≡ Some f) × (spec.lines_of_export (view.linking linking.now) f ≡ spec.export_text result ∷ []) }
 {
     let function = &linking.world.exports[index];
     let export = export_target(linking, table, index);
@@ -139,7 +140,7 @@ fn links_in_order(
     imports: &[(&str, &str, &str)],
     exports: &[(&str, &str)],
 ) -> Result<Vec<Link>, AllocError>
-    ensures { IfOk result (λ v. map spec.link_value v.items ≡ map spec.import_text imports.now ++ map spec.export_text exports.now) }
+    ensures { IfOk result (λ v. map link_value v.items ≡ map spec.import_text imports.now ++ map spec.export_text exports.now) }
 {
     let mut links = Vec::new(alloc);
     for (place, name, function) in imports {
@@ -153,7 +154,7 @@ fn links_in_order(
 
 /// The link table: imports by module text and name, then exports by name. Refuses as `table_of` does.
 pub fn links_of(alloc: Global, linking: &Linking) -> Result<Vec<Link>, Fault>
-    ensures links { IfOk result (λ v. AreLinks (view.linking linking.now) (map spec.link_value v.items)) }
+    ensures links { IfOk result (λ v. AreLinks (view.linking linking.now) (map link_value v.items)) }
     ensures linkable { IfOk result (λ v. IsLinkable (view.linking linking.now)) }
     ensures cause { IfErr result (IsLinkCause (view.linking linking.now)) }
 {
@@ -168,7 +169,7 @@ fn sorted_links<'l>(
     table: &Table,
 ) -> Result<Vec<Link>, AllocError>
     requires { ArePlaces (view.linking linking.now) (view.places table.now) }
-    ensures { IfOk result (λ v. AreLinks (view.linking linking.now) (map spec.link_value v.items)) }
+    ensures { IfOk result (λ v. AreLinks (view.linking linking.now) (map link_value v.items)) }
 {
     let mut imports = import_entries(alloc, linking, table)?;
     imports.sort()?;

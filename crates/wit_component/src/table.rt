@@ -209,6 +209,7 @@ fn add_imports<'a>(
     requires legacy { table.old.legacy ≡ [] }
     requires standard { table.old.standard ≡ [] }
     requires imports { table.old.imports.items ≡ [] }
+    requires plain { IsStillToCome (view.linking linking.now) → ⊥ }
     ensures legacy { OnOk result (table.new.legacy ≡ names_under (view.linking linking.now) root) }
     ensures standard { OnOk result (table.new.standard ≡ names_under (view.linking linking.now) standard) }
     ensures imports { OnOk result (Placed (ImportPlace (view.linking linking.now)) (view.linking linking.now).main.imports table.new.imports.items) }
@@ -230,6 +231,7 @@ fn add_places<'a>(
     requires legacy { table.old.legacy ≡ [] }
     requires standard { table.old.standard ≡ [] }
     requires imports { table.old.imports.items ≡ [] }
+    requires plain { IsStillToCome (view.linking linking.now) → ⊥ }
     ensures legacy { OnOk result (table.new.legacy ≡ names_under (view.linking linking.now) root) }
     ensures standard { OnOk result (table.new.standard ≡ names_under (view.linking linking.now) standard) }
     ensures imports { OnOk result (Placed (ImportPlace (view.linking linking.now)) (view.linking linking.now).main.imports table.new.imports.items) }

@@ -1,7 +1,7 @@
 use Rattle.std.proofs.Common.{◌≡◌, map, drop}
 use Rattle.std.specs.List.{list_all}
 use Rattle.plain_worlds.specs.World.{function_item}
-use Rattle.component_audit.specs.Judged.{is_there}
+use Rattle.component_audit.specs.Tests.{is_there}
 use Rattle.component_audit.proofs.auditor.are_there.Given as goal
 
 abbrev pub invariant-loop-function : goal.invariant-loop-function

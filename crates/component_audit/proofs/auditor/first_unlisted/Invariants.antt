@@ -2,7 +2,7 @@ use Rattle.std.proofs.Common.{◌≡◌, map, true}
 use Rattle.std.specs.Prelude.{nat_le}
 use Rattle.plain_worlds.specs.World.{function_item}
 use Rattle.component_audit.specs.SpacesView.{import_entry}
-use Rattle.component_audit.specs.Judged.{is_listed}
+use Rattle.component_audit.specs.Tests.{is_listed}
 use Rattle.component_audit.proofs.Searching.{Going}
 use Rattle.component_audit.proofs.auditor.first_unlisted.Given as goal
 

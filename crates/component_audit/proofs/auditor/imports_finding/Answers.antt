@@ -5,7 +5,7 @@ use Rattle.plain_worlds.specs.declared.world.Function.{Function}
 use Rattle.plain_worlds.specs.World.{function_item, functions_fit}
 use Rattle.wit_component.specs.Table.{needed}
 use Rattle.wit_component.specs.Right.{IsIn}
-use Rattle.component_audit.specs.Judged.{Finds, IsOutside}
+use Rattle.component_audit.specs.Tests.{Finds, IsOutside}
 use Rattle.component_audit.specs.SpacesView as seen
 use Rattle.wit_component.specs.View as view
 use Rattle.wit_component.proofs.Results.{ok_map}

@@ -1,6 +1,6 @@
 use Rattle.std.proofs.Common.{◌≡◌, true, take, drop}
 use Rattle.std.specs.List.{list_all}
-use Rattle.component_audit.specs.Judged.{IsSoFar}
+use Rattle.component_audit.specs.Tests.{IsSoFar}
 use Rattle.component_audit.specs.SpacesView.{all_given, is_within}
 use Rattle.component_audit.proofs.auditor.instances_finding.Given as goal
 

@@ -7,7 +7,7 @@ use Rattle.wasm_format.specs.Module.{module_value}
 use Rattle.plain_worlds.specs.World.{FunctionItem, function_item}
 use Rattle.wit_component.specs.Linking.{core_import}
 use Rattle.wit_component.specs.Meaning.{is_of_core_type}
-use Rattle.component_audit.specs.Judged.{is_lowering_of}
+use Rattle.component_audit.specs.Tests.{is_lowering_of}
 use Rattle.component_audit.specs.SpacesView as seen
 use Rattle.wit_component.specs.View as view
 use Rattle.component_audit.proofs.JudgedLinks.{given_decides, item_read}

@@ -3,7 +3,7 @@ use Rattle.std.proofs.lemmas.Bool.Decides.{Decides-at}
 use Rattle.wasm_types.specs.Entries.{export_value}
 use Rattle.wasm_format.specs.Module.{module_value}
 use Rattle.wit_component.specs.Linking.{core_export}
-use Rattle.component_audit.specs.Judged.{is_lift_of}
+use Rattle.component_audit.specs.Tests.{is_lift_of}
 use Rattle.component_audit.specs.SpacesView.{export_entry}
 use Rattle.wit_component.specs.View as view
 use Rattle.component_audit.proofs.JudgedLinks.{lift_decides, none_named}

@@ -3,7 +3,7 @@ use Rattle.std.specs.Prelude.{option_map}
 use Rattle.component_audit.specs.declared.spaces.CoreInstance.{CoreInstance}
 use Rattle.component_audit.specs.declared.spaces.CoreFunction.{CoreFunction as Core}
 use Rattle.wit_component.specs.Meaning.{CoreFunction, given_by, all_there}
-use Rattle.component_audit.specs.Judged.{IsSoFar}
+use Rattle.component_audit.specs.Tests.{IsSoFar}
 use Rattle.component_audit.specs.SpacesView.{core_function, source, given}
 use Rattle.component_audit.proofs.Judged.{more_than_one, not_whole, once_of}
 use Rattle.component_audit.proofs.auditor.one_more.Goals as goal

@@ -6,7 +6,7 @@ use Rattle.wasm_types.specs.Entries.{export_value}
 use Rattle.wasm_format.specs.Module.{module_value}
 use Rattle.name_places.specs.FirstPlaces.{place_of}
 use Rattle.wit_component.specs.Linking.{core_export}
-use Rattle.wit_component.specs.Table.{ExportLink}
+use Rattle.wit_component.specs.Places.{ExportLink}
 use Rattle.wit_component.specs.View as view
 use Rattle.plain_worlds.specs.World.{function_item}
 use Rattle.wit_component.proofs.WrittenNames.{names_of}

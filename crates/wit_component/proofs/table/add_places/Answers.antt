@@ -37,7 +37,7 @@ returns-in_err-add_name-clause-cause c =
     c.loop-import.invariant.legacy c.loop-import.invariant.standard
     (seen_parts import_value g c.deref-import-items.result.now items k _ c.deref-import-items.ensures.value c.loop-import-test.true)
     (λ P p. any_seen import_value g c.deref-import-items.result.now items k _ c.deref-import-items.ensures.value c.loop-import-test.true P p)
-    c.in_err-add_name.ensures.cause)
+    c.requires.plain c.in_err-add_name.ensures.cause)
 
 pub loop-import-preserved : goal.loop-import-preserved
 loop-import-preserved c =

@@ -2,8 +2,9 @@ use Rattle.std.proofs.Common.{rules}
 use Rattle.wit_component.specs.View as view
 use Rattle.wit_component.proofs.Results.{moved_up}
 use Rattle.component_session.specs.Faults.{of_linking}
-use Rattle.component_session.proofs.Causes.{audit_cause_is, judged}
-use Rattle.component_session.specs.Judged.{IsAuditCause}
+use Rattle.component_session.proofs.Headline.{judged}
+use Rattle.component_session.proofs.Refusals.{audit_cause_is}
+use Rattle.component_session.specs.Refusals.{IsAuditCause}
 use Rattle.component_session.proofs.session.Session.audit.Goals as goal
 
 pub returns-in_err-verdict-clause-cause : goal.returns-in_err-verdict-clause-cause

@@ -1,8 +1,9 @@
 use Rattle.wit_component.specs.View as view
 use Rattle.wit_component.proofs.Results.{moved_up}
-use Rattle.component_session.specs.Cause.{IsBuildCause}
+use Rattle.component_session.specs.Refusals.{IsBuildCause}
 use Rattle.component_session.specs.Faults.{of_linking}
-use Rattle.component_session.proofs.Causes.{encode_cause_is, built}
+use Rattle.component_session.proofs.Headline.{built}
+use Rattle.component_session.proofs.Refusals.{encode_cause_is}
 use Rattle.component_session.proofs.session.Session.build.Goals as goal
 
 pub returns-clause-right : goal.returns-clause-right

@@ -1,7 +1,7 @@
 use Rattle.std.proofs.Common.{◌≡◌, None, Some, inl, sym, ap, ◌∙◌}
 use Rattle.std.specs.Prelude.{option_map, option_and_then, slice_get}
 use Rattle.plain_worlds.specs.World.{plain_world, world_meaning}
-use Rattle.component_session.specs.Cause.{AsksBeyond}
+use Rattle.component_session.specs.Refusals.{AsksBeyond}
 use Rattle.component_session.specs.Input.{world_at, worlds_of}
 use Rattle.component_session.proofs.session.Session.chosen_world.Goals as goal
 

@@ -1,7 +1,7 @@
 use Rattle.std.proofs.Common.{◌≡◌, Some, inl, sym, ◌∙◌, rules}
 use Rattle.plain_worlds.specs.World.{world_meaning}
 use Rattle.wasm_format.specs.Module.{module_value}
-use Rattle.component_session.specs.Cause.{AsksBeyond}
+use Rattle.component_session.specs.Refusals.{AsksBeyond}
 use Rattle.component_session.specs.Input.{ModuleInput}
 use Rattle.component_session.proofs.Linked.{memory_alone, chosen_is, no_imports, imports_beyond, nothing_beyond}
 use Rattle.component_session.proofs.session.Session.linking.Goals as goal

@@ -1,10 +1,11 @@
 use Rattle.std.proofs.Common.{map}
-use Rattle.wit_component.specs.Links.{link_value}
+use Rattle.wit_component.specs.Line.{link_value}
 use Rattle.wit_component.specs.View as view
 use Rattle.wit_component.proofs.Results.{moved_up}
-use Rattle.component_session.specs.Cause.{IsCause}
+use Rattle.component_session.specs.Refusals.{IsCause}
 use Rattle.component_session.specs.Faults.{of_linking}
-use Rattle.component_session.proofs.Causes.{link_cause_is, listed}
+use Rattle.component_session.proofs.Headline.{listed}
+use Rattle.component_session.proofs.Refusals.{link_cause_is}
 use Rattle.component_session.proofs.session.Session.links.Goals as goal
 
 pub returns-in_err-links-clause-cause : goal.returns-in_err-links-clause-cause

@@ -1,0 +1,43 @@
+-- What is answered for a linking, said of its input.
+use Rattle.std.proofs.Common.{List, ℕ, ap, ◌∙◌}
+use Rattle.known_definitions.specs.Component.{IsComponent}
+use Rattle.known_definitions.specs.Component.{Fits}
+use Rattle.component_session.specs.Input.{Input, IsLinkingOf}
+use Rattle.wit_component.specs.Linking.{Linking}
+use Rattle.wit_component.specs.Cause.{IsLinkable}
+use Rattle.component_session.specs.Refusals.{AsksBeyond}
+use Rattle.wit_component.specs.Component.{component_of}
+use Rattle.component_session.specs.Headline.{IsRight, IsBuilt, IsLinkTable, IsJudged, IsVerdict}
+use Rattle.component_audit.specs.Judged.{Says}
+use Rattle.component_audit.specs.declared.verdict.Verdict.{Verdict}
+use Rattle.component_audit.specs.declared.verdict.Verdict.TheVariants.{Yes, Finding}
+use Rattle.wit_component.specs.Line.{LinkValue}
+use Rattle.wit_component.specs.Links.{AreLinks}
+use Rattle.known_definitions.proofs.Laws.{one_list}
+use Rattle.wit_component.specs.Meaning.{Spaces, meaning}
+use Rattle.wit_component.proofs.Right.{written}
+use Rattle.wit_component.proofs.Right.{written_meets}
+use Rattle.wit_component.specs.Table.{IsLinked}
+
+pub written_right : (input : Input) (l : Linking) (bytes : List ℕ) → IsLinkingOf input l → IsLinked l → IsComponent bytes (component_of l) → IsRight input bytes
+written_right input l bytes links h format = record { linking = l; links_input = links; definitions = component_of l; format = format; meets = written_meets l h }
+
+pub built : (input : Input) (l : Linking) (bytes : List ℕ) → IsLinkingOf input l → (AsksBeyond input → ⊥) → IsLinkable l → Fits (component_of l) → IsComponent bytes (component_of l) → IsBuilt input bytes
+built input l bytes links plain linkable fits is = record {
+  linking = l;
+  ready = record { links_input = links; plain = plain; linkable = linkable };
+  fits = λ large. large fits;
+  right = written_right input l bytes links linkable.linked is;
+  imports = λ ds h. ap (λ es. (meaning l.main es).imports) (one_list bytes ds (component_of l) h is) ∙ ap (λ (s : Spaces). s.imports) (written l linkable.linked);
+}
+
+says : (input : Input) (l : Linking) (bytes : List ℕ) (verdict : Verdict) → IsLinkingOf input l → Says l bytes verdict → IsVerdict input l bytes verdict
+says input l bytes Yes links (ds, is, meets) = record { linking = l; links_input = links; definitions = ds; format = is; meets = meets }
+says input l bytes (Finding kind offset) links h = h
+
+module _ (input : Input) (l : Linking) (links : IsLinkingOf input l) (plain : AsksBeyond input → ⊥) where
+  pub judged : (bytes : List ℕ) (verdict : Verdict) → Says l bytes verdict → IsLinkable l → IsJudged input bytes verdict
+  judged bytes verdict h linkable = record { linking = l; ready = record { links_input = links; plain = plain; linkable = linkable }; says = says input l bytes verdict links h }
+
+  pub listed : (found : List LinkValue) → AreLinks l found → IsLinkable l → IsLinkTable input found
+  listed found h linkable = record { linking = l; ready = record { links_input = links; plain = plain; linkable = linkable }; links = h }

@@ -1,0 +1,67 @@
+-- The headline: what `Session::links`, `Session::build` and `audit` say of an input. To be read from the top; Refusals.antt has why they
+-- refuse.
+--
+-- An input (Input.antt) is packages of WIT texts, a chosen world, a main module and options. It links the world's functions with the core
+-- imports and exports of the module: the link table (in wit_component, Table.antt) has one entry for each, and its lines are what `links`
+-- shows. The bytes of a component are a list of definitions by the grammar of components (in known_definitions, Component.antt). What their
+-- indices stand for is one fold over the list (in wit_component, Meaning.antt), and what has to hold of that is one condition for each kind
+-- of finding (there, Right.antt).
+use Rattle.std.specs.Prelude.{◌≡◌, ℕ, ◌≤◌, List, length, map}
+use Rattle.known_definitions.specs.Definition.{DefinitionValue}
+use Rattle.known_definitions.specs.Component.{IsComponent}
+use Rattle.wit_component.specs.Linking.{Linking}
+use Rattle.wit_component.specs.Line.{LinkValue}
+use Rattle.wit_component.specs.Links.{AreLinks}
+use Rattle.wit_component.specs.Table.{needed}
+use Rattle.wit_component.specs.Meaning.{meaning}
+use Rattle.wit_component.specs.Right.{MeetsAll, listed}
+use Rattle.wit_component.specs.Cause.{IsTooLarge}
+use Rattle.component_audit.specs.declared.verdict.Verdict.{Verdict}
+use Rattle.component_audit.specs.declared.verdict.Verdict.TheVariants.{Yes, Finding}
+use Rattle.component_audit.specs.Judged.{IsFinding}
+use Rattle.component_session.specs.Input.{Input, IsLinkingOf}
+use Rattle.component_session.specs.Refusals.{IsReady}
+
+-- ---- right for the input (Component Model Binary; Component Model, Explainer, Component Definitions)
+
+-- the bytes are a component (F1), and the condition of each other kind of finding holds of what its definitions stand for: it imports what
+-- links need and nothing that the world doesn't list (F2), exports what the world does (F3), instantiates the module once (F4), and each
+-- core import and each export ends as its entry of the link table says (F5)
+pub record IsRight (input : Input) (bytes : List ℕ) : Type 0 where
+  pub linking : Linking
+  pub links_input : IsLinkingOf input linking
+  pub definitions : List DefinitionValue
+  pub format : IsComponent bytes definitions
+  pub meets : MeetsAll linking (meaning linking.main definitions)
+
+-- ---- `links`
+
+-- nothing stands in the way, and these are the lines of the input's link table, in order
+pub record IsLinkTable (input : Input) (found : List LinkValue) : Type 0 where
+  pub linking : Linking
+  pub ready : IsReady input linking
+  pub links : AreLinks linking found
+
+-- ---- `build`
+
+-- nothing stands in the way, and the bytes are right for the input; however they are read, they import exactly what links need, in the
+-- order of the world
+pub record IsBuilt (input : Input) (bytes : List ℕ) : Type 0 where
+  pub linking : Linking
+  pub ready : IsReady input linking
+  pub fits : IsTooLarge linking → ⊥
+  pub right : IsRight input bytes
+  pub imports : (ds : List DefinitionValue) → IsComponent bytes ds → (meaning linking.main ds).imports ≡ map listed (needed linking)
+
+-- ---- `audit`
+
+-- yes is said of bytes that are right for the input, and a finding names a condition that fails of them, and a place in them
+abbrev pub IsVerdict : Input → Linking → List ℕ → Verdict → Type 0
+IsVerdict input l bytes Yes = IsRight input bytes
+IsVerdict input l bytes (Finding kind offset) = (offset ≤ length bytes) × IsFinding l bytes kind offset
+
+-- nothing stands in the way, and this is a verdict on the bytes
+pub record IsJudged (input : Input) (bytes : List ℕ) (verdict : Verdict) : Type 0 where
+  pub linking : Linking
+  pub ready : IsReady input linking
+  pub says : IsVerdict input linking bytes verdict
