@@ -1,0 +1,4 @@
+pub mod Capped
+pub mod Agreeing
+pub mod Signing
+pub mod Gathering

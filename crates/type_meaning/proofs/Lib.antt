@@ -1,0 +1,3 @@
+pub mod TreeLaws
+pub mod Labels
+pub mod Used

@@ -1,0 +1,6 @@
+pub mod Tree
+pub mod Words
+pub mod Syntax
+pub mod Items
+pub mod Scope
+pub mod Wit

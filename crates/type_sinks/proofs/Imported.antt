@@ -1,0 +1,234 @@
+-- An instance that is imported has the types that its type exports, in the words of the root.
+use Rattle.std.proofs.Common.{◌≡◌, ℕ, ◌<◌, List, [], ◌∷◌, ◌++◌, length, map, get_or, Option, Some, None, refl, sym, ap, subst, ◌∙◌, inl, inr, append_assoc}
+use Rattle.std.specs.Prelude.{nat_eq, bytes_eq, String, string_bytes}
+use Rattle.std.specs.declared.alloc.Global.{Global}
+use Rattle.std.proofs.lemmas.List.{append-nil, get_or-map}
+use Rattle.std.proofs.lemmas.List.Sums.{fold-append}
+use Rattle.std.proofs.lemmas.Bool.{cases_Bool, eqb-true}
+use Rattle.component_definitions.specs.declared.externs.Description.TheVariants as descriptions
+use Rattle.component_instances.specs.Declarators.{DeclaratorValue}
+use Rattle.component_instances.specs.TypeDefinitions.{of_instance}
+use Rattle.component_entries.specs.Entries.{EntryValue, an_import}
+use Rattle.component_entries.specs.Entries as entries
+use Rattle.wit_types.specs.declared.kind.«Type».{«Type» as Ref}
+use Rattle.wit_types.specs.declared.kind.«Type».TheVariants.{Id}
+use Rattle.wit_types.specs.declared.kind.TypeDefKind.{TypeDefKind}
+use Rattle.wit_types.specs.declared.function.Param.{Param}
+use Rattle.wit_types.specs.declared.interface.TypeDef.{TypeDef}
+use Rattle.wit_types.specs.declared.interface.TypeOwner.{TypeOwner}
+use Rattle.wit_types.specs.declared.interface.TypeOwner.TheVariants as belongs
+use Rattle.type_meaning.specs.Tree.{Parts, named, resource, of, none, gap, part, put, put_parts}
+use Rattle.type_meaning.specs.Words.{itself, imported, Label, Resource, BinaryTree, moved}
+use Rattle.type_meaning.specs.Items.{Item, Items, no_items, and_item, a_type, from_import, a_function, an_instance_type, item_at, item_named, items_of, is_value, put_item, put_items, new_resource, instance_import, instance_type, Inside as TheInside, inside_of}
+use Rattle.type_meaning.specs.Scope.{Scope, no_scope, after, meaning}
+use Rattle.type_sinks.specs.declared.root.Root.{Root}
+use Rattle.type_sinks.specs.declared.inside.InterfaceTypes.{InterfaceTypes}
+use Rattle.type_sinks.specs.Unfolding.{OwnName, WitTree, under_name, Unfolds, unfolds_primitive, unfolds_type, KindUnfolds, unfolds_form, unfolds_alias, PartsUnfold, no_parts, gap_unfolds, part_unfolds}
+use Rattle.type_sinks.specs.Writing.{written, written_parts, Begins}
+use Rattle.type_sinks.specs.Root.{InterfaceNames, root_label, IsHome, RootGood}
+use Rattle.type_sinks.specs.Inside.{inside_label, IsExported, InsideGood}
+use Rattle.type_sinks.specs.Functions.{function_form}
+use Rattle.type_sinks.specs.Kept.{AreKept}
+use Rattle.type_sinks.specs.Views.{entry_values, root_scope, interface_names, RootIsGood, IsAdded, IsImported, declarator_values, inside, HasFunction, InstanceHasFunction}
+use Rattle.type_sinks.proofs.Standing.{new_item}
+use Rattle.type_sinks.proofs.Rooted.{instances_added, good_keeps}
+use Rattle.type_sinks.proofs.Keeping.{each_keeps, kept_cases}
+
+-- ---- no resource is in a tree of a type
+
+abbrev mutual
+  IsPlain : WitTree → Type 0
+  IsPlain (named o t) = IsPlain t
+  IsPlain (resource o) = ⊥
+  IsPlain (of form ps) = ArePlain ps
+
+  ArePlain : Parts OwnName OwnName → Type 0
+  ArePlain none = Unit {0}
+  ArePlain (gap ps) = ArePlain ps
+  ArePlain (part t ps) = IsPlain t × ArePlain ps
+
+under_plain : (owner : TypeOwner) (n : Option (String Global)) (t : WitTree) → IsPlain t → IsPlain (under_name owner n t)
+under_plain owner None t h = h
+under_plain owner (Some x) t h = h
+
+mutual
+  unfolds_plain : (types : List TypeDef) (r : Ref) (t : WitTree) → Unfolds types r t → IsPlain t
+  unfolds_plain types r t (unfolds_primitive s k h) = tt
+  unfolds_plain types r t (unfolds_type id d u at k) = under_plain d.owner d.name u (kind_plain types d.kind u k)
+
+  kind_plain : (types : List TypeDef) (k : TypeDefKind) (t : WitTree) → KindUnfolds types k t → IsPlain t
+  kind_plain types k t (unfolds_form l f ts h ps) = parts_plain types f.parts ts ps
+  kind_plain types k t (unfolds_alias r u h) = unfolds_plain types r u h
+
+  parts_plain : (types : List TypeDef) (rs : List (Option Ref)) (ts : Parts OwnName OwnName) → PartsUnfold types rs ts → ArePlain ts
+  parts_plain types rs ts no_parts = tt
+  parts_plain types rs ts (gap_unfolds qs us h) = parts_plain types qs us h
+  parts_plain types rs ts (part_unfolds r t qs us h hs) = (unfolds_plain types r t h, parts_plain types qs us hs)
+
+-- ---- imported, the types of the instance are written as the root writes them
+
+module _ (names : InterfaceNames) (own : ℕ) where
+  moved_at : (owner : TypeOwner) (n : List ℕ) → moved itself (imported (get_or names own [])) (inside_label names own (record { owner = owner; name = n })) ≡ root_label names (record { owner = owner; name = n })
+  moved_at (belongs.World w) n = refl
+  moved_at (belongs.Interface i) n = elim (cases_Bool (nat_eq i own)) [
+    | inl b ↦ rw b (ap (λ (j : ℕ). let l : Label = record { site = imported (get_or names j []); name = n } in l) (sym (eqb-true i own b)))
+    | inr b ↦ rw b refl
+  ]
+  moved_at belongs.None n = refl
+
+  mutual
+    pub moved_written : (t : WitTree) → IsPlain t → put (moved itself (imported (get_or names own []))) (new_resource (get_or names own [])) (written (inside_label names own) t) ≡ written (root_label names) t
+    moved_written (named o t) h =
+        let e = moved_at o.owner o.name in
+        let f = moved_written t h in
+        λ i. named (e i) (f i)
+    moved_written (resource o) h = absurd h
+    moved_written (of form ps) h = ap (of form) (moved_written_parts ps h)
+
+    moved_written_parts : (ps : Parts OwnName OwnName) → ArePlain ps → put_parts (moved itself (imported (get_or names own []))) (new_resource (get_or names own [])) (written_parts (inside_label names own) ps) ≡ written_parts (root_label names) ps
+    moved_written_parts none h = refl
+    moved_written_parts (gap ps) h = ap gap (moved_written_parts ps h)
+    moved_written_parts (part t ps) h =
+        let e = moved_written t h.0 in
+        let f = moved_written_parts ps h.1 in
+        λ i. part (e i) (f i)
+
+-- an item keeps its name
+put_named : (f : Label → Label) (g : Resource → BinaryTree) (n : List ℕ) (is : Items) → item_named n (put_items f g is) ≡ put_item f g (item_named n is)
+put_named f g n no_items = refl
+put_named f g n (and_item m i more) = elim (cases_Bool (bytes_eq n m)) [
+  | inl e ↦ rw e refl
+  | inr e ↦ rw e (put_named f g n more)
+]
+
+value_written : (l m : OwnName → Label) (t : WitTree) → is_value (written l t) ≡ is_value (written m t)
+value_written l m (named o t) = value_written l m t
+value_written l m (resource o) = refl
+value_written l m (of form ps) = refl
+
+-- what is exported has a home
+exported_home : (names : InterfaceNames) (own : ℕ) (types : List TypeDef) (s : TheInside) (id k : ℕ) (instances : List Item)
+    → item_at instances k ≡ instance_import (get_or names own []) (an_instance_type (items_of s.items)) → IsExported names own types s id → IsHome names types instances id k
+exported_home names own types s id k instances is h =
+    let n = get_or names own [] in
+    let f = moved itself (imported n) in
+    let g = new_resource n in
+    record {
+      def = h.def;
+      there = h.there;
+      name = h.name;
+      named = h.named;
+      site = imported n;
+      items = put_items f g (items_of s.items);
+      is = is;
+      tree = h.tree;
+      unfolds = h.unfolds;
+      has = put_named f g (string_bytes h.name) (items_of s.items) ∙ ap (put_item f g) h.has ∙ ap a_type (moved_written names own h.tree (unfolds_plain types (Id id) h.tree h.unfolds));
+      value = value_written (root_label names) (inside_label names own) h.tree ∙ h.value;
+    }
+
+-- ---- the two entries
+
+meaning_both : (es : List EntryValue) (d e : EntryValue) → meaning (es ++ d ∷ e ∷ []) ≡ after (after (meaning es) d) e
+unfolding meaning
+meaning_both es d e = fold-append after no_scope es (d ∷ e ∷ [])
+
+abbrev both : Scope → List ℕ → List DeclaratorValue → Scope
+both s n ds = after (after s (entries.a_type (of_instance ds))) (an_import (record { name = n; description = descriptions.Instance (length s.types) }))
+
+scope_both : (old new : Root) (own : ℕ) (ds : List DeclaratorValue) (ids : List ℕ) → IsImported old new own ds ids → root_scope new ≡ both (root_scope old) (get_or (interface_names old) own []) ds
+scope_both old new own ds ids a =
+    ap meaning a.entries ∙ meaning_both (entry_values old) (entries.a_type (of_instance ds)) (an_import (record { name = get_or (interface_names old) own []; description = descriptions.Instance (length (root_scope old).types) }))
+
+both_types : (s : Scope) (n : List ℕ) (ds : List DeclaratorValue) → (both s n ds).types ≡ s.types ++ instance_type (s.types ∷ []) ds ∷ []
+both_types s n ds = append-nil _
+
+both_instances : (s : Scope) (n : List ℕ) (ds : List DeclaratorValue) → (both s n ds).instances ≡ s.instances ++ instance_import n (instance_type (s.types ∷ []) ds) ∷ []
+both_instances s n ds =
+    ap (λ l. l ++ instance_import n (item_at (s.types ++ instance_type (s.types ∷ []) ds ∷ []) (length s.types)) ∷ []) (append-nil s.instances)
+    ∙ ap (λ x. s.instances ++ instance_import n x ∷ []) (new_item s.types (instance_type (s.types ∷ []) ds))
+
+pub import_types : (old new : Root) (own : ℕ) (ds : List DeclaratorValue) (ids : List ℕ) → IsImported old new own ds ids → Begins (root_scope old).types (root_scope new).types
+import_types old new own ds ids a = (_, ap (λ (s : Scope). s.types) (scope_both old new own ds ids a) ∙ both_types (root_scope old) (get_or (interface_names old) own []) ds)
+
+pub import_instances : (old new : Root) (own : ℕ) (ds : List DeclaratorValue) (ids : List ℕ) → IsImported old new own ds ids → Begins (root_scope old).instances (root_scope new).instances
+import_instances old new own ds ids a = (_, ap (λ (s : Scope). s.instances) (scope_both old new own ds ids a) ∙ both_instances (root_scope old) (get_or (interface_names old) own []) ds)
+
+pub instance_at : (old new : Root) (own : ℕ) (ds : List DeclaratorValue) (ids : List ℕ) → IsImported old new own ds ids
+    → item_at (root_scope new).instances (length (root_scope old).instances) ≡ instance_import (get_or (interface_names old) own []) (instance_type ((root_scope old).types ∷ []) ds)
+instance_at old new own ds ids a =
+    let n = get_or (interface_names old) own [] in
+    let k = length (root_scope old).instances in
+    let made = instance_import n (instance_type ((root_scope old).types ∷ []) ds) in
+    ap (λ (q : Scope). item_at q.instances k) (scope_both old new own ds ids a) ∙ ap (λ l. item_at l k) (both_instances (root_scope old) n ds) ∙ new_item (root_scope old).instances made
+
+-- the instance has the functions of its type
+pub import_function : (old : InterfaceTypes) (new : Root) (ids : List ℕ) (types : List TypeDef) (name : List ℕ) (params : List Param) (result : Option Ref)
+    → IsImported old.root new old.interface (declarator_values old) ids → HasFunction old types name params result → InstanceHasFunction new (length (root_scope old.root).instances) types name params result
+import_function old new ids types name params result a h =
+    let names = interface_names old.root in
+    let own = old.interface in
+    let n = get_or names own [] in
+    let f = moved itself (imported n) in
+    let g = new_resource n in
+    let items = items_of (inside old).items in
+    let u = h.unfolds in
+    let from = from_import (record { site = imported n; name = name }) in
+    let plain : IsPlain h.tree = subst IsPlain (sym u.is) (parts_plain types (function_form params result).parts u.parts u.unfolds) in
+    record {
+      site = imported n;
+      items = put_items f g items;
+      is = instance_at old.root new own (declarator_values old) ids a;
+      tree = h.tree;
+      unfolds = u;
+      has = put_named f g name items ∙ ap (put_item f g) h.has ∙ ap (a_function from) (moved_written names own h.tree plain) ∙ ap (λ m. a_function from (written (root_label m) h.tree)) (sym a.names);
+    }
+
+-- each type that is exported may be taken from the instance, and what is remembered stays so
+pub import_good : (old new : Root) (own : ℕ) (known : List (Option ℕ)) (exports : List ℕ) (ds : List DeclaratorValue) (types : List TypeDef)
+    → IsImported old new own ds exports → InsideGood (interface_names old) old.known.items old.homes.items (root_scope old) known exports ds own types → RootIsGood new types
+import_good old new own known exports ds types a g =
+    let names = interface_names old in
+    let around = (root_scope old).types in
+    let s = inside_of (around ∷ []) ds in
+    let k = length (root_scope old).instances in
+    let instances = (root_scope new).instances in
+    let grown = good_keeps names old.known.items old.homes.items (root_scope old) (root_scope new) types (import_types old new own ds exports a) (import_instances old new own ds exports a) g.root in
+    let item = instance_at old new own ds exports a in
+    let homes = each_keeps (IsExported names own types s) (λ id. IsHome names types instances id k) exports (λ id. exported_home names own types s id k instances item) g.exported in
+    let good : RootGood names old.known.items new.homes.items (root_scope new) types = record {
+      ids = grown.ids;
+      instances = λ id j h. kept_cases (IsHome names types instances) old.homes.items new.homes.items exports k id j a.homes h homes (grown.instances id);
+    } in
+    subst (λ m. RootGood m new.known.items new.homes.items (root_scope new) types) (sym a.names) (subst (λ l. RootGood names l new.homes.items (root_scope new) types) (sym a.known) good)
+
+-- ---- as the code does it
+
+pub name_at : (names : List (String Global)) (own i : ℕ) (x : String Global) → i ≡ own → i < length names → x ≡ get_or names i x → get_or (map string_bytes names) own [] ≡ string_bytes x
+name_at names own i x e lt here = ap (λ k. get_or (map string_bytes names) k []) (sym e) ∙ get_or-map string_bytes names i x [] lt ∙ ap string_bytes (sym here)
+
+-- what is imported, before the homes are put down
+pub record IsWritten (old last : Root) (interface : ℕ) (ds : List DeclaratorValue) (ids : List ℕ) (homes : List (Option ℕ)) : Type 0 where
+  pub entries : entry_values last ≡ entry_values old ++ entries.a_type (of_instance ds) ∷ an_import (record { name = get_or (interface_names old) interface []; description = descriptions.Instance (length (root_scope old).types) }) ∷ []
+  pub names : interface_names last ≡ interface_names old
+  pub known : last.known.items ≡ old.known.items
+  pub kept : AreKept old.homes.items homes ids (length (root_scope old).instances)
+
+pub written_by : (old mid last : Root) (own : ℕ) (ds : List DeclaratorValue) (ids : List ℕ) (n : List ℕ) (ty instance : ℕ) (start homes : List (Option ℕ))
+    → ty ≡ length (root_scope old).types → IsAdded old mid (entries.a_type (of_instance ds))
+    → instance ≡ length (root_scope mid).instances → IsAdded mid last (an_import (record { name = n; description = descriptions.Instance ty }))
+    → get_or (interface_names old) own [] ≡ n → start ≡ last.homes.items → AreKept start homes ids instance → IsWritten old last own ds ids homes
+written_by old mid last own ds ids n ty instance start homes index a place b name from kept =
+    let d = entries.a_type (of_instance ds) in
+    let import_of : List ℕ → ℕ → EntryValue = λ m i. an_import (record { name = m; description = descriptions.Instance i }) in
+    let e = import_of n ty in
+    let f = import_of (get_or (interface_names old) own []) (length (root_scope old).types) in
+    let same : e ≡ f = ap (λ m. import_of m ty) (sym name) ∙ ap (import_of (get_or (interface_names old) own [])) index in
+    let at : instance ≡ length (root_scope old).instances = place ∙ ap length (instances_added old mid d a ∙ append-nil (root_scope old).instances) in
+    let before : start ≡ old.homes.items = from ∙ b.homes ∙ a.homes in
+    record {
+      entries = b.entries ∙ ap (λ l. l ++ e ∷ []) a.entries ∙ append_assoc (entry_values old) (d ∷ []) (e ∷ []) ∙ ap (λ x. entry_values old ++ d ∷ x ∷ []) same;
+      names = b.names ∙ a.names;
+      known = b.known ∙ a.known;
+      kept = subst (λ l. AreKept l homes ids (length (root_scope old).instances)) before (subst (AreKept start homes ids) at kept);
+    }

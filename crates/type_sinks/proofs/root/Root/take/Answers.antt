@@ -1,0 +1,31 @@
+use Rattle.std.proofs.Common.{ap, subst, sym, ◌∙◌}
+use Rattle.std.specs.Prelude.{slice_get}
+use Rattle.std.proofs.lemmas.Result.{IfOk-weaker}
+use Rattle.component_value_types.specs.declared.values.ValueType.TheVariants.{Index}
+use Rattle.component_definitions.specs.declared.sorts.ComponentSort.TheVariants as sorts
+use Rattle.component_definitions.specs.Aliases.{instance_export}
+use Rattle.component_entries.specs.Entries.{an_alias}
+use Rattle.wit_types.specs.declared.kind.«Type».TheVariants.{Id}
+use Rattle.type_meaning.specs.Scope.{adds}
+use Rattle.type_sinks.specs.Root.{root_label}
+use Rattle.type_sinks.specs.Writing.{Stands}
+use Rattle.type_sinks.specs.Views.{root_scope, interface_names}
+use Rattle.type_sinks.proofs.Rooted.{types_added, root_keeps, alias_stands}
+use Rattle.type_sinks.proofs.root.Root.take.Goals as goal
+
+pub returns-clause-ok : goal.returns-clause-ok
+returns-clause-ok c =
+    let old = c.args.self.now in
+    let new = c.add_type.new.self in
+    let k = c.in_ok-instance.instance in
+    let n = c.args.name.now in
+    let e = an_alias (instance_export sorts.Type_ k n) in
+    let home = ap (λ l. slice_get l c.args.id) (sym c.deref.ensures.value) ∙ (rw c.in_ok-instance.ensures.ok_part at c.recall.ensures.some) in
+    IfOk-weaker c.add_type.result _ _ (λ i h. record {
+      names = h.1.names;
+      begins = ((adds (root_scope old) e).types, types_added old new e h.1);
+      good = λ types. root_keeps old new e types h.1;
+      stands = λ types d g at w.
+          subst (λ m. Stands (root_label m) types (root_scope new).types (Id c.args.id) (Index i)) (sym h.1.names)
+          (alias_stands (interface_names old) types (root_scope old) (root_scope new) k c.args.id i d n (g.instances c.args.id k home) at w h.0 (types_added old new e h.1));
+    }) c.add_type.ensures.ok

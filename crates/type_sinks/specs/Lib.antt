@@ -1,0 +1,9 @@
+pub mod Unfolding
+pub mod Writing
+pub mod Root
+pub mod Inside
+pub mod Kept
+pub mod Views
+pub mod Functions
+pub mod Refusals
+pub mod Texts

@@ -1,0 +1,86 @@
+-- What stands in a space of types for the types of an arena.
+use Rattle.std.specs.Prelude.{◌≡◌, ℕ, List, [], ◌∷◌, ◌++◌, slice_get, Option, Some, None, Bool, true, false, String, string_bytes}
+use Rattle.std.specs.declared.alloc.Global.{Global}
+use Rattle.wit_types.specs.declared.kind.«Type».{«Type» as Ref}
+use Rattle.wit_types.specs.declared.kind.TypeDefKind.{TypeDefKind}
+use Rattle.wit_types.specs.declared.interface.TypeDef.{TypeDef}
+use Rattle.component_value_types.specs.declared.values.ValueType.{ValueType}
+use Rattle.component_value_types.specs.declared.values.ValueType.TheVariants.{Index}
+use Rattle.component_value_types.specs.Types.{DefinedTypeValue}
+use Rattle.type_meaning.specs.Tree.{Parts, named, resource, put, put_parts, record_kind}
+use Rattle.type_meaning.specs.Words.{Site, root_import, itself, imported, root_export, exported, Label, Resource, imported_as, its_own, BinaryTree}
+use Rattle.type_meaning.specs.Items.{Item, part_tree, is_function_kind, is_handle_kind}
+use Rattle.type_meaning.specs.Syntax.{syntax_of}
+use Rattle.type_sinks.specs.Unfolding.{OwnName, WitTree, FormOf, form_of, Unfolds, KindUnfolds}
+
+-- ---- trees in the words of the bytes
+
+-- in the type of an instance a resource is its own, elsewhere it is imported
+abbrev pub resource_at : Site → Label → Resource
+resource_at itself l = its_own l.name
+resource_at _ l = imported_as l
+
+abbrev pub resource_of : Label → Resource
+resource_of l = resource_at l.site l
+
+-- a resource stands under its own name
+abbrev pub own_resource : Label → BinaryTree
+own_resource l = named l (resource (resource_of l))
+
+abbrev pub written : (OwnName → Label) → WitTree → BinaryTree
+written label = put label (λ r. own_resource (label r))
+
+abbrev pub written_parts : (OwnName → Label) → Parts OwnName OwnName → Parts Label Resource
+written_parts label = put_parts label (λ r. own_resource (label r))
+
+-- ---- what stands for a type
+
+-- what a value type is in a space
+abbrev pub value_tree : List Item → ValueType → Option BinaryTree
+value_tree space v = part_tree record_kind space v
+
+-- it stands for the tree of the type
+abbrev pub Stands : (OwnName → Label) → List TypeDef → List Item → Ref → ValueType → Type 0
+Stands label types space r v = (t : WitTree) × Unfolds types r t × (value_tree space v ≡ Some (written label t))
+
+abbrev pub PartStands : (OwnName → Label) → List TypeDef → List Item → Option Ref → Option ValueType → Type 0
+PartStands label types space None None = Unit {0}
+PartStands label types space None (Some v) = ⊥
+PartStands label types space (Some r) None = ⊥
+PartStands label types space (Some r) (Some v) = Stands label types space r v
+
+-- and so does each part
+abbrev pub PartsStand : (OwnName → Label) → List TypeDef → List Item → List (Option Ref) → List (Option ValueType) → Type 0
+PartsStand label types space [] [] = Unit {0}
+PartsStand label types space [] (v ∷ vs) = ⊥
+PartsStand label types space (r ∷ rs) [] = ⊥
+PartsStand label types space (r ∷ rs) (v ∷ vs) = PartStands label types space r v × PartsStand label types space rs vs
+
+-- a type that is defined has the form of the kind, over parts that stand for its parts
+pub record IsDefinedAs (label : OwnName → Label) (types : List TypeDef) (space : List Item) (k : TypeDefKind) (d : DefinedTypeValue) : Type 0 where
+  pub form : FormOf
+  pub is : form_of k ≡ Some form
+  pub same : (syntax_of d).form ≡ form.form
+  pub parts : PartsStand label types space form.parts (syntax_of d).parts
+  pub values : is_function_kind form.form.kind ≡ false
+  pub no_handle : is_handle_kind form.form.kind ≡ false
+
+-- an index stands for a kind, which isn't under the name of its type yet
+abbrev pub KindStands : (OwnName → Label) → List TypeDef → List Item → TypeDefKind → ℕ → Type 0
+KindStands label types space k i = (t : WitTree) × KindUnfolds types k t × (value_tree space (Index i) ≡ Some (written label t))
+
+-- one list is the beginning of the other
+abbrev pub Begins : {X : Type 0} → List X → List X → Type 0
+Begins {X} xs ys = (more : List X) × (ys ≡ xs ++ more)
+
+-- what is written has names of its own at the root, and inside an instance type those of the type
+abbrev pub is_own_site : Site → Bool
+is_own_site root_import = true
+is_own_site itself = true
+is_own_site root_export = false
+is_own_site (imported n) = false
+is_own_site (exported n) = false
+
+-- the type has been given its name, if it has one of its own here
+abbrev pub HasItsName : (OwnName → Label) → List TypeDef → (ℕ → Type 0) → ℕ → Type 0
+HasItsName label types given id = (d : TypeDef) (x : String Global) → slice_get types id ≡ Some d → d.name ≡ Some x → is_own_site (label (record { owner = d.owner; name = string_bytes x })).site ≡ true → given id

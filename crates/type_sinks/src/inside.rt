@@ -1,0 +1,232 @@
+//! The type of the instance that is imported for an interface.
+
+ghost use Rattle.std.specs.Prelude.{◌≡◌, ◌++◌, ◌∷◌, [], ℕ, List, Option, Some, true, slice_get, length, map, IfOk, IfErr, OnOk, OnErr};
+ghost use Rattle.component_definitions.specs.declared.externs.Description.TheVariants as descriptions;
+ghost use Rattle.distinct_names.specs.Names.{is_new};
+ghost use Rattle.component_instances.specs.Declarators.{declarator_value, declared_export};
+ghost use Rattle.wit_types.specs.declared.function.Param.{Param as Parameter};
+ghost use Rattle.wit_types.specs.declared.kind.«Type».{«Type» as Ref};
+ghost use Rattle.wit_types.specs.declared.interface.TypeDef.{TypeDef as Def};
+ghost use Rattle.type_sinks.specs.Inside.{declares, type_count, exported_name, exported_names, is_of, inside_label, OthersAreApart};
+
+use crate::encoder::ValtypeEncoder;
+use crate::fault::Fault;
+use crate::functions::function_of;
+use crate::kept::{keep, nothing, recall};
+use crate::root::Root;
+use component_definitions::{Alias, Description};
+use component_instances::Declarator;
+use component_value_types::DefinedType;
+use distinct_names::Names;
+use std::alloc::Global;
+use wit_types::{InterfaceId, Param, Type, TypeId, TypeOwner};
+
+/// The type of an interface's instance while it is written, over the root of the component: the interface's own types are exports that
+/// equal them, those of other interfaces aliases of what the root has (Component Model, Explainer, Import and Export Definitions).
+#[derive(Drop)]
+pub struct InterfaceTypes<'s> {
+    root: Root<'s>,
+    interface: InterfaceId,
+    /// What is written, in order.
+    declarators: Vec<Declarator<'s>>,
+    types: u32,
+    /// The index of each type that is written, by its id.
+    known: Vec<Option<u32>>,
+    /// The types that are exported.
+    exports: Vec<TypeId>,
+    /// The names of what is exported.
+    exported: Names<'s>,
+    ghost counted: { types ≡ type_count (map declarator_value declarators.items) },
+    ghost named: { exported ≡ exported_names (map declarator_value declarators.items) },
+}
+
+/// Exports something. Answers `NotYet` where the name is there already, and `OutOfMemory` where memory is wanting: then nothing is
+/// exported.
+fn export<'s>(
+    declarators: &mut Vec<Declarator<'s>>,
+    exported: &mut Names<'s>,
+    name: &'s str,
+    description: Description,
+) -> Result<(), Fault>
+    ensures new { IfOk result (λ _. is_new exported.old name.entry.now ≡ true) }
+    ensures name { IfOk result (λ _. exported.new ≡ exported.old ++ name.entry.now ∷ []) }
+    ensures declarator { IfOk result (λ _. map declarator_value declarators.new.items ≡ map declarator_value declarators.old.items ++ declared_export name.entry.now description ∷ []) }
+    ensures err { OnErr result ((exported.new ≡ exported.old) × (declarators.new.items ≡ declarators.old.items)) }
+{
+    if !exported.is_new(name) {
+        return Err(Fault::NotYet);
+    }
+    declarators.reserve(1)?;
+    exported.add(name)?;
+    declarators.push_reserved(Declarator::Export { name, description });
+    Ok(())
+}
+
+impl<'s> InterfaceTypes<'s> {
+    ghost use Rattle.type_sinks.specs.Views.{root_scope, interface_names, RootIsGood, declarator_values, inside, InsideIsGood, IsGiven, IsSameInside, IsDeclared, IsImported, HasFunction, InstanceHasFunction};
+    ghost use Rattle.type_sinks.specs.Writing.{Begins};
+    ghost use Rattle.type_sinks.specs.Refusals.{IsFull};
+
+    /// The type of the instance of an interface, where nothing is written, over a root. Answers `OutOfMemory` where memory is wanting.
+    pub fn new(
+        alloc: Global,
+        root: Root<'s>,
+        interface: InterfaceId,
+    ) -> Result<InterfaceTypes<'s>, Fault>
+        ensures root { IfOk result (λ t. t.root ≡ root.entry) }
+        ensures interface { IfOk result (λ t. t.interface ≡ interface) }
+        ensures declarators { IfOk result (λ t. declarator_values t ≡ []) }
+        ensures good { IfOk result (λ t. (types : List Def) → RootIsGood root.entry types → OthersAreApart interface types → InsideIsGood t types) }
+    {
+        let types = root.type_count();
+        Ok(InterfaceTypes {
+            root,
+            interface,
+            declarators: Vec::new(alloc),
+            types: 0,
+            known: nothing(alloc, types)?,
+            exports: Vec::new(alloc),
+            exported: Names::new(alloc),
+        })
+    }
+
+    /// Imports the instance at the root, under the interface's name, with which the root answers; the types that are exported may be
+    /// taken from it. Answers `NotYet` where the interface has no name, `TooLarge` where 32 bits can't say an index, and `OutOfMemory`
+    /// where memory is wanting.
+    pub fn import(self) -> Result<Root<'s>, Fault>
+        ensures imported { IfOk result (λ r. IsImported self.entry.root r self.entry.interface (declarator_values self.entry) self.entry.exports.items) }
+        ensures good { IfOk result (λ r. (types : List Def) → InsideIsGood self.entry types → RootIsGood r types) }
+        ensures homes { IfOk result (λ r. (id : ℕ) → IsGiven self.entry id → slice_get r.homes.items id ≡ Some (Some (length (root_scope self.entry.root).instances))) }
+        ensures begins { IfOk result (λ r. Begins (root_scope self.entry.root).types (root_scope r).types × Begins (root_scope self.entry.root).instances (root_scope r).instances) }
+        ensures functions { IfOk result (λ r. (types : List Def) (name : List ℕ) (params : List Parameter) (answer : Option Ref) → HasFunction self.entry types name params answer → InstanceHasFunction r (length (root_scope self.entry.root).instances) types name params answer) }
+    {
+        let mut root = self.root;
+        root.import_instance(self.interface, self.declarators, &self.exports)?;
+        Ok(root)
+    }
+
+    /// Whether the types of this owner are the interface's.
+    fn is_its(&self, owner: TypeOwner) -> bool
+        ensures { result ≡ is_of self.now.interface owner }
+    {
+        match owner {
+            TypeOwner::Interface(interface) => interface.index() == self.interface.index(),
+            TypeOwner::World(_) | TypeOwner::None => false,
+        }
+    }
+
+    /// Writes a declarator that exports nothing and takes the next index of a type, and answers that.
+    fn add(&mut self, declarator: Declarator<'s>) -> Result<u32, Fault>
+        requires count { declares (declarator_value declarator) ≡ 1 }
+        requires name { exported_name (declarator_value declarator) ≡ [] }
+        ensures ok { IfOk result (λ i. (i ≡ type_count (declarator_values self.old)) × IsDeclared self.old self.new (declarator_value declarator.entry) self.old.exports.items) }
+        ensures err { OnErr result (IsSameInside self.old self.new) }
+        ensures cause { IfErr result (IsFull (type_count (declarator_values self.old))) }
+        ensures exports { self.new.exports.items ≡ self.old.exports.items }
+        ensures known { self.new.known.items ≡ self.old.known.items }
+    {
+        let index = self.types;
+        let next = index.checked_add(1).ok_or(Fault::TooLarge)?;
+        self.declarators.push(declarator)?;
+        self.types = next;
+        Ok(index)
+    }
+
+    /// Exports a type of the interface, which equals the type at an index, under its own name, and answers the index of that.
+    fn export_type(&mut self, name: &'s str, id: TypeId, body: u32) -> Result<u32, Fault>
+        ensures ok { IfOk result (λ i. (i ≡ type_count (declarator_values self.old)) × (is_new (exported_names (declarator_values self.old)) name.entry.now ≡ true) × IsDeclared self.old self.new (declared_export name.entry.now (descriptions.Equal body)) (self.old.exports.items ++ id ∷ [])) }
+        ensures err { OnErr result (IsSameInside self.old self.new) }
+        ensures known { self.new.known.items ≡ self.old.known.items }
+    {
+        let index = self.types;
+        let next = index.checked_add(1).ok_or(Fault::TooLarge)?;
+        self.exports.reserve(1)?;
+        let description = Description::Equal(body);
+        export(&mut self.declarators, &mut self.exported, name, description)?;
+        self.types = next;
+        self.exports.push_reserved(id);
+        Ok(index)
+    }
+
+    /// Exports a function of the type at an index.
+    fn export_item(&mut self, name: &'s str, ty: u32) -> Result<(), Fault>
+        ensures ok { IfOk result (λ _. (is_new (exported_names (declarator_values self.old)) name.entry.now ≡ true) × IsDeclared self.old self.new (declared_export name.entry.now (descriptions.Function ty)) self.old.exports.items) }
+        ensures err { OnErr result (IsSameInside self.old self.new) }
+    {
+        let description = Description::Function(ty);
+        export(&mut self.declarators, &mut self.exported, name, description)?;
+        Ok(())
+    }
+
+    /// Exports a function with these parameters, and with this result if it has one (Component Model, Explainer, Import and Export
+    /// Definitions). Answers `NotYet` where the name is there already or a type isn't written, `TooLarge` where 32 bits can't say an
+    /// index, and `OutOfMemory` where memory is wanting.
+    pub fn export_function(
+        &mut self,
+        alloc: Global,
+        name: &'s str,
+        params: &'s [Param],
+        answer: &Option<Type>,
+    ) -> Result<(), Fault>
+        ensures label { inside_label (interface_names self.new.root) self.new.interface ≡ inside_label (interface_names self.old.root) self.old.interface }
+        ensures begins { Begins (inside self.old).types (inside self.new).types }
+        ensures good { (types : List Def) → InsideIsGood self.old types → InsideIsGood self.new types }
+        ensures has { IfOk result (λ _. (types : List Def) → InsideIsGood self.old types → HasFunction self.new types name.entry.now params.entry.now answer.now) }
+        ensures keeps { (types : List Def) (other : List ℕ) (asked : List Parameter) (given : Option Ref) → HasFunction self.old types other asked given → HasFunction self.new types other asked given }
+    {
+        let function = function_of(alloc, self, params, answer)?;
+        let ty = self.add(Declarator::Type_(DefinedType::Function(function)))?;
+        self.export_item(name, ty)
+    }
+}
+
+impl<'s> ValtypeEncoder<'s> for InterfaceTypes<'s> {
+    ghost use Rattle.type_sinks.specs.Views.{interface_names, inside, InsideIsGood, IsGiven};
+
+    ghost space = { λ t. (inside t).types };
+
+    ghost label = { λ t. inside_label (interface_names t.root) t.interface };
+
+    ghost table = { λ t. t.known.items };
+
+    ghost given = { IsGiven };
+
+    ghost good = { InsideIsGood };
+
+    fn known(&self, id: TypeId) -> Option<u32> {
+        recall(&self.known, id)
+    }
+
+    fn is_own(&self, owner: TypeOwner) -> bool {
+        match owner {
+            TypeOwner::World(_) | TypeOwner::None => true,
+            TypeOwner::Interface(_) => self.is_its(owner),
+        }
+    }
+
+    fn define(&mut self, ty: DefinedType<'s>) -> Result<u32, Fault> {
+        self.add(Declarator::Type_(ty))
+    }
+
+    fn declare(
+        &mut self,
+        owner: TypeOwner,
+        name: &'s str,
+        id: TypeId,
+        index: u32,
+    ) -> Result<u32, Fault> {
+        if !self.is_its(owner) {
+            return Err(Fault::NotYet);
+        }
+        self.export_type(name, id, index)
+    }
+
+    fn foreign(&mut self, _owner: TypeOwner, name: &'s str, id: TypeId) -> Result<u32, Fault> {
+        let index = self.root.take(name, id)?;
+        self.add(Declarator::Alias(Alias::Outer { count: 1, index }))
+    }
+
+    fn remember(&mut self, id: TypeId, index: u32) -> Result<(), Fault> {
+        keep(&mut self.known, id, index)
+    }
+}
