@@ -1,10 +1,10 @@
 -- Why what types are made of isn't there.
-use Rattle.std.proofs.Common.{◌≡◌, ◌<◌, ℕ, zero, suc, List, [], ◌∷◌, Any, Option, map, length, get_or, refl, sym, ap, subst, arith}
+use Rattle.std.proofs.Common.{◌≡◌, ◌<◌, ℕ, zero, suc, List, [], ◌∷◌, Any, Option, map, length, get_or, refl, sym, ap, subst, arith, inl, inr}
 use Rattle.wit_types.specs.declared.kind.«Type».{«Type» as Ref}
 use Rattle.type_sinks.specs.declared.fault.Fault.{Fault}
 use Rattle.type_sinks.specs.declared.fault.Fault.TheVariants as faults
 use Rattle.type_sinks.specs.declared.fault.Fault.TheVariants.{NotYet}
-use Rattle.type_sinks.specs.Refusals.{IsUnready, IsPartsCause}
+use Rattle.type_sinks.specs.Refusals.{IsUnready, IsPartsCause, IsFull, IsNameCause, IsFunctionCause}
 
 any_mapped : {X Y : Type 0} (P : Y → Type 0) (f : X → Y) (xs : List X) (i : ℕ) (x : X) → i < length xs → x ≡ get_or xs i x → P (f x) → Any P (map f xs)
 any_mapped P f [] i x lt is p = absurd (omega (arith, lt))
@@ -20,3 +20,21 @@ pub rest_cause : (table : List (Option ℕ)) (p : Option Ref) (ps : List (Option
 rest_cause table p ps faults.NotYet h = let (k, z, low, at, q) = h in (suc k, z, omega (arith, low), at, q)
 rest_cause table p ps faults.TooLarge h = h
 rest_cause table p ps faults.OutOfMemory h = h
+
+-- ---- functions
+
+module _ (table : List (Option ℕ)) (parts : List (Option Ref)) (names : List (List ℕ)) (name : List ℕ) (n : ℕ) where
+  pub parts_function : (e : Fault) → IsPartsCause table parts e → IsFunctionCause table parts names name n e
+  parts_function faults.NotYet h = inl h
+  parts_function faults.TooLarge h = absurd h
+  parts_function faults.OutOfMemory h = h
+
+  pub full_function : (e : Fault) → IsFull n e → IsFunctionCause table parts names name n e
+  full_function faults.NotYet h = absurd h
+  full_function faults.TooLarge h = h
+  full_function faults.OutOfMemory h = h
+
+  pub name_function : (e : Fault) → IsNameCause names name e → IsFunctionCause table parts names name n e
+  name_function faults.NotYet h = inr h
+  name_function faults.TooLarge h = absurd h
+  name_function faults.OutOfMemory h = h

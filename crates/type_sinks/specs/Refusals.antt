@@ -1,5 +1,6 @@
 -- Why an entry isn't written.
-use Rattle.std.specs.Prelude.{◌≡◌, ℕ, ◌+◌, ◌^◌, ◌≤◌, List, Option, None, Some, Any, slice_get}
+use Rattle.std.specs.Prelude.{◌≡◌, ◌⊎◌, ℕ, ◌+◌, ◌^◌, ◌≤◌, List, Option, None, Some, Any, slice_get, false}
+use Rattle.distinct_names.specs.Names.{is_new}
 use Rattle.wit_types.specs.declared.kind.«Type».{«Type» as Ref}
 use Rattle.wit_types.specs.declared.kind.«Type».TheVariants as refs
 use Rattle.wit_types.specs.declared.kind.TypeDefKind.{TypeDefKind}
@@ -44,3 +45,21 @@ unlabelled_form (kinds.Result r) = form_of (kinds.Result r)
 unlabelled_form (kinds.List r) = form_of (kinds.List r)
 unlabelled_form (kinds.FixedLengthList r n) = form_of (kinds.FixedLengthList r n)
 unlabelled_form _ = None
+
+-- nothing is exported under one more name: it is there already, or memory is wanting
+abbrev pub IsNameCause : List (List ℕ) → List ℕ → Fault → Type 0
+IsNameCause names name faults.NotYet = is_new names name ≡ false
+IsNameCause names name faults.TooLarge = ⊥
+IsNameCause names name faults.OutOfMemory = Unit {0}
+
+-- and for a type among so many, 32 bits can't say how many there are with it
+abbrev pub IsExportCause : List (List ℕ) → List ℕ → ℕ → Fault → Type 0
+IsExportCause names name n faults.NotYet = is_new names name ≡ false
+IsExportCause names name n faults.TooLarge = 2 ^ 32 ≤ n + 1
+IsExportCause names name n faults.OutOfMemory = Unit {0}
+
+-- no function is exported: a part of its type isn't ready, or so it is of its name, or of its type
+abbrev pub IsFunctionCause : List (Option ℕ) → List (Option Ref) → List (List ℕ) → List ℕ → ℕ → Fault → Type 0
+IsFunctionCause table parts names name n faults.NotYet = Any (IsUnready table) parts ⊎ (is_new names name ≡ false)
+IsFunctionCause table parts names name n faults.TooLarge = 2 ^ 32 ≤ n + 1
+IsFunctionCause table parts names name n faults.OutOfMemory = Unit {0}

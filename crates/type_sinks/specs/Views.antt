@@ -74,7 +74,6 @@ pub record IsImported (old new : Root) (interface : ℕ) (ds : List DeclaratorVa
 pub record AddsOneType (scope : Scope) (e : EntryValue) : Type 0 where
   pub types : length (adds scope e).types ≡ 1
   pub instances : (adds scope e).instances ≡ []
-  pub functions : (adds scope e).functions ≡ []
 
 -- ---- the type of an instance
 

@@ -8,6 +8,9 @@ ghost use Rattle.wit_types.specs.declared.function.Param.{Param as Parameter};
 ghost use Rattle.wit_types.specs.declared.kind.«Type».{«Type» as Ref};
 ghost use Rattle.wit_types.specs.declared.interface.TypeDef.{TypeDef as Def};
 ghost use Rattle.type_sinks.specs.Inside.{declares, type_count, exported_name, exported_names, is_of, inside_label, OthersAreApart};
+ghost use Rattle.type_sinks.specs.declared.fault.Fault.TheVariants.{OutOfMemory};
+ghost use Rattle.type_sinks.specs.Refusals.{IsNameCause, IsExportCause, IsFunctionCause};
+ghost use Rattle.type_sinks.specs.Functions.{function_form};
 
 use crate::encoder::ValtypeEncoder;
 use crate::fault::Fault;
@@ -52,6 +55,7 @@ fn export<'s>(
     ensures name { IfOk result (λ _. exported.new ≡ exported.old ++ name.entry.now ∷ []) }
     ensures declarator { IfOk result (λ _. map declarator_value declarators.new.items ≡ map declarator_value declarators.old.items ++ declared_export name.entry.now description ∷ []) }
     ensures err { OnErr result ((exported.new ≡ exported.old) × (declarators.new.items ≡ declarators.old.items)) }
+    ensures cause { IfErr result (IsNameCause exported.old name.entry.now) }
 {
     if !exported.is_new(name) {
         return Err(Fault::NotYet);
@@ -77,6 +81,7 @@ impl<'s> InterfaceTypes<'s> {
         ensures interface { IfOk result (λ t. t.interface ≡ interface) }
         ensures declarators { IfOk result (λ t. declarator_values t ≡ []) }
         ensures good { IfOk result (λ t. (types : List Def) → RootIsGood root.entry types → OthersAreApart interface types → InsideIsGood t types) }
+        ensures cause { IfErr result (λ e. e ≡ OutOfMemory) }
     {
         let types = root.type_count();
         Ok(InterfaceTypes {
@@ -136,6 +141,7 @@ impl<'s> InterfaceTypes<'s> {
     fn export_type(&mut self, name: &'s str, id: TypeId, body: u32) -> Result<u32, Fault>
         ensures ok { IfOk result (λ i. (i ≡ type_count (declarator_values self.old)) × (is_new (exported_names (declarator_values self.old)) name.entry.now ≡ true) × IsDeclared self.old self.new (declared_export name.entry.now (descriptions.Equal body)) (self.old.exports.items ++ id ∷ [])) }
         ensures err { OnErr result (IsSameInside self.old self.new) }
+        ensures cause { IfErr result (IsExportCause (exported_names (declarator_values self.old)) name.entry.now (type_count (declarator_values self.old))) }
         ensures known { self.new.known.items ≡ self.old.known.items }
     {
         let index = self.types;
@@ -152,6 +158,7 @@ impl<'s> InterfaceTypes<'s> {
     fn export_item(&mut self, name: &'s str, ty: u32) -> Result<(), Fault>
         ensures ok { IfOk result (λ _. (is_new (exported_names (declarator_values self.old)) name.entry.now ≡ true) × IsDeclared self.old self.new (declared_export name.entry.now (descriptions.Function ty)) self.old.exports.items) }
         ensures err { OnErr result (IsSameInside self.old self.new) }
+        ensures cause { IfErr result (IsNameCause (exported_names (declarator_values self.old)) name.entry.now) }
     {
         let description = Description::Function(ty);
         export(&mut self.declarators, &mut self.exported, name, description)?;
@@ -173,6 +180,7 @@ impl<'s> InterfaceTypes<'s> {
         ensures good { (types : List Def) → InsideIsGood self.old types → InsideIsGood self.new types }
         ensures has { IfOk result (λ _. (types : List Def) → InsideIsGood self.old types → HasFunction self.new types name.entry.now params.entry.now answer.now) }
         ensures keeps { (types : List Def) (other : List ℕ) (asked : List Parameter) (given : Option Ref) → HasFunction self.old types other asked given → HasFunction self.new types other asked given }
+        ensures cause { IfErr result (IsFunctionCause self.old.known.items (function_form params.entry.now answer.now).parts (exported_names (declarator_values self.old)) name.entry.now (type_count (declarator_values self.old))) }
     {
         let function = function_of(alloc, self, params, answer)?;
         let ty = self.add(Declarator::Type_(DefinedType::Function(function)))?;

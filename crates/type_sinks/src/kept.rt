@@ -1,6 +1,6 @@
 //! What is remembered of types, by their ids.
 
-ghost use Rattle.std.specs.Prelude.{◌≡◌, ◌≤◌, ℕ, Some, None, length, IfOk, IfErr, IfSome, IfNone, OnErr, slice_get, replicate};
+ghost use Rattle.std.specs.Prelude.{◌≡◌, ◌≤◌, ℕ, Some, None, length, Any, IfOk, IfErr, IfSome, IfNone, OnErr, slice_get, replicate};
 ghost use Rattle.type_sinks.specs.declared.fault.Fault.TheVariants.{NotYet};
 ghost use Rattle.type_sinks.specs.Kept.{IsKept, AreKept};
 
@@ -41,7 +41,8 @@ pub fn keep(kept: &mut [Option<u32>], id: TypeId, index: u32) -> Result<(), Faul
 
 /// Remembers an index of each of some types. Answers `NotYet` where there is no place for one of them.
 pub fn keep_all(kept: &mut [Option<u32>], ids: &[TypeId], index: u32) -> Result<(), Fault>
-    ensures { IfOk result (λ _. AreKept kept.old kept.new ids.now index) }
+    ensures ok { IfOk result (λ _. AreKept kept.old kept.new ids.now index) }
+    ensures cause { IfErr result (λ e. (e ≡ NotYet) × Any (λ id. length kept.old ≤ id) ids.now) }
 {
     for id in ids {
         keep(kept, *id, index)?;

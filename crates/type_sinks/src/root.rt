@@ -6,6 +6,7 @@ ghost use Rattle.component_instances.specs.Declarators.{declarator_value};
 ghost use Rattle.component_entries.specs.Entries.{entry_value, an_import};
 ghost use Rattle.wit_types.specs.declared.interface.TypeDef.{TypeDef as Def};
 ghost use Rattle.type_meaning.specs.Scope.{meaning};
+ghost use Rattle.type_sinks.specs.declared.fault.Fault.TheVariants.{OutOfMemory};
 
 use crate::encoder::ValtypeEncoder;
 use crate::fault::Fault;
@@ -25,7 +26,6 @@ pub struct Root<'s> {
     entries: Vec<Entry<'s>>,
     types: u32,
     instances: u32,
-    functions: u32,
     /// The name under which each interface is imported, by its id.
     names: &'s [String],
     /// The index of each type that is written, by its id.
@@ -34,7 +34,6 @@ pub struct Root<'s> {
     homes: Vec<Option<u32>>,
     ghost counted_types: { types ≡ length (meaning (map entry_value entries.items)).types },
     ghost counted_instances: { instances ≡ length (meaning (map entry_value entries.items)).instances },
-    ghost counted_functions: { functions ≡ length (meaning (map entry_value entries.items)).functions },
 }
 
 impl<'s> Root<'s> {
@@ -48,12 +47,12 @@ impl<'s> Root<'s> {
         ensures names { IfOk result (λ r. interface_names r ≡ map string_bytes names.entry.now) }
         ensures places { IfOk result (λ r. (length r.known.items ≡ types) × (length r.homes.items ≡ types)) }
         ensures good { IfOk result (λ r. (defs : List Def) → RootIsGood r defs) }
+        ensures cause { IfErr result (λ e. e ≡ OutOfMemory) }
     {
         Ok(Root {
             entries: Vec::new(alloc),
             types: 0,
             instances: 0,
-            functions: 0,
             names,
             known: nothing(alloc, types)?,
             homes: nothing(alloc, types)?,
@@ -107,7 +106,8 @@ impl<'s> Root<'s> {
 
     /// Imports an instance of the type at an index, and answers the index of the instance.
     fn add_instance(&mut self, name: &'s str, ty: u32) -> Result<u32, Fault>
-        ensures { IfOk result (λ i. (i ≡ length (root_scope self.old).instances) × IsAdded self.old self.new (an_import (record { name = name.entry.now; description = descriptions.Instance ty }))) }
+        ensures ok { IfOk result (λ i. (i ≡ length (root_scope self.old).instances) × IsAdded self.old self.new (an_import (record { name = name.entry.now; description = descriptions.Instance ty }))) }
+        ensures cause { IfErr result (IsFull (length (root_scope self.old).instances)) }
     {
         let index = self.instances;
         let next = index.checked_add(1).ok_or(Fault::TooLarge)?;

@@ -18,5 +18,4 @@ invariant_of-self-2 c =
     record {
       counted_types = no_more old.types _ more.types s.types (ap (λ (x : Scope). x.types) e) refl s.counted_types;
       counted_instances = one_more old.instances _ more.instances s.instances c.in_ok-next.next (ap (λ (x : Scope). x.instances) e) refl s.counted_instances n.1;
-      counted_functions = no_more old.functions _ more.functions s.functions (ap (λ (x : Scope). x.functions) e) refl s.counted_functions;
     }

@@ -16,5 +16,4 @@ invariant_of-self-2 c =
     record {
       counted_types = one_more old.types _ more.types s.types c.in_ok-next.next (ap (λ (x : Scope). x.types) e) c.requires.adds.types s.counted_types n.1;
       counted_instances = no_more old.instances _ more.instances s.instances (ap (λ (x : Scope). x.instances) e) c.requires.adds.instances s.counted_instances;
-      counted_functions = no_more old.functions _ more.functions s.functions (ap (λ (x : Scope). x.functions) e) c.requires.adds.functions s.counted_functions;
     }

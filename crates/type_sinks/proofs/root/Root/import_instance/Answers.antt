@@ -19,8 +19,8 @@ returns c =
     let found = rw c.in_ok-name.ensures.ok_part at c.get.ensures.lookup in
     let name = name_at old.names.now own c.index.result c.in_ok-name.name.now c.index.ensures found.3.0 found.1 ∙ sym c.as_str.ensures.value in
     let a = c.in_ok-ty.ensures.ok in
-    let b = c.in_ok-instance.ensures in
+    let b = c.in_ok-instance.ensures.ok in
     IfOk-weaker c.keep_all.result _ _ (λ u h.
     let w = written_by old mid last own ds ids n c.in_ok-ty.ty c.in_ok-instance.instance c.deref_mut.result.now c.keep_all.new.kept a.0 a.1 b.0 b.1 name c.deref_mut.ensures.value h in
     let same = with_items_is last.homes c.keep_all.new.kept (c.keep_all.auto.kept ∙ c.deref_mut.ensures.len) in
-    record { entries = w.entries; names = w.names; known = w.known; homes = subst (λ l. AreKept old.homes.items l ids (length (root_scope old).instances)) (sym same) w.kept }) c.keep_all.ensures
+    record { entries = w.entries; names = w.names; known = w.known; homes = subst (λ l. AreKept old.homes.items l ids (length (root_scope old).instances)) (sym same) w.kept }) c.keep_all.ensures.ok

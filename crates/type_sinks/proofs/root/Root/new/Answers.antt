@@ -9,7 +9,6 @@ invariant_of-result c =
     record {
       counted_types = ap (λ (s : Scope). length s.types) (sym e);
       counted_instances = ap (λ (s : Scope). length s.instances) (sym e);
-      counted_functions = ap (λ (s : Scope). length s.functions) (sym e);
     }
 
 pub returns-clause-good : goal.returns-clause-good
