@@ -117,7 +117,7 @@ with_retptr GuestImport indirect false ps rs = refl
 with_retptr GuestExport indirect true ps rs = refl
 with_retptr GuestExport indirect false ps rs = refl
 
-any_of_map : {X Y : Type 0} (test : Y → Bool) (f : X → Y) (xs : List X) → list_any test (map f xs) ≡ list_any (λ x. test (f x)) xs
+pub any_of_map : {X Y : Type 0} (test : Y → Bool) (f : X → Y) (xs : List X) → list_any test (map f xs) ≡ list_any (λ x. test (f x)) xs
 any_of_map test f [] = refl
 any_of_map test f (x ∷ xs) = ap (λ (b : Bool). test (f x) || b) (any_of_map test f xs)
 

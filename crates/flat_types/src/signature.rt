@@ -11,7 +11,7 @@ ghost use Rattle.flat_types.specs.View.{signature_value, required_value};
 use crate::flat::FlatTypes;
 use std::alloc::{AllocError, Global};
 use wasm_types::ValType;
-use wit_types::{AbiVariant, Function, Param};
+use wit_types::{AbiVariant, Function, Param, Type};
 
 /// As many core types parameters may be; where they would be more, they lie in memory (Canonical ABI, Flattening).
 const MOST_PARAMS: usize = 16;
@@ -190,22 +190,32 @@ impl FlatTypes {
         false
     }
 
+    /// Whether a string is in a value of this type; in none where there is no type.
+    pub fn holds_string(&self, part: Option<Type>) -> bool
+        ensures { result ≡ (spec.part_flat self.now part).holds_string }
+    {
+        self.of_part(part).holds_string
+    }
+
+    /// Whether a list whose length isn't known is in a value of this type; in none where there is no type.
+    pub fn holds_list(&self, part: Option<Type>) -> bool
+        ensures { result ≡ (spec.part_flat self.now part).holds_list }
+    {
+        self.of_part(part).holds_list
+    }
+
     /// Whether a string is in a parameter.
-    fn params_hold_string(&self, params: &[Param]) -> bool
+    pub fn params_hold_string(&self, params: &[Param]) -> bool
         ensures { result ≡ list_any (λ p. (spec.ref_flat self.now p.ty).holds_string) params.now }
     {
-        params
-            .iter()
-            .any(|param| self.of_part(Some(param.ty)).holds_string)
+        params.iter().any(|param| self.holds_string(Some(param.ty)))
     }
 
     /// Whether a list whose length isn't known is in a parameter.
-    fn params_hold_list(&self, params: &[Param]) -> bool
+    pub fn params_hold_list(&self, params: &[Param]) -> bool
         ensures { result ≡ list_any (λ p. (spec.ref_flat self.now p.ty).holds_list) params.now }
     {
-        params
-            .iter()
-            .any(|param| self.of_part(Some(param.ty)).holds_list)
+        params.iter().any(|param| self.holds_list(Some(param.ty)))
     }
 
     /// What a function over these types asks for, which a module imports or exports (Canonical ABI, canon lift and canon

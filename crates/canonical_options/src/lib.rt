@@ -1,0 +1,14 @@
+//! Options of lifts and lowers, and which of them functions over WIT types ask for.
+#![tactic(auto)]
+
+mod contents;
+mod encoding;
+mod law;
+mod options;
+mod required;
+
+pub use contents::TypeContents;
+pub use encoding::StringEncoding;
+pub use law::law_contents_are_those_of_trees;
+pub use options::{Iter, OptionFault};
+pub use required::RequiredOptions;

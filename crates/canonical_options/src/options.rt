@@ -1,0 +1,46 @@
+//! The options of a function, one by one.
+
+use crate::encoding::StringEncoding;
+use component_definitions::CanonicalOption;
+use thiserror::Error;
+
+/// Why a function can't have the options that it asks for.
+#[derive(Clone, Copy, Debug, PartialEq, Eq, Error)]
+pub enum OptionFault {
+    /// It asks for a memory, and there is none.
+    #[error("no memory")]
+    NoMemory,
+    /// It asks for a function that makes room, and there is none.
+    #[error("no realloc")]
+    NoRealloc,
+}
+
+/// The options of a function that are still to come: the memory, what makes room in it, the encoding of strings.
+#[derive(Drop)]
+pub struct Iter {
+    pub(crate) memory: Option<u32>,
+    pub(crate) realloc: Option<u32>,
+    pub(crate) encoding: Option<StringEncoding>,
+}
+
+impl Iterator for Iter {
+    type Item = CanonicalOption;
+
+    ghost use Rattle.std.specs.Iterator.{YieldsFirst, item_count};
+    ghost use Rattle.canonical_options.specs.View.{left_of};
+
+    ghost next_gives = { YieldsFirst left_of };
+
+    ghost remaining = { item_count left_of };
+
+    fn next(&mut self) -> Option<CanonicalOption> {
+        if let Some(memory) = self.memory.take() {
+            return Some(CanonicalOption::Memory(memory));
+        }
+        if let Some(realloc) = self.realloc.take() {
+            return Some(CanonicalOption::Realloc(realloc));
+        }
+        let encoding = self.encoding.take()?;
+        Some(encoding.option())
+    }
+}
