@@ -45,7 +45,7 @@ impl Flags for TypeContents {
 }
 
 impl TypeContents {
-    /// These.
+    /// The set of what is held.
     fn of(string: bool, list: bool) -> TypeContents
         ensures { contents_value result ≡ record { string = string; needs_memory = list } }
     {

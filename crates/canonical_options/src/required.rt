@@ -52,7 +52,7 @@ impl Flags for RequiredOptions {
 }
 
 impl RequiredOptions {
-    /// These.
+    /// The set of what is asked for.
     fn of(required: Required) -> RequiredOptions
         ensures { required_value result ≡ flat.required_value required }
     {
