@@ -1,4 +1,4 @@
--- What the sets and the iterator are, as values.
+-- What the sets and the iterator are, as values (Component Model, Canonical ABI, canon lift, canon lower, Storing).
 use Rattle.std.specs.Prelude.{◌==◌, ℕ, List, Bool}
 use Rattle.std.specs.Int.RustNames.{bit_and}
 use Rattle.component_definitions.specs.declared.canonical.CanonicalOption.{CanonicalOption}
