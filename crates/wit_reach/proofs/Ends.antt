@@ -47,6 +47,12 @@ pub closed_ends : (uses : ℕ → ℕ → Type 0) (P : ℕ → Type 0) → ((i j
 closed_ends uses P closed a [] b h p = subst P p h
 closed_ends uses P closed a (c ∷ via) b h p = closed_ends uses P closed c via b (closed a c h p.0) p.1
 
+-- all that is reached from places below n is below n
+pub ends_below : (uses : ℕ → ℕ → Type 0) (n : ℕ) (starts order : List ℕ) → AreBackward uses → ((i : ℕ) → Has starts i → i < n) → AreEnds uses (Has starts) order → (i : ℕ) → Has order i → i < n
+ends_below uses n starts order back there ends i h =
+    let o = ends.only i h in
+    closed_ends uses (λ (z : ℕ). z < n) (λ a b l u. (let m : b < a = back a b u in omega arith)) o.0 o.2.0 i (there o.0 o.1) o.2.1
+
 pub walk_step : (n : ℕ) (uses : ℕ → ℕ → Type 0) (starts left rest keys falling : List ℕ) (i : ℕ)
     → AreBackward uses → left ≡ rest ++ i ∷ [] → All (λ q. IsLtBy nat_cmp q i) rest
     → ((j : ℕ) → Has rest j → Has keys j) → ((j : ℕ) → uses i j → Has keys j) → ((j : ℕ) → Has keys j → Has rest j ⊎ uses i j)

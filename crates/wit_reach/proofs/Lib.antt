@@ -5,3 +5,5 @@ pub mod Used
 pub mod There
 pub mod Items
 pub mod Growing
+pub mod Seen
+pub mod Sorting

@@ -1,12 +1,14 @@
 -- Lists of interfaces.
-use Rattle.std.proofs.Common.{◌≡◌, ℕ, ◌<◌, ◌+◌, List, [], ◌∷◌, ◌++◌, ◌⊎◌, inl, inr, refl, sym, subst, arith, length, take, get_or, Bool, true, false, ap, ◌∙◌}
+use Rattle.std.proofs.Common.{◌≡◌, ℕ, zero, suc, ◌<◌, ◌+◌, List, [], ◌∷◌, ◌++◌, ◌⊎◌, inl, inr, refl, sym, subst, arith, length, take, get_or, Bool, true, false, ap, ◌∙◌, Bor}
 use Rattle.std.proofs.lemmas.Cmp.{ranked}
 use Rattle.std.proofs.lemmas.List.{reverse-append, get_or_default}
 use Rattle.std.specs.BTreeMap.{is_at}
 use Rattle.std.specs.BTreeMap.Range.{IsLtBy}
 use Rattle.std.specs.List.{All, list_any}
 use Rattle.std.specs.Ordering.{is_eq, nat_cmp, MatchOrdering}
-use Rattle.std.specs.Prelude.{reverse, ◌||◌, Option, None, IsSome, ◌↔◌}
+use Rattle.std.specs.Prelude.{reverse, ◌||◌, Option, None, Some, IsSome, ◌↔◌, MatchOption}
+use Rattle.std.specs.Option.{option_copied}
+use Rattle.std.proofs.lemmas.Option.{same_Some}
 use Rattle.std.specs.declared.cmp.Ordering.{Ordering}
 use Rattle.std.specs.declared.cmp.Ordering.TheVariants.{Less, Equal, Greater}
 use Rattle.wit_order.specs.Order.{Has, AreDependenciesFirst}
@@ -155,7 +157,32 @@ item_has xs k r l e = subst (Has xs) (sym (item_at xs k r l e)) (has_get xs k l)
 pub item_more : (xs : List ℕ) (k r x : ℕ) → k < length xs → r ≡ get_or xs k r → Has (take (k + 1) xs) x → (x ≡ r) ⊎ Has (take k xs) x
 item_more xs k r x l e h = elim (has_take_more xs k x l h) as (λ _. (x ≡ r) ⊎ Has (take k xs) x) [ inl here ↦ inl (here ∙ sym (item_at xs k r l e)) | inr was ↦ inr was ]
 
+-- what stands before an item of a rising list is below it
+pub rising_before : (xs : List ℕ) (k r y : ℕ) → AreRising xs → k < length xs → r ≡ get_or xs k r → Has (take k xs) y → y < r
+rising_before [] k r y rising l e h = absurd (omega arith)
+rising_before (x ∷ xs) zero r y rising l e h = absurd h
+rising_before (x ∷ xs) (suc k) r y rising l e h =
+    elim h as (λ _. y < r) [
+      | inl here ↦ subst (λ (z : ℕ). z < r) (sym here) (rising.0 r (item_has xs k r (omega arith) e))
+      | inr later ↦ rising_before xs k r y rising.1 (omega arith) e later
+    ]
+
 -- what gives no key is empty
 pub none_left : (r : Option ℕ) (keys : List ℕ) → (IsSome r ↔ (0 < length keys)) → r ≡ None → keys ≡ []
 none_left r [] v e = refl
 none_left r (k ∷ keys) v e = absurd (let some = subst IsSome e (v.1 (omega arith)) in cc)
+
+-- ---- what copies of a list's items come
+
+-- the next is the first of what is left
+pub copied_next : (Gone : Type 0) (x : Option (Bor ℕ)) (left rest : List ℕ) (i : ℕ)
+    → MatchOption x Gone (λ y. left ≡ y.now ∷ rest) → Some i ≡ option_copied x → left ≡ i ∷ rest
+copied_next Gone None left rest i m e = absurd cc
+copied_next Gone (Some y) left rest i m e = m ∙ ap (λ (z : ℕ). z ∷ rest) (sym (same_Some i y.now e))
+
+-- where none comes nothing is left
+pub copied_none : (Same : Type 0) (Next : Bor ℕ → Type 0) (x : Option (Bor ℕ)) (left : List ℕ)
+    → MatchOption x ((length left ≡ 0) × Same) Next → None ≡ option_copied x → left ≡ []
+copied_none Same Next None [] m e = refl
+copied_none Same Next None (y ∷ left) m e = absurd (let none : length (y ∷ left) ≡ 0 = m.0 in omega arith)
+copied_none Same Next (Some y) left m e = absurd cc

@@ -5,3 +5,5 @@ pub mod Ids
 pub mod Types
 pub mod Deps
 pub mod Lists
+pub mod Made
+pub mod Needed

@@ -5,7 +5,7 @@ use Rattle.wit_types.specs.declared.interface.TypeOwner.{TypeOwner}
 use Rattle.wit_types.specs.declared.interface.TypeOwner.TheVariants as belongs
 use Rattle.wit_types.specs.declared.world.World.{World}
 use Rattle.wit_order.specs.Order.{Has}
-use Rattle.wit_reach.specs.Paths.{AreBackward, AreEnds}
+use Rattle.wit_reach.specs.Paths.{AreRising, AreBackward, AreEnds}
 use Rattle.wit_reach.specs.Ids.{kind_ids, side_ids}
 
 -- it belongs to the world, or nowhere
@@ -27,6 +27,12 @@ AreTypesBackward ds = AreBackward (IsMadeOf ds)
 
 abbrev pub UsesLocal : ℕ → List TypeDef → ℕ → ℕ → Type 0
 UsesLocal w ds i j = IsMadeOf ds i j × IsLocalAt w ds j
+
+-- those types of a list that belong to the world, or nowhere, in rising order
+pub record AreLocalOf (w : ℕ) (ds : List TypeDef) (ids found : List ℕ) : Type 0 where
+  pub all : (i : ℕ) → Has ids i → IsLocalAt w ds i → Has found i
+  pub only : (i : ℕ) → Has found i → Has ids i × IsLocalAt w ds i
+  pub rising : AreRising found
 
 -- the ids of a list stand for types
 abbrev pub AreTypesThere : List TypeDef → List ℕ → Type 0

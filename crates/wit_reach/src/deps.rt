@@ -21,7 +21,7 @@ fn alias_target(kind: &TypeDefKind) -> Option<TypeId>
 }
 
 /// The interface to which a type belongs, if it is one.
-fn interface_of(owner: TypeOwner) -> Option<InterfaceId>
+pub(crate) fn interface_of(owner: TypeOwner) -> Option<InterfaceId>
     ensures { result ≡ spec.interface_of owner }
 {
     match owner {

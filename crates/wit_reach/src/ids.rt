@@ -129,7 +129,7 @@ fn add_signature(ids: &mut Vec<TypeId>, function: &Function) -> Result<(), Alloc
 }
 
 /// Adds the resource that a function is of and the types that it takes and gives.
-fn add_function(ids: &mut Vec<TypeId>, function: &Function) -> Result<(), AllocError>
+pub fn add_function(ids: &mut Vec<TypeId>, function: &Function) -> Result<(), AllocError>
     ensures { OnOk result (ids.new.items ≡ ids.old.items ++ spec.function_ids function.now) }
 {
     add_resource(ids, &function.kind)?;

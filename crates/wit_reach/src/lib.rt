@@ -1,14 +1,19 @@
-//! What is reached from where: which interfaces a world imports in the end, by what they and its exports depend on, and which types
-//! are its own (Component Model, WIT, Worlds).
+//! What is reached from where: which interfaces a world imports in the end, by what they and its exports depend on, which types are
+//! its own, what types are made of, and which of each interface are needed (Component Model, WIT, Worlds).
 #![tactic(auto)]
 
 mod deps;
 mod ids;
+mod made;
+mod needed;
 mod reach;
 mod types;
 mod world;
 
 pub use deps::{interface_deps, type_interface_dep};
+pub use ids::{add_function, add_kind};
+pub use made::{law_seen_is_made, made_of, made_of_within};
+pub use needed::NeededTypes;
 pub use reach::{
     ElaborateFault, WorldLists, add_all, closure, elaborate, law_elaborated_are_there,
     law_elaborated_stays,

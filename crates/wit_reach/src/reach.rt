@@ -56,14 +56,14 @@ fn has(set: &BTreeSet<usize>, interface: InterfaceId) -> bool
     set.contains(&interface.index())
 }
 
-/// Adds the interfaces to the set.
-pub fn add_all(set: &mut BTreeSet<usize>, interfaces: &[InterfaceId]) -> Result<(), AllocError>
+/// Adds the ids to the set.
+pub fn add_all<T>(set: &mut BTreeSet<usize>, ids: &[Id<T>]) -> Result<(), AllocError>
     ensures was { OnOk result ((i : ℕ) → Has set.old.keys i → Has set.new.keys i) }
-    ensures new { OnOk result ((i : ℕ) → Has interfaces.now i → Has set.new.keys i) }
-    ensures only { OnOk result ((i : ℕ) → Has set.new.keys i → Has set.old.keys i ⊎ Has interfaces.now i) }
+    ensures new { OnOk result ((i : ℕ) → Has ids.now i → Has set.new.keys i) }
+    ensures only { OnOk result ((i : ℕ) → Has set.new.keys i → Has set.old.keys i ⊎ Has ids.now i) }
 {
-    for interface in interfaces {
-        set.insert(interface.index())?;
+    for id in ids.iter().copied() {
+        set.insert(id.index())?;
     }
     Ok(())
 }

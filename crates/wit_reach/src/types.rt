@@ -1,14 +1,12 @@
 //! The types of a world.
 
-ghost use Rattle.std.specs.Prelude.{◌≡◌, ℕ, ◌<◌, ◌⊎◌, ◌↔◌, length, IfOk, OnOk, IsTrue};
-ghost use Rattle.wit_order.specs.Order.{Has};
-ghost use Rattle.wit_reach.specs.Paths.{AreEnds};
+ghost use Rattle.std.specs.Prelude.{◌<◌, ◌↔◌, length, IfOk, IsTrue};
+ghost use Rattle.wit_reach.specs.Paths.{AreRising};
 ghost use Rattle.wit_reach.specs.Types as spec;
 
-use crate::ids::{add_kind, add_side};
-use crate::reach::turned;
+use crate::ids::add_side;
+use crate::made::made_of_within;
 use std::alloc::{AllocError, Global};
-use std::collections::BTreeSet;
 use wit_types::{Arena, TypeDef, TypeId, TypeOwner, World, WorldId};
 
 /// Whether a type belongs to a world, or nowhere.
@@ -23,65 +21,24 @@ fn is_local(types: &Arena<TypeDef>, world: WorldId, id: TypeId) -> bool
     }
 }
 
-/// Adds those types to the set that belong to a world, or nowhere.
-fn add_local(
-    set: &mut BTreeSet<usize>,
+/// Those types that belong to a world, or nowhere, in their order.
+fn local_of(
+    alloc: Global,
     types: &Arena<TypeDef>,
     world: WorldId,
     ids: &[TypeId],
-) -> Result<(), AllocError>
-    requires { spec.AreTypesThere types.now ids.now }
-    ensures was { OnOk result ((i : ℕ) → Has set.old.keys i → Has set.new.keys i) }
-    ensures new { OnOk result ((i : ℕ) → Has ids.now i → spec.IsLocalAt world types.now i → Has set.new.keys i) }
-    ensures only { OnOk result ((i : ℕ) → Has set.new.keys i → Has set.old.keys i ⊎ (Has ids.now i × spec.IsLocalAt world types.now i)) }
+) -> Result<Vec<TypeId>, AllocError>
+    requires there { spec.AreTypesThere types.now ids.now }
+    requires rising { AreRising ids.now }
+    ensures { IfOk result (λ found. spec.AreLocalOf world types.now ids.now found.items) }
 {
+    let mut found = Vec::new(alloc);
     for id in ids {
         if is_local(types, world, *id) {
-            set.insert(id.index())?;
+            found.push(*id)?;
         }
     }
-    Ok(())
-}
-
-/// Adds those types to the set of which a type is made and that belong to a world, or nowhere.
-fn add_used(
-    alloc: Global,
-    set: &mut BTreeSet<usize>,
-    types: &Arena<TypeDef>,
-    world: WorldId,
-    id: TypeId,
-) -> Result<(), AllocError>
-    requires backward { spec.AreTypesBackward types.now }
-    requires there { id < length types.now }
-    ensures was { OnOk result ((i : ℕ) → Has set.old.keys i → Has set.new.keys i) }
-    ensures new { OnOk result ((i : ℕ) → spec.UsesLocal world types.now id i → Has set.new.keys i) }
-    ensures only { OnOk result ((i : ℕ) → Has set.new.keys i → Has set.old.keys i ⊎ spec.UsesLocal world types.now id i) }
-{
-    let mut ids = Vec::new(alloc);
-    add_kind(&mut ids, &types.get(id).kind)?;
-    add_local(set, types, world, ids.as_slice())
-}
-
-/// All that paths from the starts reach over types that belong to a world, or nowhere, by rising ids: from the last on, each time
-/// with what it is made of, which comes before it.
-fn reached(
-    alloc: Global,
-    types: &Arena<TypeDef>,
-    world: WorldId,
-    starts: BTreeSet<usize>,
-) -> Result<Vec<TypeId>, AllocError>
-    requires backward { spec.AreTypesBackward types.now }
-    requires there { spec.AreTypesThere types.now starts.keys }
-    ensures { IfOk result (λ order. AreEnds (spec.UsesLocal world types.now) (Has starts.keys) order.items) }
-{
-    let mut left = starts;
-    let mut falling = Vec::new(alloc);
-    while let Some(index) = left.pop_last() {
-        let id = TypeId::from_index(index);
-        add_used(alloc, &mut left, types, world, id)?;
-        falling.push(id)?;
-    }
-    turned(alloc, falling.as_slice())
+    Ok(found)
 }
 
 /// The types of a world, by rising ids: those that its items are made of over any number of steps, as far as they belong to it, or
@@ -99,7 +56,6 @@ pub fn world_types(
     let mut ids = Vec::new(alloc);
     add_side(&mut ids, &world.imports)?;
     add_side(&mut ids, &world.exports)?;
-    let mut starts = BTreeSet::new(alloc);
-    add_local(&mut starts, types, id, ids.as_slice())?;
-    reached(alloc, types, id, starts)
+    let seen = made_of_within(alloc, types, TypeOwner::World(id), ids.as_slice())?;
+    local_of(alloc, types, id, seen.as_slice())
 }
