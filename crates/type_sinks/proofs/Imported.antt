@@ -4,7 +4,10 @@ use Rattle.std.specs.Prelude.{nat_eq, bytes_eq, String, string_bytes}
 use Rattle.std.specs.declared.alloc.Global.{Global}
 use Rattle.std.proofs.lemmas.List.{append-nil, get_or-map}
 use Rattle.std.proofs.lemmas.List.Sums.{fold-append}
+use Rattle.std.proofs.lemmas.Grind.{flat_map-append}
+use Rattle.std.specs.List.{flat_map}
 use Rattle.std.proofs.lemmas.Bool.{cases_Bool, eqb-true}
+use Rattle.distinct_names.specs.Names.{is_new}
 use Rattle.component_definitions.specs.declared.externs.Description.TheVariants as descriptions
 use Rattle.component_instances.specs.Declarators.{DeclaratorValue}
 use Rattle.component_instances.specs.TypeDefinitions.{of_instance}
@@ -23,16 +26,17 @@ use Rattle.type_meaning.specs.Items.{Item, Items, no_items, and_item, a_type, fr
 use Rattle.type_meaning.specs.Scope.{Scope, no_scope, after, meaning}
 use Rattle.type_sinks.specs.declared.root.Root.{Root}
 use Rattle.type_sinks.specs.declared.inside.InterfaceTypes.{InterfaceTypes}
-use Rattle.type_sinks.specs.Unfolding.{OwnName, WitTree, under_name, Unfolds, unfolds_primitive, unfolds_type, KindUnfolds, unfolds_form, unfolds_alias, PartsUnfold, no_parts, gap_unfolds, part_unfolds}
-use Rattle.type_sinks.specs.Writing.{written, written_parts, Begins}
-use Rattle.type_sinks.specs.Root.{InterfaceNames, root_label, IsHome, RootGood}
+use Rattle.type_writing.specs.Unfolding.{OwnName, WitTree, under_name, Unfolds, unfolds_primitive, unfolds_type, KindUnfolds, unfolds_form, unfolds_alias, PartsUnfold, no_parts, gap_unfolds, part_unfolds}
+use Rattle.type_writing.specs.Writing.{written, written_parts, Begins}
+use Rattle.type_sinks.specs.Root.{InterfaceNames, root_label, imported_name, imported_names, IsHome, RootGood}
 use Rattle.type_sinks.specs.Inside.{inside_label, IsExported, InsideGood}
-use Rattle.type_sinks.specs.Functions.{function_form}
-use Rattle.type_sinks.specs.Kept.{AreKept}
-use Rattle.type_sinks.specs.Views.{entry_values, root_scope, interface_names, RootIsGood, IsAdded, IsImported, declarator_values, inside, HasFunction, InstanceHasFunction}
-use Rattle.type_sinks.proofs.Standing.{new_item}
-use Rattle.type_sinks.proofs.Rooted.{instances_added, good_keeps}
+use Rattle.type_writing.specs.Functions.{function_form}
+use Rattle.type_sinks.specs.Kept.{index_of, AreKept}
+use Rattle.type_sinks.specs.Views.{entry_values, root_scope, interface_names, root_names, RootIsGood, IsAdded, IsImported, IsInstanceWith, declarator_values, inside, inside_names, HasFunction, InstanceHasFunction}
+use Rattle.type_writing.proofs.Standing.{new_item}
+use Rattle.type_sinks.proofs.Rooted.{instances_added, names_added, good_keeps}
 use Rattle.type_sinks.proofs.Keeping.{each_keeps, kept_cases}
+use Rattle.type_sinks.proofs.Insides.{items_named, names_of_items, names_put}
 
 -- ---- no resource is in a tree of a type
 
@@ -116,6 +120,8 @@ exported_home names own types s id k instances is h =
     record {
       def = h.def;
       there = h.there;
+      interface = own;
+      owner = h.owner;
       name = h.name;
       named = h.named;
       site = imported n;
@@ -154,6 +160,9 @@ import_types old new own ds ids a = (_, ap (λ (s : Scope). s.types) (scope_both
 pub import_instances : (old new : Root) (own : ℕ) (ds : List DeclaratorValue) (ids : List ℕ) → IsImported old new own ds ids → Begins (root_scope old).instances (root_scope new).instances
 import_instances old new own ds ids a = (_, ap (λ (s : Scope). s.instances) (scope_both old new own ds ids a) ∙ both_instances (root_scope old) (get_or (interface_names old) own []) ds)
 
+pub import_functions : (old new : Root) (own : ℕ) (ds : List DeclaratorValue) (ids : List ℕ) → IsImported old new own ds ids → (root_scope new).functions ≡ (root_scope old).functions
+import_functions old new own ds ids a = ap (λ (s : Scope). s.functions) (scope_both old new own ds ids a) ∙ append-nil _ ∙ append-nil (root_scope old).functions
+
 pub instance_at : (old new : Root) (own : ℕ) (ds : List DeclaratorValue) (ids : List ℕ) → IsImported old new own ds ids
     → item_at (root_scope new).instances (length (root_scope old).instances) ≡ instance_import (get_or (interface_names old) own []) (instance_type ((root_scope old).types ∷ []) ds)
 instance_at old new own ds ids a =
@@ -164,7 +173,7 @@ instance_at old new own ds ids a =
 
 -- the instance has the functions of its type
 pub import_function : (old : InterfaceTypes) (new : Root) (ids : List ℕ) (types : List TypeDef) (name : List ℕ) (params : List Param) (result : Option Ref)
-    → IsImported old.root new old.interface (declarator_values old) ids → HasFunction old types name params result → InstanceHasFunction new (length (root_scope old.root).instances) types name params result
+    → IsImported old.root new old.interface (declarator_values old) ids → HasFunction old types name params result → InstanceHasFunction new (length (root_scope old.root).instances) (imported (get_or (interface_names old.root) old.interface [])) types name params result
 import_function old new ids types name params result a h =
     let names = interface_names old.root in
     let own = old.interface in
@@ -176,7 +185,6 @@ import_function old new ids types name params result a h =
     let from = from_import (record { site = imported n; name = name }) in
     let plain : IsPlain h.tree = subst IsPlain (sym u.is) (parts_plain types (function_form params result).parts u.parts u.unfolds) in
     record {
-      site = imported n;
       items = put_items f g items;
       is = instance_at old.root new own (declarator_values old) ids a;
       tree = h.tree;
@@ -184,51 +192,78 @@ import_function old new ids types name params result a h =
       has = put_named f g name items ∙ ap (put_item f g) h.has ∙ ap (a_function from) (moved_written names own h.tree plain) ∙ ap (λ m. a_function from (written (root_label m) h.tree)) (sym a.names);
     }
 
+-- and exports something under the same names
+pub import_items : (old : InterfaceTypes) (new : Root) (ids : List ℕ) → IsImported old.root new old.interface (declarator_values old) ids → IsInstanceWith new (length (root_scope old.root).instances) (imported (get_or (interface_names old.root) old.interface [])) (inside_names old)
+import_items old new ids a =
+    let n = get_or (interface_names old.root) old.interface [] in
+    let f = moved itself (imported n) in
+    let g = new_resource n in
+    let items = items_of (inside old).items in
+    record {
+      items = put_items f g items;
+      is = instance_at old.root new old.interface (declarator_values old) ids a;
+      named = names_put f g items ∙ names_of_items (inside old).items ∙ items_named ((root_scope old.root).types ∷ []) (declarator_values old);
+    }
+
+names_both : (es : List EntryValue) (d e : EntryValue) → imported_names (es ++ d ∷ e ∷ []) ≡ imported_names es ++ (imported_name d ++ imported_name e)
+unfolding imported_names
+names_both es d e = flat_map-append imported_name es (d ∷ e ∷ []) ∙ ap (λ l. flat_map imported_name es ++ (imported_name d ++ l)) (append-nil (imported_name e))
+
+pub import_names : (old new : Root) (own : ℕ) (ds : List DeclaratorValue) (ids : List ℕ) → IsImported old new own ds ids → root_names new ≡ root_names old ++ get_or (interface_names old) own [] ∷ []
+import_names old new own ds ids a = ap imported_names a.entries ∙ names_both (entry_values old) (entries.a_type (of_instance ds)) _
+
 -- each type that is exported may be taken from the instance, and what is remembered stays so
-pub import_good : (old new : Root) (own : ℕ) (known : List (Option ℕ)) (exports : List ℕ) (ds : List DeclaratorValue) (types : List TypeDef)
-    → IsImported old new own ds exports → InsideGood (interface_names old) old.known.items old.homes.items (root_scope old) known exports ds own types → RootIsGood new types
+pub import_good : (old new : Root) (own : ℕ) (known : ℕ → Option ℕ) (exports : List ℕ) (ds : List DeclaratorValue) (types : List TypeDef)
+    → IsImported old new own ds exports → InsideGood (interface_names old) (index_of old.known) (index_of old.homes) (root_scope old) known exports ds own types → RootIsGood new types
 import_good old new own known exports ds types a g =
     let names = interface_names old in
     let around = (root_scope old).types in
     let s = inside_of (around ∷ []) ds in
     let k = length (root_scope old).instances in
     let instances = (root_scope new).instances in
-    let grown = good_keeps names old.known.items old.homes.items (root_scope old) (root_scope new) types (import_types old new own ds exports a) (import_instances old new own ds exports a) g.root in
+    let grown = good_keeps names (index_of old.known) (index_of old.homes) (root_scope old) (root_scope new) types (import_types old new own ds exports a) (import_instances old new own ds exports a) g.root in
     let item = instance_at old new own ds exports a in
     let homes = each_keeps (IsExported names own types s) (λ id. IsHome names types instances id k) exports (λ id. exported_home names own types s id k instances item) g.exported in
-    let good : RootGood names old.known.items new.homes.items (root_scope new) types = record {
+    let good : RootGood names (index_of old.known) (index_of new.homes) (root_scope new) types = record {
       ids = grown.ids;
-      instances = λ id j h. kept_cases (IsHome names types instances) old.homes.items new.homes.items exports k id j a.homes h homes (grown.instances id);
+      instances = λ id j h. kept_cases (IsHome names types instances) (index_of old.homes) (index_of new.homes) exports k id j a.homes h homes (grown.instances id);
     } in
-    subst (λ m. RootGood m new.known.items new.homes.items (root_scope new) types) (sym a.names) (subst (λ l. RootGood names l new.homes.items (root_scope new) types) (sym a.known) good)
+    subst (λ m. RootGood m (index_of new.known) (index_of new.homes) (root_scope new) types) (sym a.names) (subst (λ l. RootGood names (index_of l) (index_of new.homes) (root_scope new) types) (sym a.known) good)
 
 -- ---- as the code does it
 
 pub name_at : (names : List (String Global)) (own i : ℕ) (x : String Global) → i ≡ own → i < length names → x ≡ get_or names i x → get_or (map string_bytes names) own [] ≡ string_bytes x
 name_at names own i x e lt here = ap (λ k. get_or (map string_bytes names) k []) (sym e) ∙ get_or-map string_bytes names i x [] lt ∙ ap string_bytes (sym here)
 
+-- behind the type there are the same names and instances
+pub unnamed_there : (old mid : Root) (own : ℕ) (ds : List DeclaratorValue) (n : List ℕ) → IsAdded old mid (entries.a_type (of_instance ds)) → get_or (interface_names old) own [] ≡ n → is_new (root_names mid) n ≡ is_new (root_names old) (get_or (interface_names old) own [])
+unnamed_there old mid own ds n a name = ap (λ l. is_new l n) (names_added old mid (entries.a_type (of_instance ds)) a ∙ append-nil (root_names old)) ∙ ap (is_new (root_names old)) (sym name)
+
+pub unplaced_there : (old mid : Root) (ds : List DeclaratorValue) → IsAdded old mid (entries.a_type (of_instance ds)) → length (root_scope mid).instances ≡ length (root_scope old).instances
+unplaced_there old mid ds a = ap length (instances_added old mid (entries.a_type (of_instance ds)) a ∙ append-nil (root_scope old).instances)
+
 -- what is imported, before the homes are put down
-pub record IsWritten (old last : Root) (interface : ℕ) (ds : List DeclaratorValue) (ids : List ℕ) (homes : List (Option ℕ)) : Type 0 where
+pub record IsWritten (old last : Root) (interface : ℕ) (ds : List DeclaratorValue) (ids : List ℕ) (homes : List (ℕ × ℕ)) : Type 0 where
   pub entries : entry_values last ≡ entry_values old ++ entries.a_type (of_instance ds) ∷ an_import (record { name = get_or (interface_names old) interface []; description = descriptions.Instance (length (root_scope old).types) }) ∷ []
   pub names : interface_names last ≡ interface_names old
-  pub known : last.known.items ≡ old.known.items
-  pub kept : AreKept old.homes.items homes ids (length (root_scope old).instances)
+  pub known : last.known ≡ old.known
+  pub kept : AreKept (index_of old.homes) (index_of homes) ids (length (root_scope old).instances)
 
-pub written_by : (old mid last : Root) (own : ℕ) (ds : List DeclaratorValue) (ids : List ℕ) (n : List ℕ) (ty instance : ℕ) (start homes : List (Option ℕ))
+pub written_by : (old mid last : Root) (own : ℕ) (ds : List DeclaratorValue) (ids : List ℕ) (n : List ℕ) (ty instance : ℕ) (homes : List (ℕ × ℕ))
     → ty ≡ length (root_scope old).types → IsAdded old mid (entries.a_type (of_instance ds))
     → instance ≡ length (root_scope mid).instances → IsAdded mid last (an_import (record { name = n; description = descriptions.Instance ty }))
-    → get_or (interface_names old) own [] ≡ n → start ≡ last.homes.items → AreKept start homes ids instance → IsWritten old last own ds ids homes
-written_by old mid last own ds ids n ty instance start homes index a place b name from kept =
+    → get_or (interface_names old) own [] ≡ n → AreKept (index_of last.homes) (index_of homes) ids instance → IsWritten old last own ds ids homes
+written_by old mid last own ds ids n ty instance homes index a place b name kept =
     let d = entries.a_type (of_instance ds) in
     let import_of : List ℕ → ℕ → EntryValue = λ m i. an_import (record { name = m; description = descriptions.Instance i }) in
     let e = import_of n ty in
     let f = import_of (get_or (interface_names old) own []) (length (root_scope old).types) in
     let same : e ≡ f = ap (λ m. import_of m ty) (sym name) ∙ ap (import_of (get_or (interface_names old) own [])) index in
     let at : instance ≡ length (root_scope old).instances = place ∙ ap length (instances_added old mid d a ∙ append-nil (root_scope old).instances) in
-    let before : start ≡ old.homes.items = from ∙ b.homes ∙ a.homes in
+    let before : last.homes ≡ old.homes = b.homes ∙ a.homes in
     record {
       entries = b.entries ∙ ap (λ l. l ++ e ∷ []) a.entries ∙ append_assoc (entry_values old) (d ∷ []) (e ∷ []) ∙ ap (λ x. entry_values old ++ d ∷ x ∷ []) same;
       names = b.names ∙ a.names;
       known = b.known ∙ a.known;
-      kept = subst (λ l. AreKept l homes ids (length (root_scope old).instances)) before (subst (AreKept start homes ids) at kept);
+      kept = subst (λ l. AreKept (index_of l) (index_of homes) ids (length (root_scope old).instances)) before (subst (AreKept (index_of last.homes) (index_of homes) ids) at kept);
     }

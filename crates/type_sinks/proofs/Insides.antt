@@ -1,6 +1,6 @@
 -- The type of an instance: one more declarator, and what is remembered stays so.
 use Rattle.std.proofs.Common.{◌≡◌, ℕ, ◌+◌, List, [], ◌∷◌, ◌++◌, length, map, Option, Some, None, true, false, refl, sym, ap, subst, ◌∙◌, arith, length-append, append_assoc, inl, inr}
-use Rattle.std.specs.Prelude.{Result, Ok, Err, IfOk, OnErr, slice_get, option_map, fold, replicate, nat_eq, bytes_eq, String, string_bytes}
+use Rattle.std.specs.Prelude.{Result, Ok, Err, IfOk, OnErr, slice_get, option_map, fold, nat_eq, bytes_eq, String, string_bytes}
 use Rattle.std.specs.List.{AllByRecursion as Each, flat_map}
 use Rattle.std.specs.declared.alloc.Global.{Global}
 use Rattle.std.proofs.lemmas.List.{append-nil, map-append}
@@ -21,18 +21,16 @@ use Rattle.wit_types.specs.declared.interface.TypeDef.{TypeDef}
 use Rattle.wit_types.specs.declared.interface.TypeOwner.{TypeOwner}
 use Rattle.wit_types.specs.declared.interface.TypeOwner.TheVariants as belongs
 use Rattle.type_meaning.specs.Tree.{Parts, named, resource, of, none, gap, part}
-use Rattle.type_meaning.specs.Words.{BinaryTree}
-use Rattle.type_meaning.specs.Items.{Item, Entry, Origin, a_type, a_function, or_nothing, item_at, item_named, items_of, named_item, own_label, Inside, no_inside, inside_of, declared}
+use Rattle.type_meaning.specs.Words.{BinaryTree, Label, Resource}
+use Rattle.type_meaning.specs.Items.{Item, Items, no_items, and_item, put_items, Entry, Origin, a_type, a_function, or_nothing, item_at, item_named, items_of, named_item, own_label, Inside, no_inside, inside_of, declared}
 use Rattle.type_meaning.specs.Scope.{Scope}
-use Rattle.type_sinks.specs.declared.fault.Fault.{Fault}
-use Rattle.type_sinks.specs.Unfolding.{OwnName, WitTree, Unfolds, unfolds_type, under_name}
-use Rattle.type_sinks.specs.Writing.{written, written_parts, own_resource, Stands, KindStands, Begins, is_own_site}
+use Rattle.type_writing.specs.declared.fault.Fault.{Fault}
+use Rattle.type_writing.specs.Unfolding.{OwnName, WitTree, Unfolds, unfolds_type, under_name}
+use Rattle.type_writing.specs.Writing.{written, written_parts, own_resource, Stands, KindStands, Begins, remembering}
 use Rattle.type_sinks.specs.Root.{InterfaceNames, root_label, RootGood}
-use Rattle.type_sinks.specs.Inside.{declares, type_count, exported_name, exported_names, is_of, inside_label, IsApart, AreApart, OthersAreApart, StaysInside, IsExported, InsideGood}
-use Rattle.type_sinks.specs.Kept.{IsKept}
-use Rattle.type_sinks.proofs.Keeping.{differs, each_keeps, each_push}
-use Rattle.type_sinks.proofs.Rooted.{nothing_known}
-use Rattle.type_sinks.proofs.Standing.{begins_here, get_begin, stands_keeps, value_inside}
+use Rattle.type_sinks.specs.Inside.{declares, type_count, exported_name, exported_names, is_of, inside_label, IsApart, AreApart, OthersAreApart, StaysInside, IsExported, InsideGood, names_in}
+use Rattle.type_sinks.proofs.Keeping.{each_keeps, each_push, one_here, others_stay}
+use Rattle.type_writing.proofs.Standing.{begins_here, get_begin, stands_keeps, value_inside}
 
 -- ---- counts and names
 
@@ -105,9 +103,9 @@ names_from around s [] = sym (append-nil _)
 names_from around s (d ∷ ds) =
     names_from around (declared around s d) ds ∙ ap (λ l. l ++ flat_map exported_name ds) (one_name around s d) ∙ append_assoc (map (λ (e : Entry). e.name) s.items) (exported_name d) (flat_map exported_name ds)
 
-pub inside_names : (around : List (List Item)) (ds : List DeclaratorValue) → map (λ (e : Entry). e.name) (inside_of around ds).items ≡ exported_names ds
+pub items_named : (around : List (List Item)) (ds : List DeclaratorValue) → map (λ (e : Entry). e.name) (inside_of around ds).items ≡ exported_names ds
 unfolding exported_names
-inside_names around ds = names_from around no_inside ds
+items_named around ds = names_from around no_inside ds
 
 -- ---- items under names
 
@@ -158,12 +156,12 @@ exported_keeps names own types s t id b h = record {
 
 -- ---- where nothing is written
 
-pub inside_nothing : (names : InterfaceNames) (root_known homes : List (Option ℕ)) (scope : Scope) (n : ℕ) (known : List (Option ℕ)) (exports : List ℕ) (ds : List DeclaratorValue) (own : ℕ) (types : List TypeDef)
-    → known ≡ replicate n None → exports ≡ [] → ds ≡ [] → RootGood names root_known homes scope types → OthersAreApart own types → InsideGood names root_known homes scope known exports ds own types
-inside_nothing names root_known homes scope n known exports ds own types e f d root apart = record {
+pub inside_nothing : (names : InterfaceNames) (root_known homes : ℕ → Option ℕ) (scope : Scope) (known : ℕ → Option ℕ) (exports : List ℕ) (ds : List DeclaratorValue) (own : ℕ) (types : List TypeDef)
+    → ((id : ℕ) → known id ≡ None) → exports ≡ [] → ds ≡ [] → RootGood names root_known homes scope types → OthersAreApart own types → InsideGood names root_known homes scope known exports ds own types
+inside_nothing names root_known homes scope known exports ds own types e f d root apart = record {
   root = root;
   stays = λ more. ap (inside_of ((scope.types ++ more) ∷ [])) d ∙ sym (ap (inside_of (scope.types ∷ [])) d);
-  ids = λ id i h. absurd (nothing_known n id i (ap (λ l. slice_get l id) (sym e) ∙ h));
+  ids = λ id i h. let k : None ≡ Some i = sym (e id) ∙ h in absurd cc;
   exported = subst (Each (IsExported names own types (inside_of (scope.types ∷ []) ds))) (sym f) tt;
   apart = apart;
 }
@@ -187,7 +185,7 @@ items_begin around s (declared_export n d) = (_, refl)
 abbrev StaysAs : List Item → Inside → DeclaratorValue → Type 0
 StaysAs around s d = (more : List Item) → declared ((around ++ more) ∷ []) s d ≡ declared (around ∷ []) s d
 
-pub inside_step : (names : InterfaceNames) (root_known homes : List (Option ℕ)) (scope : Scope) (known : List (Option ℕ)) (exports : List ℕ) (olds news : List DeclaratorValue) (d : DeclaratorValue) (own : ℕ) (types : List TypeDef)
+pub inside_step : (names : InterfaceNames) (root_known homes : ℕ → Option ℕ) (scope : Scope) (known : ℕ → Option ℕ) (exports : List ℕ) (olds news : List DeclaratorValue) (d : DeclaratorValue) (own : ℕ) (types : List TypeDef)
     → news ≡ olds ++ d ∷ [] → StaysAs scope.types (inside_of (scope.types ∷ []) olds) d
     → InsideGood names root_known homes scope known exports olds own types → InsideGood names root_known homes scope known exports news own types
 inside_step names root_known homes scope known exports olds news d own types e same g =
@@ -210,7 +208,7 @@ inside_step names root_known homes scope known exports olds news d own types e s
 pub inside_same : (old new : List Item) (ds : List DeclaratorValue) → Begins old new → StaysInside old ds (inside_of (old ∷ []) ds) → inside_of (new ∷ []) ds ≡ inside_of (old ∷ []) ds
 inside_same old new ds b stays = ap (λ l. inside_of (l ∷ []) ds) b.1 ∙ stays b.0
 
-pub inside_over : (names more_names : InterfaceNames) (root_known homes new_known new_homes : List (Option ℕ)) (old new : Scope) (known : List (Option ℕ)) (exports : List ℕ) (ds : List DeclaratorValue) (own : ℕ) (types : List TypeDef)
+pub inside_over : (names more_names : InterfaceNames) (root_known homes new_known new_homes : ℕ → Option ℕ) (old new : Scope) (known : ℕ → Option ℕ) (exports : List ℕ) (ds : List DeclaratorValue) (own : ℕ) (types : List TypeDef)
     → more_names ≡ names → Begins old.types new.types → RootGood more_names new_known new_homes new types → InsideGood names root_known homes old known exports ds own types
     → InsideGood more_names new_known new_homes new known exports ds own types
 inside_over names more_names root_known homes new_known new_homes old new known exports ds own types e b root g =
@@ -253,7 +251,7 @@ name_there None n h = absurd cc
 name_there (Some s) n h = (s, refl, cc)
 
 -- the type of a new export stands under its name
-pub export_good : (names : InterfaceNames) (root_known homes : List (Option ℕ)) (scope : Scope) (known : List (Option ℕ)) (exports : List ℕ) (olds news : List DeclaratorValue) (own : ℕ) (types : List TypeDef) (id body : ℕ) (n : List ℕ) (d : TypeDef)
+pub export_good : (names : InterfaceNames) (root_known homes : ℕ → Option ℕ) (scope : Scope) (known : ℕ → Option ℕ) (exports : List ℕ) (olds news : List DeclaratorValue) (own : ℕ) (types : List TypeDef) (id body : ℕ) (n : List ℕ) (d : TypeDef)
     → news ≡ olds ++ declared_export n (descriptions.Equal body) ∷ [] → is_new (exported_names olds) n ≡ true
     → slice_get types id ≡ Some d → is_of own d.owner ≡ true → option_map string_bytes d.name ≡ Some n
     → KindStands (inside_label names own) types (inside_of (scope.types ∷ []) olds).types d.kind body
@@ -269,7 +267,7 @@ export_good names root_known homes scope known exports olds news own types id bo
     let r = value_inside s.types body w stands.2 in
     let label : inside_label names own o ≡ own_label n = own_name names own d.owner (string_bytes x.0) owner ∙ ap own_label x.2 in
     let item : named_item (own_label n) (item_at s.types body) ≡ a_type (named (inside_label names own o) w) = ap (named_item (own_label n)) r.0 ∙ ap (λ l. a_type (named l w)) (sym label) in
-    let fresh : is_new (map (λ (y : Entry). y.name) s.items) n ≡ true = ap (λ l. is_new l n) (inside_names (A ∷ []) olds) ∙ new in
+    let fresh : is_new (map (λ (y : Entry). y.name) s.items) n ≡ true = ap (λ l. is_new l n) (items_named (A ∷ []) olds) ∙ new in
     let has : item_named n (items_of t.items) ≡ a_type (named (inside_label names own o) w) =
     ap (λ (q : Inside). item_named n (items_of q.items)) (inside_push (A ∷ []) olds news (declared_export n (descriptions.Equal body)) e) ∙ named_last n s.items (named_item (own_label n) (item_at s.types body)) fresh ∙ item in
     let named_tree : under_name d.owner d.name stands.0 ≡ named o stands.0 = ap (λ (m : Option (String Global)). under_name d.owner m stands.0) x.1 in
@@ -288,8 +286,8 @@ export_good names root_known homes scope known exports olds news own types id bo
 
 -- ---- what is remembered
 
-pub known_good : (names : InterfaceNames) (root_known homes : List (Option ℕ)) (scope : Scope) (known new : List (Option ℕ)) (exports : List ℕ) (ds : List DeclaratorValue) (own id index : ℕ) (types : List TypeDef)
-    → IsKept known new id index → Stands (inside_label names own) types (inside_of (scope.types ∷ []) ds).types (Id id) (Index index)
+pub known_good : (names : InterfaceNames) (root_known homes : ℕ → Option ℕ) (scope : Scope) (known new : ℕ → Option ℕ) (exports : List ℕ) (ds : List DeclaratorValue) (own id index : ℕ) (types : List TypeDef)
+    → ((k : ℕ) → new k ≡ remembering known id index k) → Stands (inside_label names own) types (inside_of (scope.types ∷ []) ds).types (Id id) (Index index)
     → InsideGood names root_known homes scope known exports ds own types → InsideGood names root_known homes scope new exports ds own types
 known_good names root_known homes scope known new exports ds own id index types kept s g = record {
   root = g.root;
@@ -297,12 +295,11 @@ known_good names root_known homes scope known new exports ds own id index types 
   ids = λ k i h. elim (cases_Bool (nat_eq k id)) [
     | inl b ↦
         let e : k ≡ id = eqb-true k id b in
-        let here = kept.here in
-        let there : Some (Some index) ≡ Some (Some i) = sym here ∙ ap (slice_get new) (sym e) ∙ h in
+        let there : Some index ≡ Some i = sym (kept k ∙ one_here known id index k (sym e)) ∙ h in
         let same : index ≡ i = cc in
         let P : ℕ → ℕ → Type 0 = λ a b. Stands (inside_label names own) types (inside_of (scope.types ∷ []) ds).types (Id a) (Index b) in
         subst (λ a. P a i) (sym e) (subst (P id) same s)
-    | inr b ↦ g.ids k i (sym (kept.others k (differs k id b)) ∙ h)
+    | inr b ↦ g.ids k i (sym (kept k ∙ others_stay known id index k b) ∙ h)
   ];
   exported = g.exported;
   apart = g.apart;
@@ -331,10 +328,16 @@ module _ (names : InterfaceNames) (own : ℕ) where
         let f = written_apart_parts ps h.1 in
         λ i. part (e i) (f i)
 
-pub foreign_owner : (names : InterfaceNames) (own : ℕ) (owner : TypeOwner) (n : List ℕ) → is_own_site (inside_label names own (record { owner = owner; name = n })).site ≡ false → (j : ℕ) × (owner ≡ belongs.Interface j) × (nat_eq j own ≡ false)
-foreign_owner names own (belongs.World w) n h = absurd cc
-foreign_owner names own (belongs.Interface j) n h = elim (cases_Bool (nat_eq j own)) [
-  | inl b ↦ let k : true ≡ false = rw b at h in absurd cc
-  | inr b ↦ (j, refl, b)
-]
-foreign_owner names own belongs.None n h = absurd cc
+-- a type of another interface
+pub other_interface : (own j : ℕ) (owner other : TypeOwner) → other ≡ belongs.Interface j → other ≡ owner → is_of own owner ≡ false → nat_eq j own ≡ false
+other_interface own j owner other e same away = ap (is_of own) (sym e ∙ same) ∙ away
+
+-- ---- the names of items
+
+pub names_of_items : (es : List Entry) → names_in (items_of es) ≡ map (λ (e : Entry). e.name) es
+names_of_items [] = refl
+names_of_items (e ∷ es) = ap (λ (ns : List (List ℕ)). e.name ∷ ns) (names_of_items es)
+
+pub names_put : (f : Label → Label) (g : Resource → BinaryTree) (is : Items) → names_in (put_items f g is) ≡ names_in is
+names_put f g no_items = refl
+names_put f g (and_item n i more) = ap (λ (ns : List (List ℕ)). n ∷ ns) (names_put f g more)

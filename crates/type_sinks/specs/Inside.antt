@@ -12,10 +12,10 @@ use Rattle.wit_types.specs.declared.interface.TypeOwner.{TypeOwner}
 use Rattle.wit_types.specs.declared.interface.TypeOwner.TheVariants as belongs
 use Rattle.type_meaning.specs.Tree.{Parts, named, resource, of, none, gap, part}
 use Rattle.type_meaning.specs.Words.{itself, Label}
-use Rattle.type_meaning.specs.Items.{Item, Inside, inside_of, items_of, item_named, a_type, is_value}
+use Rattle.type_meaning.specs.Items.{Item, Items, no_items, and_item, Inside, inside_of, items_of, item_named, a_type, is_value}
 use Rattle.type_meaning.specs.Scope.{Scope}
-use Rattle.type_sinks.specs.Unfolding.{OwnName, WitTree, Unfolds}
-use Rattle.type_sinks.specs.Writing.{written, Stands}
+use Rattle.type_writing.specs.Unfolding.{OwnName, WitTree, Unfolds}
+use Rattle.type_writing.specs.Writing.{written, Stands}
 use Rattle.type_sinks.specs.Root.{InterfaceNames, root_label, RootGood}
 
 -- how many indices of types a declarator takes
@@ -40,6 +40,11 @@ exported_name (declared_export n d) = n ∷ []
 
 unfoldable pub exported_names : List DeclaratorValue → List (List ℕ)
 exported_names ds = flat_map exported_name ds
+
+-- the names of items, in order
+abbrev pub names_in : Items → List (List ℕ)
+names_in no_items = []
+names_in (and_item n i more) = n ∷ names_in more
 
 -- whether the owner is the interface
 abbrev pub is_of : ℕ → TypeOwner → Bool
@@ -85,9 +90,9 @@ pub record IsExported (names : InterfaceNames) (own : ℕ) (types : List TypeDef
   pub value : is_value (written (inside_label names own) tree) ≡ true
 
 -- what is remembered is so
-pub record InsideGood (names : InterfaceNames) (root_known homes : List (Option ℕ)) (scope : Scope) (known : List (Option ℕ)) (exports : List ℕ) (ds : List DeclaratorValue) (own : ℕ) (types : List TypeDef) : Type 0 where
+pub record InsideGood (names : InterfaceNames) (root_known homes : ℕ → Option ℕ) (scope : Scope) (known : ℕ → Option ℕ) (exports : List ℕ) (ds : List DeclaratorValue) (own : ℕ) (types : List TypeDef) : Type 0 where
   pub root : RootGood names root_known homes scope types
   pub stays : StaysInside scope.types ds (inside_of (scope.types ∷ []) ds)
-  pub ids : (id i : ℕ) → slice_get known id ≡ Some (Some i) → Stands (inside_label names own) types (inside_of (scope.types ∷ []) ds).types (Id id) (Index i)
+  pub ids : (id i : ℕ) → known id ≡ Some i → Stands (inside_label names own) types (inside_of (scope.types ∷ []) ds).types (Id id) (Index i)
   pub exported : Each (IsExported names own types (inside_of (scope.types ∷ []) ds)) exports
   pub apart : OthersAreApart own types

@@ -1,9 +1,5 @@
-pub mod Unfolding
-pub mod Writing
 pub mod Root
 pub mod Inside
 pub mod Kept
 pub mod Views
-pub mod Functions
 pub mod Refusals
-pub mod Texts

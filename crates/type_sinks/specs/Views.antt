@@ -1,6 +1,7 @@
 -- The root of a component, and the type of an instance, as contracts see them.
-use Rattle.std.specs.Prelude.{◌≡◌, ℕ, List, [], ◌∷◌, ◌++◌, length, map, get_or, slice_get, option_map, Option, Some, true, nat_eq, string_bytes}
+use Rattle.std.specs.Prelude.{◌≡◌, ◌⊎◌, ◌≤◌, ℕ, ◌+◌, ◌^◌, List, [], ◌∷◌, ◌++◌, length, map, get_or, slice_get, option_map, Option, None, Some, true, false, nat_eq, string_bytes}
 use Rattle.std.specs.List.{list_any}
+use Rattle.distinct_names.specs.Names.{is_new}
 use Rattle.component_definitions.specs.declared.externs.Description.TheVariants as descriptions
 use Rattle.component_entries.specs.Entries.{EntryValue, entry_value, a_type, an_import}
 use Rattle.component_instances.specs.Declarators.{DeclaratorValue, declarator_value}
@@ -10,17 +11,20 @@ use Rattle.wit_types.specs.declared.kind.«Type».{«Type» as Ref}
 use Rattle.wit_types.specs.declared.kind.«Type».TheVariants.{Id}
 use Rattle.wit_types.specs.declared.function.Param.{Param}
 use Rattle.wit_types.specs.declared.interface.TypeDef.{TypeDef}
-use Rattle.type_meaning.specs.Words.{Site}
+use Rattle.wit_types.specs.declared.interface.TypeOwner.TheVariants as belongs
+use Rattle.type_meaning.specs.Words.{Site, imported, Label}
 use Rattle.type_meaning.specs.Items.{Inside as TheInside, inside_of, Items, items_of, item_at, item_named, own_label, from_import, a_function, an_instance}
 use Rattle.type_meaning.specs.Scope.{Scope, meaning, adds}
 use Rattle.type_sinks.specs.declared.root.Root.{Root}
 use Rattle.type_sinks.specs.declared.inside.InterfaceTypes.{InterfaceTypes}
-use Rattle.type_sinks.specs.Unfolding.{WitTree}
-use Rattle.type_sinks.specs.Writing.{written, Stands, Begins}
-use Rattle.type_sinks.specs.Root.{InterfaceNames, root_label, RootGood}
-use Rattle.type_sinks.specs.Inside.{inside_label, InsideGood}
-use Rattle.type_sinks.specs.Functions.{FunctionUnfolds}
-use Rattle.type_sinks.specs.Kept.{AreKept}
+use Rattle.type_writing.specs.Unfolding.{WitTree}
+use Rattle.type_writing.specs.declared.fault.Fault.{Fault}
+use Rattle.type_writing.specs.Writing.{written, Stands, Begins, Setting}
+use Rattle.type_writing.specs.Refusals.{IsCause}
+use Rattle.type_sinks.specs.Root.{InterfaceNames, root_label, is_of_world, imported_names, RootGood}
+use Rattle.type_sinks.specs.Inside.{type_count, exported_names, is_of, inside_label, names_in, InsideGood}
+use Rattle.type_writing.specs.Functions.{FunctionUnfolds}
+use Rattle.type_sinks.specs.Kept.{index_of, AreKept}
 
 -- ---- the root
 
@@ -36,16 +40,34 @@ root_scope r = meaning (entry_values r)
 abbrev pub interface_names : Root → InterfaceNames
 interface_names r = map string_bytes r.names.now
 
+-- under which names it imports something
+abbrev pub root_names : Root → List (List ℕ)
+root_names r = imported_names (entry_values r)
+
+-- what stays while types are written: those of no interface are given their names here
+abbrev pub root_setting : Root → Setting
+root_setting r = record {
+  label = root_label (interface_names r);
+  is_own = is_of_world;
+  homes = index_of r.homes;
+  interface = None;
+  around = record { interfaces = interface_names r; imported = []; functions = (root_scope r).functions; instances = (root_scope r).instances };
+}
+
+-- 32 bits can't say how many types there are with one more
+abbrev pub IsFull : Root → Type 0
+IsFull r = 2 ^ 32 ≤ length (root_scope r).types + 1
+
 -- what it remembers is so of these types
 abbrev pub RootIsGood : Root → List TypeDef → Type 0
-RootIsGood r types = RootGood (interface_names r) r.known.items r.homes.items (root_scope r) types
+RootIsGood r types = RootGood (interface_names r) (index_of r.known) (index_of r.homes) (root_scope r) types
 
 -- nothing is written, and nothing is remembered
 pub record IsSameRoot (old new : Root) : Type 0 where
   pub entries : entry_values new ≡ entry_values old
   pub names : interface_names new ≡ interface_names old
-  pub known : new.known.items ≡ old.known.items
-  pub homes : new.homes.items ≡ old.homes.items
+  pub known : new.known ≡ old.known
+  pub homes : new.homes ≡ old.homes
 
 -- ---- entries
 
@@ -53,12 +75,17 @@ pub record IsSameRoot (old new : Root) : Type 0 where
 pub record IsAdded (old new : Root) (e : EntryValue) : Type 0 where
   pub entries : entry_values new ≡ entry_values old ++ e ∷ []
   pub names : interface_names new ≡ interface_names old
-  pub known : new.known.items ≡ old.known.items
-  pub homes : new.homes.items ≡ old.homes.items
+  pub known : new.known ≡ old.known
+  pub homes : new.homes ≡ old.homes
 
 -- a type of an interface is taken from the instance that has it
 pub record IsTaken (old new : Root) (name : List ℕ) (id i : ℕ) : Type 0 where
   pub names : interface_names new ≡ interface_names old
+  pub imported : root_names new ≡ root_names old
+  pub homes : new.homes ≡ old.homes
+  pub functions : (root_scope new).functions ≡ (root_scope old).functions
+  pub instances : (root_scope new).instances ≡ (root_scope old).instances
+  pub owner : (types : List TypeDef) (d : TypeDef) → RootIsGood old types → slice_get types id ≡ Some d → (j : ℕ) × (d.owner ≡ belongs.Interface j)
   pub begins : Begins (root_scope old).types (root_scope new).types
   pub good : (types : List TypeDef) → RootIsGood old types → RootIsGood new types
   pub stands : (types : List TypeDef) (d : TypeDef) → RootIsGood old types → slice_get types id ≡ Some d → option_map string_bytes d.name ≡ Some name → Stands (root_label (interface_names new)) types (root_scope new).types (Id id) (Index i)
@@ -67,13 +94,34 @@ pub record IsTaken (old new : Root) (name : List ℕ) (id i : ℕ) : Type 0 wher
 pub record IsImported (old new : Root) (interface : ℕ) (ds : List DeclaratorValue) (ids : List ℕ) : Type 0 where
   pub entries : entry_values new ≡ entry_values old ++ a_type (of_instance ds) ∷ an_import (record { name = get_or (interface_names old) interface []; description = descriptions.Instance (length (root_scope old).types) }) ∷ []
   pub names : interface_names new ≡ interface_names old
-  pub known : new.known.items ≡ old.known.items
-  pub homes : AreKept old.homes.items new.homes.items ids (length (root_scope old).instances)
+  pub known : new.known ≡ old.known
+  pub homes : AreKept (index_of old.homes) (index_of new.homes) ids (length (root_scope old).instances)
 
 -- an entry takes the next index of a type alone
 pub record AddsOneType (scope : Scope) (e : EntryValue) : Type 0 where
   pub types : length (adds scope e).types ≡ 1
+  pub functions : (adds scope e).functions ≡ []
   pub instances : (adds scope e).instances ≡ []
+
+-- why no instance is imported for an interface: it has no name, or the name is there already; or 32 bits can't say an index
+abbrev pub IsImportCause : Root → ℕ → Fault → Type 0
+IsImportCause r interface = IsCause ((length (interface_names r) ≤ interface) ⊎ (is_new (root_names r) (get_or (interface_names r) interface []) ≡ false)) (IsFull r ⊎ (2 ^ 32 ≤ length (root_scope r).instances + 1))
+
+-- and one that takes the next index of a function alone
+pub record AddsOneFunction (scope : Scope) (e : EntryValue) : Type 0 where
+  pub types : (adds scope e).types ≡ []
+  pub functions : length (adds scope e).functions ≡ 1
+  pub instances : (adds scope e).instances ≡ []
+
+-- 32 bits can't say how many functions there are with one more
+abbrev pub IsFullOfFunctions : Root → Type 0
+IsFullOfFunctions r = 2 ^ 32 ≤ length (root_scope r).functions + 1
+
+-- the function at an index is the import with that label, of this type
+pub record IsFunctionAt (r : Root) (i : ℕ) (label : Label) (types : List TypeDef) (params : List Param) (result : Option Ref) : Type 0 where
+  pub tree : WitTree
+  pub unfolds : FunctionUnfolds types params result tree
+  pub is : item_at (root_scope r).functions i ≡ a_function (from_import label) (written (root_label (interface_names r)) tree)
 
 -- ---- the type of an instance
 
@@ -84,9 +132,27 @@ declarator_values t = map declarator_value t.declarators.items
 abbrev pub inside : InterfaceTypes → TheInside
 inside t = inside_of ((root_scope t.root).types ∷ []) (declarator_values t)
 
+-- under which names it exports something
+abbrev pub inside_names : InterfaceTypes → List (List ℕ)
+inside_names t = exported_names (declarator_values t)
+
+-- what stays while types are written: those of the interface are given their names here
+abbrev pub inside_setting : InterfaceTypes → Setting
+inside_setting t = record {
+  label = inside_label (interface_names t.root) t.interface;
+  is_own = is_of t.interface;
+  homes = index_of t.root.homes;
+  interface = Some t.interface;
+  around = record { interfaces = interface_names t.root; imported = root_names t.root; functions = (root_scope t.root).functions; instances = (root_scope t.root).instances };
+}
+
+-- 32 bits can't say how many types there are with one more, here or around
+abbrev pub IsFullInside : InterfaceTypes → Type 0
+IsFullInside t = (2 ^ 32 ≤ type_count (declarator_values t) + 1) ⊎ IsFull t.root
+
 -- what it remembers is so of these types
 abbrev pub InsideIsGood : InterfaceTypes → List TypeDef → Type 0
-InsideIsGood t types = InsideGood (interface_names t.root) t.root.known.items t.root.homes.items (root_scope t.root) t.known.items t.exports.items (declarator_values t) t.interface types
+InsideIsGood t types = InsideGood (interface_names t.root) (index_of t.root.known) (index_of t.root.homes) (root_scope t.root) (index_of t.known) t.exports.items (declarator_values t) t.interface types
 
 -- the type with that id is exported
 abbrev pub IsGiven : InterfaceTypes → ℕ → Type 0
@@ -97,7 +163,7 @@ pub record IsSameInside (old new : InterfaceTypes) : Type 0 where
   pub declarators : declarator_values new ≡ declarator_values old
   pub root : new.root ≡ old.root
   pub interface : new.interface ≡ old.interface
-  pub known : new.known.items ≡ old.known.items
+  pub known : new.known ≡ old.known
   pub exports : new.exports.items ≡ old.exports.items
 
 -- a declarator is written behind the others, over the same root, and these types are exported
@@ -105,7 +171,7 @@ pub record IsDeclared (old new : InterfaceTypes) (d : DeclaratorValue) (ids : Li
   pub declarators : declarator_values new ≡ declarator_values old ++ d ∷ []
   pub root : new.root ≡ old.root
   pub interface : new.interface ≡ old.interface
-  pub known : new.known.items ≡ old.known.items
+  pub known : new.known ≡ old.known
   pub exports : new.exports.items ≡ ids
 
 -- it exports a function under the name
@@ -114,9 +180,14 @@ pub record HasFunction (t : InterfaceTypes) (types : List TypeDef) (name : List 
   pub unfolds : FunctionUnfolds types params result tree
   pub has : item_named name (items_of (inside t).items) ≡ a_function (from_import (own_label name)) (written (inside_label (interface_names t.root) t.interface) tree)
 
+-- the instance at an index exports something under these names, and nothing else
+pub record IsInstanceWith (r : Root) (instance : ℕ) (site : Site) (names : List (List ℕ)) : Type 0 where
+  pub items : Items
+  pub is : item_at (root_scope r).instances instance ≡ an_instance site items
+  pub named : names_in items ≡ names
+
 -- the instance at an index exports a function under the name
-pub record InstanceHasFunction (r : Root) (instance : ℕ) (types : List TypeDef) (name : List ℕ) (params : List Param) (result : Option Ref) : Type 0 where
-  pub site : Site
+pub record InstanceHasFunction (r : Root) (instance : ℕ) (site : Site) (types : List TypeDef) (name : List ℕ) (params : List Param) (result : Option Ref) : Type 0 where
   pub items : Items
   pub is : item_at (root_scope r).instances instance ≡ an_instance site items
   pub tree : WitTree

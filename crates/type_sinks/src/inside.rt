@@ -1,27 +1,27 @@
 //! The type of the instance that is imported for an interface.
 
-ghost use Rattle.std.specs.Prelude.{◌≡◌, ◌++◌, ◌∷◌, [], ℕ, List, Option, Some, true, slice_get, length, map, IfOk, IfErr, OnOk, OnErr};
+ghost use Rattle.std.specs.Prelude.{◌≡◌, ◌++◌, ◌∷◌, [], ◌≤◌, ◌+◌, ◌^◌, ℕ, nat_eq, List, Option, Some, None, true, false, get_or, length, map, IfOk, IfErr, OnOk, OnErr};
+ghost use Rattle.std.specs.List.{list_any};
 ghost use Rattle.component_definitions.specs.declared.externs.Description.TheVariants as descriptions;
 ghost use Rattle.distinct_names.specs.Names.{is_new};
 ghost use Rattle.component_instances.specs.Declarators.{declarator_value, declared_export};
 ghost use Rattle.wit_types.specs.declared.function.Param.{Param as Parameter};
 ghost use Rattle.wit_types.specs.declared.kind.«Type».{«Type» as Ref};
 ghost use Rattle.wit_types.specs.declared.interface.TypeDef.{TypeDef as Def};
-ghost use Rattle.type_sinks.specs.Inside.{declares, type_count, exported_name, exported_names, is_of, inside_label, OthersAreApart};
-ghost use Rattle.type_sinks.specs.declared.fault.Fault.TheVariants.{OutOfMemory};
-ghost use Rattle.type_sinks.specs.Refusals.{IsNameCause, IsExportCause, IsFunctionCause};
-ghost use Rattle.type_sinks.specs.Functions.{function_form};
+ghost use Rattle.type_sinks.specs.Kept.{index_of};
+ghost use Rattle.type_sinks.specs.Inside.{declares, type_count, exported_name, exported_names, is_of, OthersAreApart};
+ghost use Rattle.type_sinks.specs.Refusals.{IsFunctionCause};
+ghost use Rattle.type_writing.specs.Functions.{function_form};
+ghost use Rattle.type_writing.specs.Refusals.{IsCause};
 
-use crate::encoder::ValtypeEncoder;
-use crate::fault::Fault;
-use crate::functions::function_of;
-use crate::kept::{keep, nothing, recall};
+use crate::kept::Kept;
 use crate::root::Root;
 use component_definitions::{Alias, Description};
 use component_instances::Declarator;
 use component_value_types::DefinedType;
 use distinct_names::Names;
 use std::alloc::Global;
+use type_writing::{Fault, ValtypeEncoder, function_of};
 use wit_types::{InterfaceId, Param, Type, TypeId, TypeOwner};
 
 /// The type of an interface's instance while it is written, over the root of the component: the interface's own types are exports that
@@ -33,8 +33,8 @@ pub struct InterfaceTypes<'s> {
     /// What is written, in order.
     declarators: Vec<Declarator<'s>>,
     types: u32,
-    /// The index of each type that is written, by its id.
-    known: Vec<Option<u32>>,
+    /// The index of each type that is written.
+    known: Kept,
     /// The types that are exported.
     exports: Vec<TypeId>,
     /// The names of what is exported.
@@ -51,11 +51,11 @@ fn export<'s>(
     name: &'s str,
     description: Description,
 ) -> Result<(), Fault>
-    ensures new { IfOk result (λ _. is_new exported.old name.entry.now ≡ true) }
-    ensures name { IfOk result (λ _. exported.new ≡ exported.old ++ name.entry.now ∷ []) }
-    ensures declarator { IfOk result (λ _. map declarator_value declarators.new.items ≡ map declarator_value declarators.old.items ++ declared_export name.entry.now description ∷ []) }
+    ensures new { OnOk result (is_new exported.old name.entry.now ≡ true) }
+    ensures name { OnOk result (exported.new ≡ exported.old ++ name.entry.now ∷ []) }
+    ensures declarator { OnOk result (map declarator_value declarators.new.items ≡ map declarator_value declarators.old.items ++ declared_export name.entry.now description ∷ []) }
     ensures err { OnErr result ((exported.new ≡ exported.old) × (declarators.new.items ≡ declarators.old.items)) }
-    ensures cause { IfErr result (IsNameCause exported.old name.entry.now) }
+    ensures cause { IfErr result (IsCause (is_new exported.old name.entry.now ≡ false) ⊥) }
 {
     if !exported.is_new(name) {
         return Err(Fault::NotYet);
@@ -67,43 +67,45 @@ fn export<'s>(
 }
 
 impl<'s> InterfaceTypes<'s> {
-    ghost use Rattle.type_sinks.specs.Views.{root_scope, interface_names, RootIsGood, declarator_values, inside, InsideIsGood, IsGiven, IsSameInside, IsDeclared, IsImported, HasFunction, InstanceHasFunction};
-    ghost use Rattle.type_sinks.specs.Writing.{Begins};
-    ghost use Rattle.type_sinks.specs.Refusals.{IsFull};
+    ghost use Rattle.type_sinks.specs.Views.{root_scope, interface_names, root_names, RootIsGood, IsFull, declarator_values, inside, inside_names, inside_setting, InsideIsGood, IsFullInside, IsGiven, IsSameInside, IsDeclared, IsImported, IsImportCause, IsInstanceWith, HasFunction, InstanceHasFunction};
+    ghost use Rattle.type_meaning.specs.Words.{imported};
+    ghost use Rattle.type_writing.specs.Writing.{Begins};
 
-    /// The type of the instance of an interface, where nothing is written, over a root. Answers `OutOfMemory` where memory is wanting.
-    pub fn new(
-        alloc: Global,
-        root: Root<'s>,
-        interface: InterfaceId,
-    ) -> Result<InterfaceTypes<'s>, Fault>
-        ensures root { IfOk result (λ t. t.root ≡ root.entry) }
-        ensures interface { IfOk result (λ t. t.interface ≡ interface) }
-        ensures declarators { IfOk result (λ t. declarator_values t ≡ []) }
-        ensures good { IfOk result (λ t. (types : List Def) → RootIsGood root.entry types → OthersAreApart interface types → InsideIsGood t types) }
-        ensures cause { IfErr result (λ e. e ≡ OutOfMemory) }
+    /// The type of the instance of an interface, where nothing is written, over a root.
+    pub fn new(alloc: Global, root: Root<'s>, interface: InterfaceId) -> InterfaceTypes<'s>
+        ensures root { result.root ≡ root.entry }
+        ensures interface { result.interface ≡ interface }
+        ensures declarators { declarator_values result ≡ [] }
+        ensures exports { result.exports.items ≡ [] }
+        ensures table { (id : ℕ) → index_of result.known id ≡ None }
+        ensures good { (types : List Def) → RootIsGood root.entry types → OthersAreApart interface types → InsideIsGood result types }
     {
-        let types = root.type_count();
-        Ok(InterfaceTypes {
+        InterfaceTypes {
             root,
             interface,
             declarators: Vec::new(alloc),
             types: 0,
-            known: nothing(alloc, types)?,
+            known: Kept::new(alloc),
             exports: Vec::new(alloc),
             exported: Names::new(alloc),
-        })
+        }
     }
 
     /// Imports the instance at the root, under the interface's name, with which the root answers; the types that are exported may be
-    /// taken from it. Answers `NotYet` where the interface has no name, `TooLarge` where 32 bits can't say an index, and `OutOfMemory`
-    /// where memory is wanting.
+    /// taken from it. Answers `NotYet` where the interface has no name or the root imports something under it, `TooLarge` where 32 bits
+    /// can't say an index, and `OutOfMemory` where memory is wanting.
     pub fn import(self) -> Result<Root<'s>, Fault>
         ensures imported { IfOk result (λ r. IsImported self.entry.root r self.entry.interface (declarator_values self.entry) self.entry.exports.items) }
         ensures good { IfOk result (λ r. (types : List Def) → InsideIsGood self.entry types → RootIsGood r types) }
-        ensures homes { IfOk result (λ r. (id : ℕ) → IsGiven self.entry id → slice_get r.homes.items id ≡ Some (Some (length (root_scope self.entry.root).instances))) }
+        ensures homes { IfOk result (λ r. (id : ℕ) → IsGiven self.entry id → index_of r.homes id ≡ Some (length (root_scope self.entry.root).instances)) }
+        ensures interfaces { IfOk result (λ r. interface_names r ≡ interface_names self.entry.root) }
+        ensures others { IfOk result (λ r. (id : ℕ) → list_any (nat_eq id) self.entry.exports.items ≡ false → index_of r.homes id ≡ index_of self.entry.root.homes id) }
         ensures begins { IfOk result (λ r. Begins (root_scope self.entry.root).types (root_scope r).types × Begins (root_scope self.entry.root).instances (root_scope r).instances) }
-        ensures functions { IfOk result (λ r. (types : List Def) (name : List ℕ) (params : List Parameter) (answer : Option Ref) → HasFunction self.entry types name params answer → InstanceHasFunction r (length (root_scope self.entry.root).instances) types name params answer) }
+        ensures same { IfOk result (λ r. (root_scope r).functions ≡ (root_scope self.entry.root).functions) }
+        ensures names { IfOk result (λ r. root_names r ≡ root_names self.entry.root ++ get_or (interface_names self.entry.root) self.entry.interface [] ∷ []) }
+        ensures items { IfOk result (λ r. IsInstanceWith r (length (root_scope self.entry.root).instances) (imported (get_or (interface_names self.entry.root) self.entry.interface [])) (inside_names self.entry)) }
+        ensures functions { IfOk result (λ r. (types : List Def) (name : List ℕ) (params : List Parameter) (answer : Option Ref) → HasFunction self.entry types name params answer → InstanceHasFunction r (length (root_scope self.entry.root).instances) (imported (get_or (interface_names self.entry.root) self.entry.interface [])) types name params answer) }
+        ensures cause { IfErr result (IsImportCause self.entry.root self.entry.interface) }
     {
         let mut root = self.root;
         root.import_instance(self.interface, self.declarators, &self.exports)?;
@@ -126,9 +128,9 @@ impl<'s> InterfaceTypes<'s> {
         requires name { exported_name (declarator_value declarator) ≡ [] }
         ensures ok { IfOk result (λ i. (i ≡ type_count (declarator_values self.old)) × IsDeclared self.old self.new (declarator_value declarator.entry) self.old.exports.items) }
         ensures err { OnErr result (IsSameInside self.old self.new) }
-        ensures cause { IfErr result (IsFull (type_count (declarator_values self.old))) }
+        ensures cause { IfErr result (IsCause ⊥ (2 ^ 32 ≤ type_count (declarator_values self.new) + 1)) }
         ensures exports { self.new.exports.items ≡ self.old.exports.items }
-        ensures known { self.new.known.items ≡ self.old.known.items }
+        ensures known { self.new.known ≡ self.old.known }
     {
         let index = self.types;
         let next = index.checked_add(1).ok_or(Fault::TooLarge)?;
@@ -139,10 +141,10 @@ impl<'s> InterfaceTypes<'s> {
 
     /// Exports a type of the interface, which equals the type at an index, under its own name, and answers the index of that.
     fn export_type(&mut self, name: &'s str, id: TypeId, body: u32) -> Result<u32, Fault>
-        ensures ok { IfOk result (λ i. (i ≡ type_count (declarator_values self.old)) × (is_new (exported_names (declarator_values self.old)) name.entry.now ≡ true) × IsDeclared self.old self.new (declared_export name.entry.now (descriptions.Equal body)) (self.old.exports.items ++ id ∷ [])) }
+        ensures ok { IfOk result (λ i. (i ≡ type_count (declarator_values self.old)) × (is_new (inside_names self.old) name.entry.now ≡ true) × IsDeclared self.old self.new (declared_export name.entry.now (descriptions.Equal body)) (self.old.exports.items ++ id ∷ [])) }
         ensures err { OnErr result (IsSameInside self.old self.new) }
-        ensures cause { IfErr result (IsExportCause (exported_names (declarator_values self.old)) name.entry.now (type_count (declarator_values self.old))) }
-        ensures known { self.new.known.items ≡ self.old.known.items }
+        ensures cause { IfErr result (IsCause (is_new (inside_names self.old) name.entry.now ≡ false) (2 ^ 32 ≤ type_count (declarator_values self.new) + 1)) }
+        ensures known { self.new.known ≡ self.old.known }
     {
         let index = self.types;
         let next = index.checked_add(1).ok_or(Fault::TooLarge)?;
@@ -156,9 +158,9 @@ impl<'s> InterfaceTypes<'s> {
 
     /// Exports a function of the type at an index.
     fn export_item(&mut self, name: &'s str, ty: u32) -> Result<(), Fault>
-        ensures ok { IfOk result (λ _. (is_new (exported_names (declarator_values self.old)) name.entry.now ≡ true) × IsDeclared self.old self.new (declared_export name.entry.now (descriptions.Function ty)) self.old.exports.items) }
+        ensures ok { IfOk result (λ _. (is_new (inside_names self.old) name.entry.now ≡ true) × IsDeclared self.old self.new (declared_export name.entry.now (descriptions.Function ty)) self.old.exports.items) }
         ensures err { OnErr result (IsSameInside self.old self.new) }
-        ensures cause { IfErr result (IsNameCause (exported_names (declarator_values self.old)) name.entry.now) }
+        ensures cause { IfErr result (IsCause (is_new (inside_names self.old) name.entry.now ≡ false) ⊥) }
     {
         let description = Description::Function(ty);
         export(&mut self.declarators, &mut self.exported, name, description)?;
@@ -175,12 +177,16 @@ impl<'s> InterfaceTypes<'s> {
         params: &'s [Param],
         answer: &Option<Type>,
     ) -> Result<(), Fault>
-        ensures label { inside_label (interface_names self.new.root) self.new.interface ≡ inside_label (interface_names self.old.root) self.old.interface }
+        ensures setting { inside_setting self.new ≡ inside_setting self.old }
+        ensures root { self.new.root ≡ self.old.root }
+        ensures table { self.new.known ≡ self.old.known }
+        ensures exports { self.new.exports.items ≡ self.old.exports.items }
+        ensures names { OnOk result (inside_names self.new ≡ inside_names self.old ++ name.entry.now ∷ []) }
         ensures begins { Begins (inside self.old).types (inside self.new).types }
         ensures good { (types : List Def) → InsideIsGood self.old types → InsideIsGood self.new types }
         ensures has { IfOk result (λ _. (types : List Def) → InsideIsGood self.old types → HasFunction self.new types name.entry.now params.entry.now answer.now) }
         ensures keeps { (types : List Def) (other : List ℕ) (asked : List Parameter) (given : Option Ref) → HasFunction self.old types other asked given → HasFunction self.new types other asked given }
-        ensures cause { IfErr result (IsFunctionCause self.old.known.items (function_form params.entry.now answer.now).parts (exported_names (declarator_values self.old)) name.entry.now (type_count (declarator_values self.old))) }
+        ensures cause { IfErr result (IsFunctionCause (index_of self.old.known) (function_form params.entry.now answer.now).parts (inside_names self.old) name.entry.now (IsFullInside self.new)) }
     {
         let function = function_of(alloc, self, params, answer)?;
         let ty = self.add(Declarator::Type_(DefinedType::Function(function)))?;
@@ -189,27 +195,31 @@ impl<'s> InterfaceTypes<'s> {
 }
 
 impl<'s> ValtypeEncoder<'s> for InterfaceTypes<'s> {
-    ghost use Rattle.type_sinks.specs.Views.{interface_names, inside, InsideIsGood, IsGiven};
+    ghost use Rattle.type_sinks.specs.Kept.{index_of};
+    ghost use Rattle.type_sinks.specs.Views.{root_scope, inside, inside_names, inside_setting, InsideIsGood, IsFullInside, IsGiven};
+
+    ghost setting = { inside_setting };
 
     ghost space = { λ t. (inside t).types };
 
-    ghost label = { λ t. inside_label (interface_names t.root) t.interface };
+    ghost table = { λ t. index_of t.known };
 
-    ghost table = { λ t. t.known.items };
+    ghost names = { inside_names };
 
     ghost given = { IsGiven };
 
     ghost good = { InsideIsGood };
 
+    ghost full = { IsFullInside };
+
+    ghost outside = { λ t. (root_scope t.root).types };
+
     fn known(&self, id: TypeId) -> Option<u32> {
-        recall(&self.known, id)
+        self.known.get(id)
     }
 
     fn is_own(&self, owner: TypeOwner) -> bool {
-        match owner {
-            TypeOwner::World(_) | TypeOwner::None => true,
-            TypeOwner::Interface(_) => self.is_its(owner),
-        }
+        self.is_its(owner)
     }
 
     fn define(&mut self, ty: DefinedType<'s>) -> Result<u32, Fault> {
@@ -218,14 +228,11 @@ impl<'s> ValtypeEncoder<'s> for InterfaceTypes<'s> {
 
     fn declare(
         &mut self,
-        owner: TypeOwner,
+        _owner: TypeOwner,
         name: &'s str,
         id: TypeId,
         index: u32,
     ) -> Result<u32, Fault> {
-        if !self.is_its(owner) {
-            return Err(Fault::NotYet);
-        }
         self.export_type(name, id, index)
     }
 
@@ -235,6 +242,7 @@ impl<'s> ValtypeEncoder<'s> for InterfaceTypes<'s> {
     }
 
     fn remember(&mut self, id: TypeId, index: u32) -> Result<(), Fault> {
-        keep(&mut self.known, id, index)
+        self.known.keep(id, index)?;
+        Ok(())
     }
 }

@@ -1,51 +1,61 @@
 //! What is remembered of types, by their ids.
 
-ghost use Rattle.std.specs.Prelude.{◌≡◌, ◌≤◌, ℕ, Some, None, length, Any, IfOk, IfErr, IfSome, IfNone, OnErr, slice_get, replicate};
-ghost use Rattle.type_sinks.specs.declared.fault.Fault.TheVariants.{NotYet};
-ghost use Rattle.type_sinks.specs.Kept.{IsKept, AreKept};
+ghost use Rattle.std.specs.Prelude.{◌≡◌, ℕ, None, OnOk, OnErr};
+ghost use Rattle.type_writing.specs.Writing.{remembering};
+ghost use Rattle.type_sinks.specs.Kept.{index_of, AreKept};
 
-use crate::fault::Fault;
+use indexmap::IndexMap;
 use std::alloc::{AllocError, Global};
+use std::marker::Model;
 use wit_types::TypeId;
 
-/// Places for so many types, where nothing is remembered.
-pub fn nothing(alloc: Global, types: usize) -> Result<Vec<Option<u32>>, AllocError>
-    ensures { IfOk result (λ v. v.items ≡ replicate types None) }
-{
-    let mut kept = Vec::new(alloc);
-    kept.resize(types, None)?;
-    Ok(kept)
+/// An index of each type of which one is remembered, which contracts see as pairs of an id and an index.
+#[derive(Drop)]
+pub struct Kept {
+    indices: IndexMap<usize, u32>,
 }
 
-/// What is remembered of a type.
-pub fn recall(kept: &[Option<u32>], id: TypeId) -> Option<u32>
-    ensures some { IfSome result (λ i. slice_get kept.now id ≡ Some (Some i)) }
-    ensures none { IfNone result ((i : ℕ) → slice_get kept.now id ≡ Some (Some i) → ⊥) }
-{
-    *kept.get(id.index())?
+impl Model for Kept {
+    ghost use Rattle.std.specs.Prelude.{List, ℕ};
+
+    ghost Value = { List (ℕ × ℕ) };
+
+    ghost view = { λ k. k.indices.entries };
 }
 
-/// Remembers an index of a type. Answers `NotYet` where there is no place for the type, and nothing changes.
-pub fn keep(kept: &mut [Option<u32>], id: TypeId, index: u32) -> Result<(), Fault>
-    ensures ok { IfOk result (λ _. IsKept kept.old kept.new id index) }
-    ensures err { OnErr result (kept.new ≡ kept.old) }
-    ensures cause { IfErr result (λ e. (e ≡ NotYet) × (length kept.old ≤ id)) }
-{
-    let place = id.index();
-    if place >= kept.len() {
-        return Err(Fault::NotYet);
+impl Kept {
+    /// Nothing is remembered.
+    pub fn new(alloc: Global) -> Kept
+        ensures { (id : ℕ) → index_of result id ≡ None }
+    {
+        Kept {
+            indices: IndexMap::new(alloc),
+        }
     }
-    kept[place] = Some(index);
-    Ok(())
-}
 
-/// Remembers an index of each of some types. Answers `NotYet` where there is no place for one of them.
-pub fn keep_all(kept: &mut [Option<u32>], ids: &[TypeId], index: u32) -> Result<(), Fault>
-    ensures ok { IfOk result (λ _. AreKept kept.old kept.new ids.now index) }
-    ensures cause { IfErr result (λ e. (e ≡ NotYet) × Any (λ id. length kept.old ≤ id) ids.now) }
-{
-    for id in ids {
-        keep(kept, *id, index)?;
+    /// What is remembered of a type.
+    pub fn get(&self, id: TypeId) -> Option<u32>
+        ensures { result ≡ index_of self.now id }
+    {
+        self.indices.get(&id.index()).copied()
     }
-    Ok(())
+
+    /// Remembers an index of a type. Where memory is wanting nothing changes.
+    pub fn keep(&mut self, id: TypeId, index: u32) -> Result<(), AllocError>
+        ensures ok { OnOk result ((k : ℕ) → index_of self.new k ≡ remembering (index_of self.old) id index k) }
+        ensures err { OnErr result (self.new ≡ self.old) }
+    {
+        self.indices.insert(id.index(), index)?;
+        Ok(())
+    }
+
+    /// Remembers an index of each of some types.
+    pub fn keep_all(&mut self, ids: &[TypeId], index: u32) -> Result<(), AllocError>
+        ensures { OnOk result (AreKept (index_of self.old) (index_of self.new) ids.now index) }
+    {
+        for id in ids {
+            self.keep(*id, index)?;
+        }
+        Ok(())
+    }
 }

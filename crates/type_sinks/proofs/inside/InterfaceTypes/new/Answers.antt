@@ -7,9 +7,8 @@ use Rattle.type_sinks.proofs.inside.InterfaceTypes.new.Goals as goal
 pub invariant_of-result : goal.invariant_of-result
 invariant_of-result c = record {
   counted = nothing_counted c.new.result.items c.new.ensures.items;
-  named = nothing_named c.new.result.items c.new-3.result c.new.ensures.items c.new-3.ensures;
+  named = nothing_named c.new.result.items c.new-4.result c.new.ensures.items c.new-4.ensures;
 }
 
 pub returns-clause-good : goal.returns-clause-good
-returns-clause-good c = λ types root apart.
-    inside_nothing _ _ _ _ c.type_count-types.result c.in_ok-nothing.field-0.items c.new-2.result.items _ c.args.interface types c.in_ok-nothing.ensures c.new-2.ensures.items (ap (map declarator_value) c.new.ensures.items) root apart
+returns-clause-good c = λ types root apart. inside_nothing _ _ _ _ _ c.new-3.result.items _ c.args.interface types c.new-2.ensures c.new-3.ensures.items (ap (map declarator_value) c.new.ensures.items) root apart

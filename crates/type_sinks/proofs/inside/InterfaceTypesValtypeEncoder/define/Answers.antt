@@ -1,31 +1,34 @@
-use Rattle.std.proofs.Common.{subst, [], ◌∷◌}
+use Rattle.std.proofs.Common.{ap, ◌∙◌, inl}
+use Rattle.std.proofs.lemmas.List.{append-nil}
 use Rattle.std.proofs.lemmas.Result.{IfOk-weaker, IfErr-weaker, on_err_weaker}
 use Rattle.component_value_types.specs.Types.{defined_type_value}
 use Rattle.component_instances.specs.Declarators.{declared_type}
-use Rattle.type_sinks.specs.Views.{root_scope, declarator_values, inside}
-use Rattle.type_sinks.specs.Refusals.{IsFull}
-use Rattle.type_sinks.proofs.Insides.{inside_count, type_stays}
-use Rattle.type_sinks.proofs.Declared.{inside_stays, types_after, label_after, index_after, stepped}
+use Rattle.type_writing.proofs.Standing.{in_either}
+use Rattle.type_writing.proofs.Refusals.{cause_weaker}
+use Rattle.type_sinks.specs.Kept.{index_of}
+use Rattle.type_sinks.specs.Views.{root_scope, inside, inside_names}
+use Rattle.type_sinks.proofs.Insides.{type_stays}
+use Rattle.type_sinks.proofs.Declared.{inside_stays, types_after, setting_after, names_after, index_after, stepped, given_same, root_stays_outside}
 use Rattle.type_sinks.proofs.inside.InterfaceTypesValtypeEncoder.define.Goals as goal
 
-pub returns-clause-ok : goal.returns-clause-ok
-returns-clause-ok c =
+pub returns : goal.returns
+returns c =
     let old = c.args.self.now in
     let new = c.add.new.self in
     let ty = defined_type_value c.args.ty in
     let d = declared_type ty in
     let ids = old.exports.items in
-    IfOk-weaker c.add.result _ _ (λ i h. (
-      index_after old i h.0,
-      types_after old new d ids h.1,
-      label_after old new d ids h.1,
-      λ types. stepped old new d types h.1 (type_stays (root_scope old.root).types (inside old) ty),
-    )) c.add.ensures.ok
-
-pub returns-clause-err : goal.returns-clause-err
-returns-clause-err c = on_err_weaker c.add.result (inside_stays c.args.self.now c.add.new.self) c.add.ensures.err
-
-pub returns-clause-cause : goal.returns-clause-cause
-returns-clause-cause c =
-    let old = c.args.self.now in
-    IfErr-weaker c.add.result _ _ (λ e. subst (λ n. IsFull n e) (inside_count ((root_scope old.root).types ∷ []) (declarator_values old))) c.add.ensures.cause
+    let r = c.add.result in
+    let a = c.add.ensures in
+    let stays = inside_stays old new in
+    record {
+      setting = in_either r _ (λ i h. setting_after old new d ids h.1) (λ s. (stays s).setting) a.ok a.err;
+      outside = root_stays_outside old new (in_either r _ (λ i h. h.1.root) (λ s. s.root) a.ok a.err);
+      table = ap index_of a.known;
+      names = in_either r _ (λ i h. names_after old new d ids h.1 ∙ append-nil (inside_names old)) (λ s. (stays s).names) a.ok a.err;
+      keeps = λ k g. given_same old new k a.exports g;
+      good = in_either r _ (λ i h types. stepped old new d types h.1 (type_stays (root_scope old.root).types (inside old) ty)) (λ s. (stays s).good) a.ok a.err;
+      ok = IfOk-weaker r _ _ (λ i h. (index_after old i h.0, types_after old new d ids h.1)) a.ok;
+      err = on_err_weaker r (λ s. (stays s).types) a.err;
+      cause = IfErr-weaker r _ _ (cause_weaker (λ h. h) (λ h. inl h)) a.cause;
+    }

@@ -1,5 +1,5 @@
-use Rattle.std.proofs.Common.{ap, subst, sym, ◌∙◌}
-use Rattle.std.specs.Prelude.{slice_get}
+use Rattle.std.proofs.Common.{refl, ap, subst, sym, ◌∙◌}
+use Rattle.std.proofs.lemmas.List.{append-nil}
 use Rattle.std.proofs.lemmas.Result.{IfOk-weaker}
 use Rattle.component_value_types.specs.declared.values.ValueType.TheVariants.{Index}
 use Rattle.component_definitions.specs.declared.sorts.ComponentSort.TheVariants as sorts
@@ -8,9 +8,9 @@ use Rattle.component_entries.specs.Entries.{an_alias}
 use Rattle.wit_types.specs.declared.kind.«Type».TheVariants.{Id}
 use Rattle.type_meaning.specs.Scope.{adds}
 use Rattle.type_sinks.specs.Root.{root_label}
-use Rattle.type_sinks.specs.Writing.{Stands}
-use Rattle.type_sinks.specs.Views.{root_scope, interface_names}
-use Rattle.type_sinks.proofs.Rooted.{types_added, root_keeps, alias_stands}
+use Rattle.type_writing.specs.Writing.{Stands}
+use Rattle.type_sinks.specs.Views.{root_scope, root_names, interface_names}
+use Rattle.type_sinks.proofs.Rooted.{types_added, names_added, functions_same, instances_same, root_keeps, alias_stands, home_owner}
 use Rattle.type_sinks.proofs.root.Root.take.Goals as goal
 
 pub returns-clause-ok : goal.returns-clause-ok
@@ -20,9 +20,14 @@ returns-clause-ok c =
     let k = c.in_ok-instance.instance in
     let n = c.args.name.now in
     let e = an_alias (instance_export sorts.Type_ k n) in
-    let home = ap (λ l. slice_get l c.args.id) (sym c.deref.ensures.value) ∙ (rw c.in_ok-instance.ensures.ok_part at c.recall.ensures.some) in
+    let home = sym c.get.ensures ∙ c.in_ok-instance.ensures.ok_part in
     IfOk-weaker c.add_type.result _ _ (λ i h. record {
       names = h.1.names;
+      imported = names_added old new e h.1 ∙ append-nil (root_names old);
+      homes = h.1.homes;
+      functions = functions_same old new e h.1 refl;
+      instances = instances_same old new e h.1 refl;
+      owner = λ types d g at. home_owner (interface_names old) types (root_scope old).instances c.args.id k d (g.instances c.args.id k home) at;
       begins = ((adds (root_scope old) e).types, types_added old new e h.1);
       good = λ types. root_keeps old new e types h.1;
       stands = λ types d g at w.

@@ -1,0 +1,7 @@
+mod Exported
+mod Imported
+mod Asked
+mod Walked
+mod Staying
+mod Needing
+mod Worldly

@@ -1,0 +1,193 @@
+-- The interfaces that are needed, one after the other.
+use Rattle.std.proofs.Common.{◌≡◌, ◌⊎◌, ◌<◌, ◌+◌, ℕ, zero, suc, List, [], ◌∷◌, ◌++◌, length, take, get_or, Option, Some, None, Bool, true, false, refl, sym, ap, subst, ◌∙◌, arith, inl, inr, append_assoc}
+use Rattle.std.specs.Prelude.{slice_get, flat_map, string_bytes, nat_eq, Vec}
+use Rattle.std.specs.Borrow.{Bor}
+use Rattle.std.specs.declared.alloc.Global.{Global}
+use Rattle.std.specs.List.{AllByRecursion as Each}
+use Rattle.std.proofs.lemmas.List.{append-nil, take_all}
+use Rattle.std.proofs.lemmas.Bool.{cases_Bool, eqb-true, eq-eqb}
+use Rattle.wit_order.specs.Order.{Has}
+use Rattle.wit_types.specs.declared.function.Function.{Function}
+use Rattle.wit_types.specs.declared.interface.TypeDef.{TypeDef}
+use Rattle.wit_types.specs.declared.interface.TypeOwner.{TypeOwner}
+use Rattle.wit_types.specs.declared.interface.TypeOwner.TheVariants as belongs
+use Rattle.wit_reach.specs.Paths.{AreEnds, Reaches}
+use Rattle.wit_reach.specs.Types.{IsMadeOf, AreTypesThere}
+use Rattle.wit_reach.specs.Made.{IsMadeOfWithin}
+use Rattle.wit_reach.specs.Needed.{AreNeeded, IsNeededOf, BelongsTo}
+use Rattle.wit_reach.specs.Deps.{interface_of}
+use Rattle.wit_reach.proofs.Lists.{has_parts, has_append}
+use Rattle.wit_reach.proofs.Ends.{reaches_then}
+use Rattle.wit_reach.proofs.Seen.{path_over}
+use Rattle.type_meaning.specs.Words.{imported}
+use Rattle.type_writing.specs.Writing.{HasItsName, name_given, names_of_types}
+use Rattle.type_sinks.specs.declared.root.Root.{Root}
+use Rattle.type_sinks.specs.Kept.{index_of}
+use Rattle.type_sinks.specs.Root.{IsHome}
+use Rattle.type_sinks.specs.Inside.{is_of}
+use Rattle.type_sinks.specs.Views.{root_scope, root_names, interface_names, IsInstanceWith, InstanceHasFunction}
+use Rattle.component_imports.specs.Functions.{functions_of, function_names}
+use Rattle.component_imports.specs.Interface.{interface_name, setting_over, ImportHasFunction, IsInterfaceImported}
+use Rattle.component_imports.specs.Interfaces.{ids_of, linked_of, asked, is_needed, name_if, names_from, owned_name, owned_names, HasInterface, Stays, IsImportedWith, IsImportedIfNeeded, AreImported}
+use Rattle.component_imports.proofs.Imported.{named_more, each_more}
+use Rattle.component_imports.proofs.Walked.{flat_same}
+use Rattle.component_imports.proofs.Staying.{stays_on, interface_stays, owned_are, each_of, each_in}
+
+-- what is asked of an interface's functions is asked
+functions_asked : (linked : List (List Function)) (i : ℕ) (fs : List Function) (x : ℕ) → slice_get linked i ≡ Some fs → Has (ids_of fs) x → Has (flat_map ids_of linked) x
+functions_asked [] i fs x at h = absurd cc
+functions_asked (gs ∷ linked) zero fs x at h = let same : gs ≡ fs = cc in has_first (ids_of gs) (flat_map ids_of linked) x (subst (λ l. Has (ids_of l) x) (sym same) h)
+  where
+    has_first : (xs ys : List ℕ) (y : ℕ) → Has xs y → Has (xs ++ ys) y
+    has_first [] ys y k = absurd k
+    has_first (z ∷ xs) ys y k = elim k as (λ _. Has (z ∷ xs ++ ys) y) [ inl e ↦ inl e | inr l ↦ inr (has_first xs ys y l) ]
+functions_asked (gs ∷ linked) (suc i) fs x at h = has_append (ids_of gs) (flat_map ids_of linked) x (functions_asked linked i fs x at h)
+
+-- a type of the interface that the walk reaches is needed
+module _ (n : ℕ) (types : List TypeDef) (others : List ℕ) (linked : List (List Function)) (needed : List (List ℕ)) (all : AreNeeded n types (asked others linked) needed)
+    (own : ℕ) (ids : List ℕ) (fs : List Function) (at : slice_get needed own ≡ Some ids) (has : slice_get linked own ≡ Some fs) (walked : List ℕ)
+    (ends : AreEnds (IsMadeOfWithin (belongs.Interface own) types) (Has (ids ++ ids_of fs)) walked) where
+  made : (i s : ℕ) → Reaches (IsMadeOfWithin (belongs.Interface own) types) s i → Reaches (IsMadeOf types) s i
+  made i s h = (h.0, path_over (IsMadeOfWithin (belongs.Interface own) types) (IsMadeOf types) (λ a b u. (u.0, u.1, u.3)) s h.0 i h.1)
+
+  from_start : (i s : ℕ) → Has (ids ++ ids_of fs) s → Reaches (IsMadeOf types) s i → (t : ℕ) × Has (asked others linked) t × Reaches (IsMadeOf types) t i
+  from_start i s h r = elim (has_parts ids (ids_of fs) s h) as (λ _. (t : ℕ) × Has (asked others linked) t × Reaches (IsMadeOf types) t i) [
+    | inl a ↦ let from = ((all.needed own ids at s).0 a).1 in (from.0, from.1, reaches_then (IsMadeOf types) from.0 from.2.0 s i from.2.1 r)
+    | inr b ↦ (s, has_append others (flat_map ids_of linked) s (functions_asked linked own fs s has b), r)
+  ]
+
+  pub own_needed : (i : ℕ) → Has walked i → BelongsTo types i own → Has ids i
+  own_needed i h b =
+      let start = ends.only i h in
+      let from = from_start i start.0 start.1 (made i start.0 start.2) in
+      (all.needed own ids at i).1 (b, from)
+
+  -- and one that isn't the interface's has no name here
+  counts : (i : ℕ) (x : Option TypeDef) → slice_get types i ≡ x → Has walked i → Has ids i ⊎ (owned_name own x ≡ [])
+  counts i None e h = inr refl
+  counts i (Some d) e h = elim (cases_Bool (is_of own d.owner)) as (λ _. Has ids i ⊎ (owned_name own (Some d) ≡ [])) [
+    | inl b ↦ inl (own_needed i h (d, e, owner_is d.owner b))
+    | inr b ↦ inr (ap (λ c. name_given c d.name) b)
+  ]
+    where
+      owner_is : (o : TypeOwner) → is_of own o ≡ true → interface_of o ≡ Some own
+      owner_is (belongs.World w) k = absurd cc
+      owner_is (belongs.Interface j) k = ap (λ (m : ℕ). Some m) (eqb-true j own k)
+      owner_is belongs.None k = absurd cc
+
+  pub reached_needed : (i : ℕ) → Has ids i → Has walked i
+  reached_needed i h = ends.all i i (first_has ids (ids_of fs) i h) ([], refl)
+    where
+      first_has : (xs ys : List ℕ) (y : ℕ) → Has xs y → Has (xs ++ ys) y
+      first_has [] ys y k = absurd k
+      first_has (z ∷ xs) ys y k = elim k as (λ _. Has (z ∷ xs ++ ys) y) [ inl e ↦ inl e | inr l ↦ inr (first_has xs ys y l) ]
+
+  pub same_names : owned_names own types walked ≡ owned_names own types ids
+  same_names = flat_same (λ i. owned_name own (slice_get types i)) walked ids ends.rising (all.rising own ids at) reached_needed (λ i h. counts i (slice_get types i) refl h)
+
+  -- ---- the interface is there
+
+  pub interface_there : (old new : Root) → IsInterfaceImported old new types own walked fs → HasInterface new types own ids fs
+  interface_there old new h =
+      let k = length (root_scope old).instances in
+      let At : List (List ℕ) → List (List ℕ) → Type 0 = λ names l. IsInstanceWith new k (imported (get_or names own [])) (l ++ function_names fs) in
+      let Fun : List (List ℕ) → Function → Type 0 = λ names f. InstanceHasFunction new k (imported (get_or names own [])) types (string_bytes f.name) f.params.items f.result in
+      let homes = named_more (setting_over new own) types (λ id. index_of new.homes id ≡ Some k) (λ id. IsHome (interface_names new) types (root_scope new).instances id k) walked (λ id e. h.good.instances id k e) h.homes in
+      record {
+        instance = k;
+        items = subst (At (interface_names new)) (owned_are old own types walked ∙ same_names) (subst (λ names. At names (names_of_types (setting_over old own) types walked)) (sym h.interfaces) h.items);
+        homes = each_of (HasItsName (setting_over new own) types (λ id. IsHome (interface_names new) types (root_scope new).instances id k)) ids (λ id there.
+            each_in (HasItsName (setting_over new own) types (λ id. IsHome (interface_names new) types (root_scope new).instances id k)) walked id homes (reached_needed id there));
+        has = each_more _ _ fs (λ f g. subst (λ names. Fun names f) (sym h.interfaces) g) h.has;
+      }
+
+-- ---- one after the other
+
+-- those below one are imported
+pub record AreImportedTo (old new : Root) (types : List TypeDef) (needed : List (List ℕ)) (linked : List (List Function)) (n : ℕ) : Type 0 where
+  pub stays : Stays old new types
+  pub names : root_names new ≡ root_names old ++ names_from (interface_name old) 0 (take n needed) (take n linked)
+  pub has : (i : ℕ) (ids : List ℕ) (fs : List Function) → i < n → slice_get needed i ≡ Some ids → slice_get linked i ≡ Some fs → is_needed ids fs ≡ true → HasInterface new types i ids fs
+
+-- ---- one more
+
+got_below : {X : Type 0} (xs : List X) (i : ℕ) (x : X) → slice_get xs i ≡ Some x → i < length xs
+got_below [] i x h = absurd cc
+got_below (y ∷ xs) zero x h = omega arith
+got_below (y ∷ xs) (suc i) x h = let k = got_below xs i x h in omega (arith, k)
+
+pub linked_at : (vs : List (Vec (Bor Function) Global)) (i : ℕ) (v : Vec (Bor Function) Global) → i < length vs → v ≡ get_or vs i v → slice_get (linked_of vs) i ≡ Some (functions_of v.items)
+linked_at [] i v lt at = absurd (omega (arith, lt))
+linked_at (w ∷ vs) zero v lt at = ap (λ (u : Vec (Bor Function) Global). Some (functions_of u.items)) (sym at)
+linked_at (w ∷ vs) (suc i) v lt at = linked_at vs i v (omega (arith, lt)) at
+
+pub linked_count : (vs : List (Vec (Bor Function) Global)) → length (linked_of vs) ≡ length vs
+linked_count [] = refl
+linked_count (v ∷ vs) = ap suc (linked_count vs)
+
+pub all_needed : (n : ℕ) (types : List TypeDef) (vs : List (Vec (Bor Function) Global)) (others ids from : List ℕ) (needed : List (List ℕ)) → n ≡ length vs → from ≡ ids → ids ≡ asked others (linked_of vs)
+    → AreNeeded n types from needed → AreNeeded (length (linked_of vs)) types (asked others (linked_of vs)) needed
+all_needed n types vs others ids from needed count same are h = subst (λ m. AreNeeded m types (asked others (linked_of vs)) needed) (count ∙ sym (linked_count vs)) (subst (λ l. AreNeeded n types l needed) (same ∙ are) h)
+
+pub needed_there : (n : ℕ) (types : List TypeDef) (ids : List ℕ) (needed : List (List ℕ)) (i : ℕ) (own : List ℕ) → AreNeeded n types ids needed → slice_get needed i ≡ Some own → AreTypesThere types own
+needed_there n types ids needed i own all at x h = let b = ((all.needed i own at x).0 h).0 in got_below types x b.0 b.1
+
+pub functions_there : (types : List TypeDef) (others : List ℕ) (linked : List (List Function)) (i : ℕ) (fs : List Function) → AreTypesThere types (asked others linked) → slice_get linked i ≡ Some fs → AreTypesThere types (ids_of fs)
+functions_there types others linked i fs there at x h = there x (has_append others (flat_map ids_of linked) x (functions_asked linked i fs x at h))
+
+names_next : (f : ℕ → List ℕ) (k n m : ℕ) (needed : List (List ℕ)) (linked : List (List Function)) (ids : List ℕ) (fs : List Function) → m ≡ k + n → slice_get needed n ≡ Some ids → slice_get linked n ≡ Some fs
+    → names_from f k (take (suc n) needed) (take (suc n) linked) ≡ names_from f k (take n needed) (take n linked) ++ name_if (is_needed ids fs) (f m)
+names_next f k n m [] linked ids fs e a b = absurd cc
+names_next f k n m (x ∷ needed) [] ids fs e a b = absurd cc
+names_next f k zero m (x ∷ needed) (y ∷ linked) ids fs e a b =
+    let same : x ≡ ids = cc in
+    let others : y ≡ fs = cc in
+    let at : k ≡ m = omega (arith, e) in
+    append-nil (name_if (is_needed x y) (f k)) ∙ (λ i. name_if (is_needed (same i) (others i)) (f (at i)))
+names_next f k (suc n) m (x ∷ needed) (y ∷ linked) ids fs e a b =
+    let at : m ≡ suc k + n = omega (arith, e) in
+    ap (λ l. name_if (is_needed x y) (f k) ++ l) (names_next f (suc k) n m needed linked ids fs at a b)
+    ∙ sym (append_assoc (name_if (is_needed x y) (f k)) (names_from f (suc k) (take n needed) (take n linked)) (name_if (is_needed ids fs) (f m)))
+
+at_most : (i n : ℕ) → i < n + 1 → (i < n) ⊎ (i ≡ n)
+at_most i n lt = elim (cases_Bool (nat_eq i n)) [
+  | inl b ↦ inr (eqb-true i n b)
+  | inr b ↦
+      let differ : i ≡ n → ⊥ = λ e. (let k : true ≡ false = sym (eq-eqb i n e) ∙ b in absurd cc) in
+      inl (omega (arith, lt, differ))
+]
+
+pub imported_next : (start old new : Root) (types : List TypeDef) (others : List ℕ) (needed : List (List ℕ)) (linked : List (List Function)) (n own : ℕ) (ids : List ℕ) (fs : List Function)
+    → own ≡ n → AreNeeded (length linked) types (asked others linked) needed → slice_get needed n ≡ Some ids → slice_get linked n ≡ Some fs
+    → AreImportedTo start old types needed linked n → IsImportedIfNeeded old new types own ids fs → AreImportedTo start new types needed linked (n + 1)
+imported_next start old new types others needed linked n own ids fs same all a b before one =
+    let name : interface_name old own ≡ interface_name start n = (λ i. get_or (before.stays.interfaces i) (same i) []) in
+    let next : suc n ≡ n + 1 = omega arith in
+    record {
+      stays = stays_on start old new types before.stays one.stays;
+      names = one.names ∙ (λ i. before.names i ++ name_if (is_needed ids fs) (name i))
+          ∙ append_assoc (root_names start) (names_from (interface_name start) 0 (take n needed) (take n linked)) (name_if (is_needed ids fs) (interface_name start n))
+          ∙ ap (λ l. root_names start ++ l) (sym (names_next (interface_name start) 0 n n needed linked ids fs (omega arith) a b))
+          ∙ ap (λ m. root_names start ++ names_from (interface_name start) 0 (take m needed) (take m linked)) next;
+      has = λ i js gs lt at_needed at_linked there. elim (at_most i n lt) as (λ _. HasInterface new types i js gs) [
+        | inl low ↦ interface_stays old new types i js gs one.stays (before.has i js gs low at_needed at_linked there)
+        | inr e ↦
+            let here_needed : slice_get needed own ≡ Some ids = ap (slice_get needed) same ∙ a in
+            let here_linked : slice_get linked own ≡ Some fs = ap (slice_get linked) same ∙ b in
+            let both : Some js ≡ Some ids = sym at_needed ∙ ap (slice_get needed) e ∙ a in
+            let both_linked : Some gs ≡ Some fs = sym at_linked ∙ ap (slice_get linked) e ∙ b in
+            let ids_same : js ≡ ids = cc in
+            let fs_same : gs ≡ fs = cc in
+            let is : is_needed ids fs ≡ true = sym (λ k. is_needed (ids_same k) (fs_same k)) ∙ there in
+            let with = one.imported is in
+            let made = interface_there (length linked) types others linked needed all own ids fs here_needed here_linked with.ids with.are old new with.imported in
+            subst (λ m. HasInterface new types m js gs) (same ∙ sym e) (subst (λ l. HasInterface new types own l gs) (sym ids_same) (subst (λ l. HasInterface new types own ids l) (sym fs_same) made))
+      ];
+    }
+
+pub all_imported : (start new : Root) (types : List TypeDef) (needed : List (List ℕ)) (linked : List (List Function)) (n : ℕ) → length linked ≡ n → length needed ≡ n → AreImportedTo start new types needed linked n → AreImported start new types needed linked
+all_imported start new types needed linked n count_linked count h = record {
+  stays = h.stays;
+  names = h.names ∙ (λ i. root_names start ++ names_from (interface_name start) 0 (take_all n needed (omega (arith, count)) i) (take_all n linked (omega (arith, count_linked)) i));
+  has = λ i ids fs a b there. h.has i ids fs (let k = got_below linked i fs b in omega (arith, k, count_linked)) a b there;
+}

@@ -1,0 +1,57 @@
+use Rattle.std.proofs.Common.{◌∙◌, ap, subst, sym, ◌⊎◌, ◌≡◌, false}
+use Rattle.std.specs.Prelude.{List, ℕ}
+use Rattle.std.proofs.lemmas.Result.{err_from_is_err_and}
+use Rattle.distinct_names.specs.Names.{is_new}
+use Rattle.wit_types.specs.declared.function.Param.{Param}
+use Rattle.type_writing.specs.Functions.{function_form}
+use Rattle.type_writing.specs.Refusals.{AreUnready}
+use Rattle.type_writing.specs.Writing.{IsRemembered}
+use Rattle.type_writing.proofs.Refusals.{cause_weaker}
+use Rattle.type_sinks.specs.Kept.{index_of}
+use Rattle.type_sinks.specs.Views.{inside_names, HasFunction}
+use Rattle.component_imports.specs.Functions.{HasFunctionOf}
+use Rattle.component_imports.proofs.Exported.{names_next, has_next, functions_cause}
+use Rattle.component_imports.proofs.functions.export_functions.Goals as goal
+
+pub loop-function-preserved : goal.loop-function-preserved
+loop-function-preserved c =
+    let start = c.args.to.now in
+    let old = c.loop-function.to in
+    let new = c.export_function.new.self in
+    let before = c.loop-function.invariant in
+    let a = c.in_ok-export_function.ensures in
+    let fs = c.args.functions.now in
+    let i = c.loop-function.function-index in
+    let f = c.function-item.result in
+    let lt = c.loop-function-test.true in
+    let at = c.function-item.is in
+    let name = c.as_str.ensures.value in
+    let params = c.deref.ensures.value in
+    record {
+      setting = a.setting ∙ before.setting;
+      root = a.root ∙ before.root;
+      table = a.table ∙ before.table;
+      exports = a.exports ∙ before.exports;
+      names = names_next fs i f c.as_str.result.now (inside_names start) (inside_names old) (inside_names new) lt at name before.names a.names;
+      good = λ types g. a.good types (before.good types g);
+      has = λ types g. has_next (HasFunctionOf old types) (HasFunctionOf new types) fs i f lt at (λ h. a.keeps types _ _ _) (before.has types g)
+          (subst (λ n. HasFunction new types n f.now.params.items f.now.result) name (subst (λ (ps : List Param). HasFunction new types c.as_str.result.now ps f.now.result) params (a.has types (before.good types g))));
+    }
+
+pub returns-in_err-export_function-clause-cause : goal.returns-in_err-export_function-clause-cause
+returns-in_err-export_function-clause-cause c =
+    let start = c.args.to.now in
+    let old = c.loop-function.to in
+    let before = c.loop-function.invariant in
+    let fs = c.args.functions.now in
+    let i = c.loop-function.function-index in
+    let f = c.function-item.result in
+    let moved = err_from_is_err_and c.from_residual.result c.from_residual.ensures.1 in
+    let P : List Param → List ℕ → List (List ℕ) → List (ℕ × ℕ) → Type 0 = λ ps n names table. AreUnready (IsRemembered (index_of table)) (function_form ps f.now.result).parts ⊎ (is_new names n ≡ false) in
+    rw (moved.1, moved.2)
+    (cause_weaker (λ h.
+    functions_cause (IsRemembered (index_of start.known)) (inside_names start) (inside_names old) fs i f c.loop-function-test.true c.function-item.is before.names
+    (subst (P f.now.params.items _ (inside_names old)) before.table (subst (λ n. P f.now.params.items n (inside_names old) old.known) c.as_str.ensures.value (subst (λ ps. P ps c.as_str.result.now (inside_names old) old.known) c.deref.ensures.value h))))
+    (λ h. h)
+    c.in_err-export_function.field-0.0
+    c.in_err-export_function.ensures.cause)

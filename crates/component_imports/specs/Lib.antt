@@ -1,0 +1,4 @@
+pub mod Functions
+pub mod Interface
+pub mod Interfaces
+pub mod World

@@ -1,0 +1,35 @@
+-- The functions of a world that are imported, and the types of the world that they are made of (WIT, Item: `world`; Component Model,
+-- Explainer, Import and Export Definitions).
+use Rattle.std.specs.Prelude.{◌≡◌, ℕ, ◌+◌, List, [], ◌∷◌, ◌++◌, length, string_bytes}
+use Rattle.std.specs.List.{AllByRecursion as Each}
+use Rattle.wit_order.specs.Order.{Has}
+use Rattle.wit_types.specs.declared.function.Function.{Function}
+use Rattle.wit_types.specs.declared.interface.TypeDef.{TypeDef}
+use Rattle.wit_types.specs.declared.interface.TypeOwner.TheVariants as belongs
+use Rattle.wit_reach.specs.Paths.{AreEnds}
+use Rattle.wit_reach.specs.Made.{IsMadeOfWithin}
+use Rattle.type_meaning.specs.Scope.{import_label}
+use Rattle.type_writing.specs.Writing.{Begins, names_of_types}
+use Rattle.type_sinks.specs.declared.root.Root.{Root}
+use Rattle.type_sinks.specs.Kept.{index_of}
+use Rattle.type_sinks.specs.Views.{root_scope, root_names, root_setting, interface_names, RootIsGood, IsFunctionAt}
+use Rattle.component_imports.specs.Functions.{function_names}
+use Rattle.component_imports.specs.Interfaces.{ids_of}
+
+-- these functions are imported under their names, one after the other from an index on
+abbrev pub AreFunctionsAt : Root → ℕ → List TypeDef → List Function → Type 0
+AreFunctionsAt r i types [] = Unit {0}
+AreFunctionsAt r i types (f ∷ fs) = IsFunctionAt r i (import_label (string_bytes f.name)) types f.params.items f.result × AreFunctionsAt r (i + 1) types fs
+
+-- the types of the world that they are made of are imported, then they are, each under its name, and nothing else; all that was there stays
+pub record AreWorldsImported (old new : Root) (types : List TypeDef) (world : ℕ) (functions : List Function) : Type 0 where
+  pub interfaces : interface_names new ≡ interface_names old
+  pub homes : index_of new.homes ≡ index_of old.homes
+  pub types_stay : Begins (root_scope old).types (root_scope new).types
+  pub functions_stay : Begins (root_scope old).functions (root_scope new).functions
+  pub instances_stay : (root_scope new).instances ≡ (root_scope old).instances
+  pub good : RootIsGood new types
+  pub ids : List ℕ
+  pub are : AreEnds (IsMadeOfWithin (belongs.World world) types) (Has (ids_of functions)) ids
+  pub names : root_names new ≡ root_names old ++ (names_of_types (root_setting old) types ids ++ function_names functions)
+  pub has : AreFunctionsAt new (length (root_scope old).functions) types functions

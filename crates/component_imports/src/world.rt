@@ -1,0 +1,70 @@
+//! The functions of a world that are imported.
+
+ghost use Rattle.std.specs.Prelude.{◌≡◌, ◌++◌, List, length, IfOk, OnOk};
+ghost use Rattle.wit_types.specs.declared.interface.TypeDef.{TypeDef as Def};
+ghost use Rattle.wit_reach.specs.Types.{AreTypesBackward, AreTypesThere};
+ghost use Rattle.type_writing.specs.Writing.{Begins};
+ghost use Rattle.type_sinks.specs.Kept.{index_of};
+ghost use Rattle.type_sinks.specs.Views.{root_scope, root_names, interface_names, RootIsGood};
+ghost use Rattle.component_imports.specs.Functions.{functions_of, function_names};
+ghost use Rattle.component_imports.specs.Interfaces.{ids_of};
+ghost use Rattle.component_imports.specs.World.{AreFunctionsAt, AreWorldsImported};
+
+use crate::interfaces::add_functions;
+use std::alloc::Global;
+use type_sinks::Root;
+use type_writing::{Fault, write_types};
+use wit_reach::made_of_within;
+use wit_types::{Arena, Function, TypeDef, TypeOwner, WorldId};
+
+/// Imports functions, in order.
+fn add_imports<'s>(
+    alloc: Global,
+    root: &mut Root<'s>,
+    functions: &[&'s Function],
+) -> Result<(), Fault>
+    ensures interfaces { interface_names root.new ≡ interface_names root.old }
+    ensures homes { index_of root.new.homes ≡ index_of root.old.homes }
+    ensures types { Begins (root_scope root.old).types (root_scope root.new).types }
+    ensures functions { Begins (root_scope root.old).functions (root_scope root.new).functions }
+    ensures instances { (root_scope root.new).instances ≡ (root_scope root.old).instances }
+    ensures good { (types : List Def) → RootIsGood root.old types → RootIsGood root.new types }
+    ensures names { OnOk result (root_names root.new ≡ root_names root.old ++ function_names (functions_of functions.now)) }
+    ensures are { OnOk result ((types : List Def) → RootIsGood root.old types → AreFunctionsAt root.new (length (root_scope root.old).functions) types (functions_of functions.now)) }
+{
+    for function in functions {
+        root.import_function(
+            alloc,
+            function.name.as_str(),
+            &function.params,
+            &function.result,
+        )?;
+    }
+    Ok(())
+}
+
+/// Imports functions of a world, in order, behind those of its types that they are made of: these as imports that equal them, those of
+/// interfaces from the instances that have them (WIT, Item: `world`; Component Model, Explainer, Import and Export Definitions). Answers
+/// `NotYet` where one is made of what is never written, as a resource, a handle, a future, a stream or an error context, where no instance
+/// has a type of an interface, and where something is imported under one of the names; `TooLarge` where 32 bits can't say an index; and
+/// `OutOfMemory` where memory is wanting.
+pub fn import_functions<'s>(
+    alloc: Global,
+    root: Root<'s>,
+    types: &'s Arena<TypeDef>,
+    world: WorldId,
+    functions: &[&'s Function],
+) -> Result<Root<'s>, Fault>
+    requires backward { AreTypesBackward types.now }
+    requires there { AreTypesThere types.now (ids_of (functions_of functions.now)) }
+    requires good { RootIsGood root types.now }
+    ensures { IfOk result (λ r. AreWorldsImported root.entry r types.entry.now world (functions_of functions.now)) }
+{
+    let mut starts = Vec::new(alloc);
+    add_functions(&mut starts, functions)?;
+    let ids = made_of_within(alloc, types, TypeOwner::World(world), starts.as_slice())?;
+    let mut root = root;
+    write_types(alloc, &mut root, types, ids.as_slice())?;
+    add_imports(alloc, &mut root, functions)?;
+    Ok(root)
+}

@@ -1,5 +1,0 @@
-use Rattle.type_sinks.proofs.Standing.{primitive_stands}
-use Rattle.type_sinks.proofs.parts.value_of.Goals as goal
-
-pub returns-in-Some-clause-stands : goal.returns-in-Some-clause-stands
-returns-in-Some-clause-stands g c = λ types good. primitive_stands (g.S.ValtypeEncoder.label c.args.sink.now) types (g.S.ValtypeEncoder.space c.args.sink.now) c.args.ty.now c.in-Some.primitive c.in-Some.ensures.some

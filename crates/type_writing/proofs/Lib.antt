@@ -1,0 +1,3 @@
+pub mod Standing
+pub mod Refusals
+pub mod Texts

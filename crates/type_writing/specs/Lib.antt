@@ -1,0 +1,5 @@
+pub mod Unfolding
+pub mod Writing
+pub mod Functions
+pub mod Refusals
+pub mod Texts
