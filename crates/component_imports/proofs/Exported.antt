@@ -1,17 +1,15 @@
 -- Functions one after the other.
-use Rattle.std.proofs.Common.{◌≡◌, ◌⊎◌, ℕ, ◌+◌, ◌<◌, List, [], ◌∷◌, ◌++◌, length, map, take, drop, get_or, false, refl, sym, ap, subst, ◌∙◌, append_assoc, inl, inr}
+use Rattle.std.proofs.Common.{◌≡◌, ◌⊎◌, ℕ, ◌+◌, ◌<◌, List, [], ◌∷◌, ◌++◌, length, take, drop, get_or, sym, ap, subst, ◌∙◌, append_assoc, inl, inr}
 use Rattle.std.specs.Prelude.{string_bytes}
 use Rattle.std.specs.Borrow.{Bor}
 use Rattle.std.specs.List.{AllByRecursion as Each}
 use Rattle.std.proofs.lemmas.List.{map-append, take-append-drop}
 use Rattle.wit_order.specs.Order.{Has}
 use Rattle.wit_types.specs.declared.function.Function.{Function}
-use Rattle.wit_types.specs.declared.interface.TypeDef.{TypeDef}
 use Rattle.type_writing.specs.Functions.{function_form}
 use Rattle.type_writing.proofs.Standing.{taken_next}
 use Rattle.type_writing.proofs.Refusals.{parts_less}
-use Rattle.type_sinks.specs.declared.inside.InterfaceTypes.{InterfaceTypes}
-use Rattle.component_imports.specs.Functions.{functions_of, function_names, HasFunctionOf, IsFunctionUnready, AreFunctionsUnready}
+use Rattle.component_imports.specs.Functions.{functions_of, function_names, IsFunctionUnready, AreFunctionsUnready}
 
 pub functions_next : (fs : List (Bor Function)) (i : ℕ) (f : Bor Function) → i < length fs → f ≡ get_or fs i f → functions_of (take i fs) ++ f.now ∷ [] ≡ functions_of (take (i + 1) fs)
 functions_next fs i f lt here = sym (map-append (λ (g : Bor Function). g.now) (take i fs) (f ∷ [])) ∙ ap functions_of (taken_next fs i f lt here)

@@ -14,12 +14,13 @@ use Rattle.type_writing.specs.declared.fault.Fault.{Fault}
 use Rattle.type_writing.specs.Writing.{Setting, Begins, HasItsName, names_of_types, IsRemembered}
 use Rattle.type_writing.specs.Refusals.{IsCause}
 use Rattle.type_writing.proofs.Standing.{begins_on}
+use Rattle.type_sinks.proofs.Keeping.{each_keeps}
 use Rattle.type_writing.proofs.Refusals.{cause_weaker, types_less}
 use Rattle.type_sinks.specs.declared.root.Root.{Root}
 use Rattle.type_sinks.specs.declared.inside.InterfaceTypes.{InterfaceTypes}
 use Rattle.type_sinks.specs.Kept.{index_of}
 use Rattle.type_sinks.specs.Inside.{exported_name, exported_names}
-use Rattle.type_sinks.specs.Views.{root_scope, root_names, interface_names, RootIsGood, declarator_values, inside_names, inside_setting, InsideIsGood, IsGiven, IsImportCause, IsInstanceWith, HasFunction, InstanceHasFunction}
+use Rattle.type_sinks.specs.Views.{root_scope, root_names, interface_names, RootIsGood, declarator_values, inside_names, inside_setting, InsideIsGood, IsGiven, IsImportCause, IsInstanceWith, IsTypeOf, HasFunction, InstanceHasFunction}
 use Rattle.component_imports.specs.Functions.{function_names, HasFunctionOf}
 use Rattle.component_imports.specs.Interface.{interface_name, setting_over, ImportHasFunction, IsInterfaceImported, IsNotImported, AreItemsUnready}
 use Rattle.component_imports.proofs.Exported.{functions_less}
@@ -28,10 +29,6 @@ use Rattle.component_imports.proofs.Exported.{functions_less}
 pub named_more : (s : Setting) (types : List TypeDef) (P Q : ℕ → Type 0) (ids : List ℕ) → ((k : ℕ) → P k → Q k) → Each (HasItsName s types P) ids → Each (HasItsName s types Q) ids
 named_more s types P Q [] f h = tt
 named_more s types P Q (id ∷ ids) f h = (λ d x at is own. f id (h.0 d x at is own), named_more s types P Q ids f h.1)
-
-pub each_more : {X : Type 0} (P Q : X → Type 0) (xs : List X) → ((x : X) → P x → Q x) → Each P xs → Each Q xs
-each_more P Q [] f h = tt
-each_more P Q (x ∷ xs) f h = (f x h.0, each_more P Q xs f h.1)
 
 -- ---- the instance's type where nothing is written
 
@@ -73,6 +70,7 @@ pub record IsPut (t : InterfaceTypes) (r : Root) (types : List TypeDef) : Type 0
   pub good : RootIsGood r types
   pub homes : (id : ℕ) → IsGiven t id → index_of r.homes id ≡ Some (length (root_scope t.root).instances)
   pub others : (id : ℕ) → list_any (nat_eq id) t.exports.items ≡ false → index_of r.homes id ≡ index_of t.root.homes id
+  pub only : (id k : ℕ) → index_of r.homes id ≡ Some k → (index_of t.root.homes id ≡ Some k) ⊎ IsTypeOf types id t.interface
   pub interfaces : interface_names r ≡ interface_names t.root
   pub begins : Begins (root_scope t.root).types (root_scope r).types × Begins (root_scope t.root).instances (root_scope r).instances
   pub same : (root_scope r).functions ≡ (root_scope t.root).functions
@@ -92,6 +90,7 @@ pub put_of : (res : Result Root Fault) (t : InterfaceTypes) (types : List TypeDe
     → IfOk res (λ r. (ts : List TypeDef) → InsideIsGood t ts → RootIsGood r ts) → InsideIsGood t types
     → IfOk res (λ r. (id : ℕ) → IsGiven t id → index_of r.homes id ≡ Some (place t))
     → IfOk res (λ r. (id : ℕ) → list_any (nat_eq id) t.exports.items ≡ false → index_of r.homes id ≡ index_of t.root.homes id)
+    → IfOk res (λ r. (ts : List TypeDef) → InsideIsGood t ts → (id k : ℕ) → index_of r.homes id ≡ Some k → (index_of t.root.homes id ≡ Some k) ⊎ IsTypeOf ts id t.interface)
     → IfOk res (λ r. interface_names r ≡ interface_names t.root)
     → IfOk res (λ r. Begins (root_scope t.root).types (root_scope r).types × Begins (root_scope t.root).instances (root_scope r).instances)
     → IfOk res (λ r. (root_scope r).functions ≡ (root_scope t.root).functions)
@@ -99,8 +98,8 @@ pub put_of : (res : Result Root Fault) (t : InterfaceTypes) (types : List TypeDe
     → IfOk res (λ r. IsInstanceWith r (place t) (site t) (inside_names t))
     → IfOk res (λ r. (ts : List TypeDef) (name : List ℕ) (params : List Param) (answer : Option Ref) → HasFunction t ts name params answer → InstanceHasFunction r (place t) (site t) ts name params answer)
     → IfOk res (λ r. IsPut t r types)
-put_of (Ok r) t types a g b c d e f h i j = record { good = a types g; homes = b; others = c; interfaces = d; begins = e; same = f; names = h; items = i; functions = j types }
-put_of (Err x) t types a g b c d e f h i j = tt
+put_of (Ok r) t types a g b c o d e f h i j = record { good = a types g; homes = b; others = c; only = o types g; interfaces = d; begins = e; same = f; names = h; items = i; functions = j types }
+put_of (Err x) t types a g b c o d e f h i j = tt
 
 homes_keep : (t : InterfaceTypes) (r : Root) (k id : ℕ) → ((i : ℕ) → IsGiven t i → index_of r.homes i ≡ Some k) → ((i : ℕ) → list_any (nat_eq i) t.exports.items ≡ false → index_of r.homes i ≡ index_of t.root.homes i)
     → IsRemembered (index_of t.root.homes) id → IsRemembered (index_of r.homes) id
@@ -132,8 +131,9 @@ all_imported root t r types interface ids functions f p =
           (subst (λ n. At (length (root_scope t.root).instances) n (names_of_types (setting_over root interface) types ids ++ function_names functions)) name
           (subst (At (length (root_scope t.root).instances) (get_or (interface_names t.root) t.interface [])) f.names p.items));
       homes = named_more (setting_over root interface) types (IsGiven t) (λ id. index_of r.homes id ≡ Some (length (root_scope root).instances)) ids (λ id h. p.homes id h ∙ ap (λ (k : ℕ). Some k) count) f.named;
+      homes_only = λ id k h. subst (λ (m : ℕ → Option ℕ). (m id ≡ Some k) ⊎ IsTypeOf types id interface) homes (subst (λ j. (index_of t.root.homes id ≡ Some k) ⊎ IsTypeOf types id j) own (p.only id k h));
       homes_stay = λ id h. homes_keep t r (length (root_scope t.root).instances) id p.homes p.others (subst (λ (m : ℕ → Option ℕ). IsRemembered m id) (sym homes) h);
-      has = each_more (HasFunctionOf t types) (ImportHasFunction root r interface types) functions (λ g h.
+      has = each_keeps (HasFunctionOf t types) (ImportHasFunction root r interface types) functions (λ g h.
           subst (λ k. Has k (interface_name root interface) g) count (subst (λ n. Has (length (root_scope t.root).instances) n g) name (p.functions (string_bytes g.name) g.params.items g.result h))) f.has;
     }
 

@@ -5,3 +5,7 @@ mod Walked
 mod Staying
 mod Needing
 mod Worldly
+mod Readied
+mod Turns
+mod Ordered
+mod Apart

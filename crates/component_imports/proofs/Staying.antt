@@ -1,9 +1,8 @@
 -- What is imported stays where more is.
-use Rattle.std.proofs.Common.{◌≡◌, ◌⊎◌, ℕ, suc, List, [], ◌∷◌, ◌++◌, length, get_or, Option, Some, None, Bool, true, false, refl, sym, ap, subst, ◌∙◌, inl, inr}
-use Rattle.std.specs.Prelude.{slice_get, flat_map, string_bytes}
+use Rattle.std.proofs.Common.{◌≡◌, ℕ, List, [], ◌∷◌, ◌++◌, get_or, Option, Some, None, true, false, refl, sym, ap, subst, ◌∙◌, inl, inr}
+use Rattle.std.specs.Prelude.{slice_get, string_bytes}
 use Rattle.std.specs.List.{AllByRecursion as Each}
 use Rattle.std.proofs.lemmas.List.{append-nil}
-use Rattle.std.proofs.lemmas.Bool.{cases_Bool}
 use Rattle.wit_order.specs.Order.{Has}
 use Rattle.wit_types.specs.declared.kind.«Type».{«Type» as Ref}
 use Rattle.wit_types.specs.declared.function.Param.{Param}
@@ -11,11 +10,10 @@ use Rattle.wit_types.specs.declared.function.Function.{Function}
 use Rattle.wit_types.specs.declared.interface.TypeDef.{TypeDef}
 use Rattle.type_meaning.specs.Words.{Site, imported}
 use Rattle.type_meaning.specs.Items.{Item, Items, an_instance, or_nothing, item_at, from_import, a_function}
-use Rattle.type_writing.specs.Writing.{Begins, HasItsName, name_given, name_of, names_of_types, written}
+use Rattle.type_writing.specs.Writing.{Begins, name_of, names_of_types, written}
 use Rattle.type_writing.proofs.Standing.{begins_here, begins_on, get_begin}
 use Rattle.type_sinks.specs.declared.root.Root.{Root}
 use Rattle.type_sinks.specs.Root.{root_label, IsHome}
-use Rattle.type_sinks.specs.Inside.{is_of}
 use Rattle.type_sinks.specs.Views.{root_scope, root_names, interface_names, RootIsGood, IsInstanceWith, InstanceHasFunction}
 use Rattle.type_sinks.proofs.Rooted.{home_keeps}
 use Rattle.component_imports.specs.Functions.{function_names}
@@ -24,7 +22,8 @@ use Rattle.wit_reach.specs.Paths.{AreEnds}
 use Rattle.wit_reach.specs.Made.{IsMadeOfWithin}
 use Rattle.wit_types.specs.declared.interface.TypeOwner.TheVariants as belongs
 use Rattle.component_imports.specs.Interfaces.{ids_of, is_needed, name_if, owned_name, owned_names, HasInterface, Stays, IsImportedIfNeeded}
-use Rattle.component_imports.proofs.Imported.{named_more, each_more}
+use Rattle.type_sinks.proofs.Keeping.{each_keeps}
+use Rattle.component_imports.proofs.Imported.{named_more}
 
 pub stays_here : (r : Root) (types : List TypeDef) → RootIsGood r types → Stays r r types
 stays_here r types g = record {
@@ -94,7 +93,7 @@ interface_stays old new types i ids fs t h =
       instance = k;
       items = subst At (sym t.interfaces) (instance_stays old new types k (imported (interface_name old i)) (owned_names i types ids ++ function_names fs) t h.items);
       homes = named_more (setting_over new i) types (λ id. IsHome (interface_names old) types (root_scope old).instances id k) (λ id. IsHome (interface_names new) types (root_scope new).instances id k) ids (λ id. home_stays old new types id k t) h.homes;
-      has = each_more _ _ fs (λ f g. subst (λ n. Has n f) (sym t.interfaces) (function_stays old new types k (imported (interface_name old i)) (string_bytes f.name) f.params.items f.result t g)) h.has;
+      has = each_keeps _ _ fs (λ f g. subst (λ n. Has n f) (sym t.interfaces) (function_stays old new types k (imported (interface_name old i)) (string_bytes f.name) f.params.items f.result t g)) h.has;
     }
 
 -- ---- the interface's own of what is written
@@ -123,6 +122,7 @@ pub not_imported : (r : Root) (types : List TypeDef) (own : ℕ) (needed : List 
 not_imported r types own needed fs g none = record {
   stays = stays_here r types g;
   names = sym (ap (λ b. root_names r ++ name_if b (interface_name r own)) none ∙ append-nil (root_names r));
+  homes_only = λ id k h. inl h;
   imported = λ e. (let k : true ≡ false = sym e ∙ none in absurd cc);
 }
 
@@ -131,5 +131,6 @@ pub one_imported : (old new : Root) (types : List TypeDef) (own : ℕ) (needed :
 one_imported old new types own needed fs ids same e ends h there = record {
   stays = stays_of old new types own same fs h;
   names = h.names ∙ ap (λ b. root_names old ++ name_if b (interface_name old own)) (sym there);
+  homes_only = h.homes_only;
   imported = λ _. record { ids = ids; are = ends; imported = subst (λ l. IsInterfaceImported old new types own l fs) e h };
 }

@@ -1,13 +1,13 @@
 -- What a walk from needed types reaches, and which of it is the interface's.
-use Rattle.std.proofs.Common.{◌≡◌, ◌⊎◌, ◌<◌, ℕ, zero, suc, List, [], ◌∷◌, ◌++◌, length, Option, Some, None, Bool, true, false, refl, sym, ap, subst, ◌∙◌, arith, inl, inr, append_assoc}
-use Rattle.std.specs.Prelude.{flat_map, slice_get, nat_eq, IfOk, Result, Ok, Err, Vec, String}
+use Rattle.std.proofs.Common.{◌≡◌, ◌⊎◌, ◌<◌, ℕ, zero, suc, List, [], ◌∷◌, ◌++◌, length, true, false, refl, sym, ap, subst, ◌∙◌, arith, inl, inr}
+use Rattle.std.specs.Prelude.{flat_map, nat_eq, IfOk, Result, Ok, Err, Vec}
 use Rattle.std.specs.declared.alloc.Global.{Global}
 use Rattle.std.specs.declared.alloc.AllocError.{AllocError}
 use Rattle.std.specs.List.{All}
 use Rattle.std.proofs.lemmas.Bool.{cases_Bool, eqb-true, eq-eqb}
 use Rattle.wit_order.specs.Order.{Has}
-use Rattle.wit_reach.specs.Paths.{AreEnds, AreRising, AreBackward, Reaches}
-use Rattle.wit_reach.specs.Types.{IsMadeOf, AreTypesBackward, AreTypesThere}
+use Rattle.wit_reach.specs.Paths.{AreEnds, AreRising, AreBackward}
+use Rattle.wit_reach.specs.Types.{AreTypesBackward, AreTypesThere}
 use Rattle.wit_reach.specs.Made.{IsMadeOfWithin}
 use Rattle.wit_reach.proofs.Lists.{has_parts}
 use Rattle.wit_reach.proofs.Ends.{ends_below}

@@ -1,5 +1,5 @@
 -- Functions of a world that are imported, one after the other.
-use Rattle.std.proofs.Common.{◌≡◌, ◌<◌, ◌+◌, ℕ, suc, List, [], ◌∷◌, ◌++◌, length, take, get_or, Option, Some, None, refl, sym, ap, subst, ◌∙◌, arith, min}
+use Rattle.std.proofs.Common.{◌≡◌, ◌<◌, ◌+◌, ℕ, suc, List, [], ◌∷◌, ◌++◌, length, take, get_or, Option, Some, None, refl, sym, ap, subst, ◌∙◌, arith}
 use Rattle.std.specs.Prelude.{slice_get, string_bytes}
 use Rattle.std.specs.Borrow.{Bor}
 use Rattle.std.proofs.lemmas.List.{length-take-le}
@@ -8,7 +8,7 @@ use Rattle.wit_types.specs.declared.function.Param.{Param}
 use Rattle.wit_types.specs.declared.function.Function.{Function}
 use Rattle.wit_types.specs.declared.interface.TypeDef.{TypeDef}
 use Rattle.type_meaning.specs.Words.{Label, BinaryTree}
-use Rattle.type_meaning.specs.Items.{Item, Origin, or_nothing, item_at, from_import, a_function}
+use Rattle.type_meaning.specs.Items.{Item, Origin, or_nothing, from_import, a_function}
 use Rattle.type_meaning.specs.Scope.{import_label}
 use Rattle.type_writing.specs.Writing.{Begins, written}
 use Rattle.type_writing.proofs.Standing.{get_begin}

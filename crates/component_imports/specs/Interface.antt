@@ -5,14 +5,14 @@ use Rattle.distinct_names.specs.Names.{is_new}
 use Rattle.wit_order.specs.Order.{Has}
 use Rattle.wit_types.specs.declared.function.Function.{Function}
 use Rattle.wit_types.specs.declared.interface.TypeDef.{TypeDef}
-use Rattle.type_meaning.specs.Words.{Site, imported}
+use Rattle.type_meaning.specs.Words.{imported}
 use Rattle.type_writing.specs.declared.fault.Fault.{Fault}
 use Rattle.type_writing.specs.Writing.{Setting, Begins, HasItsName, names_of_types, IsRemembered}
 use Rattle.type_writing.specs.Refusals.{IsCause, AreTypesUnready}
 use Rattle.type_sinks.specs.declared.root.Root.{Root}
 use Rattle.type_sinks.specs.Kept.{index_of}
 use Rattle.type_sinks.specs.Inside.{is_of, inside_label}
-use Rattle.type_sinks.specs.Views.{root_scope, root_names, interface_names, RootIsGood, IsInstanceWith, InstanceHasFunction}
+use Rattle.type_sinks.specs.Views.{root_scope, root_names, interface_names, RootIsGood, IsInstanceWith, IsTypeOf, InstanceHasFunction}
 use Rattle.component_imports.specs.Functions.{function_names, AreFunctionsUnready}
 
 -- the name under which it is imported
@@ -45,6 +45,7 @@ pub record IsInterfaceImported (old new : Root) (types : List TypeDef) (interfac
   pub items : IsInstanceWith new (length (root_scope old).instances) (imported (interface_name old interface)) (names_of_types (setting_over old interface) types ids ++ function_names functions)
   pub homes : Each (HasItsName (setting_over old interface) types (λ id. index_of new.homes id ≡ Some (length (root_scope old).instances))) ids
   pub homes_stay : (id : ℕ) → IsRemembered (index_of old.homes) id → IsRemembered (index_of new.homes) id
+  pub homes_only : (id k : ℕ) → index_of new.homes id ≡ Some k → (index_of old.homes id ≡ Some k) ⊎ IsTypeOf types id interface
   pub has : Each (ImportHasFunction old new interface types) functions
 
 -- the interface has no name, or something is imported under it

@@ -1,6 +1,6 @@
 -- The interfaces that are imported since something of them is needed (WIT, Item: `interface`; Component Model, Explainer, Import and Export
 -- Definitions).
-use Rattle.std.specs.Prelude.{◌≡◌, ℕ, suc, Bool, true, false, List, [], ◌∷◌, ◌++◌, length, map, flat_map, slice_get, Option, Some, None, Vec, string_bytes}
+use Rattle.std.specs.Prelude.{◌≡◌, ◌<◌, ◌⊎◌, ℕ, suc, Bool, true, false, List, [], ◌∷◌, ◌++◌, length, map, flat_map, slice_get, Option, Some, None, Vec, String, string_bytes}
 use Rattle.std.specs.Borrow.{Bor}
 use Rattle.std.specs.declared.alloc.Global.{Global}
 use Rattle.std.specs.List.{AllByRecursion as Each}
@@ -16,11 +16,13 @@ use Rattle.type_meaning.specs.Words.{imported}
 use Rattle.type_writing.specs.Writing.{Begins, HasItsName, name_given, IsRemembered}
 use Rattle.type_sinks.specs.declared.root.Root.{Root}
 use Rattle.type_sinks.specs.Kept.{index_of}
-use Rattle.type_sinks.specs.Inside.{is_of}
+use Rattle.wit_types.specs.declared.kind.«Type».TheVariants.{Id}
+use Rattle.type_writing.specs.Unfolding.{WitTree, Unfolds}
+use Rattle.type_sinks.specs.Inside.{is_of, IsApart}
 use Rattle.type_sinks.specs.Root.{IsHome}
-use Rattle.type_sinks.specs.Views.{root_scope, root_names, interface_names, RootIsGood, IsInstanceWith, InstanceHasFunction}
+use Rattle.type_sinks.specs.Views.{root_scope, root_names, interface_names, RootIsGood, IsInstanceWith, IsTypeOf, InstanceHasFunction}
 use Rattle.component_imports.specs.Functions.{functions_of, function_names}
-use Rattle.component_imports.specs.Interface.{interface_name, setting_over, IsInterfaceImported}
+use Rattle.component_imports.specs.Interface.{interface_name, setting_over, IsInterfaceImported, IsUnready}
 
 -- ---- what is asked for
 
@@ -67,6 +69,10 @@ pub record Stays (old new : Root) (types : List TypeDef) : Type 0 where
   pub homes_stay : (id : ℕ) → IsRemembered (index_of old.homes) id → IsRemembered (index_of new.homes) id
   pub good : RootIsGood new types
 
+-- a type of an interface doesn't speak of later ones
+abbrev pub EarlierAreApart : List TypeDef → Type 0
+EarlierAreApart types = (own id j : ℕ) (d : TypeDef) (x : String Global) (t : WitTree) → slice_get types id ≡ Some d → d.owner ≡ belongs.Interface j → j < own → d.name ≡ Some x → Unfolds types (Id id) t → IsApart own t
+
 -- one more name, if it's needed
 abbrev pub name_if : Bool → List ℕ → List (List ℕ)
 name_if true name = name ∷ []
@@ -81,7 +87,12 @@ pub record IsImportedWith (old new : Root) (types : List TypeDef) (interface : �
 pub record IsImportedIfNeeded (old new : Root) (types : List TypeDef) (interface : ℕ) (needed : List ℕ) (functions : List Function) : Type 0 where
   pub stays : Stays old new types
   pub names : root_names new ≡ root_names old ++ name_if (is_needed needed functions) (interface_name old interface)
+  pub homes_only : (id k : ℕ) → index_of new.homes id ≡ Some k → (index_of old.homes id ≡ Some k) ⊎ IsTypeOf types id interface
   pub imported : is_needed needed functions ≡ true → IsImportedWith old new types interface needed functions
+
+-- why one isn't imported with that
+abbrev pub IsUnreadyWith : Root → List TypeDef → ℕ → List ℕ → List Function → Type 0
+IsUnreadyWith r types interface needed functions = (ids : List ℕ) × AreEnds (IsMadeOfWithin (belongs.Interface interface) types) (Has (needed ++ ids_of functions)) ids × IsUnready r types interface ids functions
 
 -- the names of the interfaces that are needed, by rising ids
 abbrev pub names_from : (ℕ → List ℕ) → ℕ → List (List ℕ) → List (List Function) → List (List ℕ)

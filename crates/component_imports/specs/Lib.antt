@@ -2,3 +2,5 @@ pub mod Functions
 pub mod Interface
 pub mod Interfaces
 pub mod World
+pub mod Ready
+pub mod Order

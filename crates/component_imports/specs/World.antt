@@ -1,7 +1,6 @@
 -- The functions of a world that are imported, and the types of the world that they are made of (WIT, Item: `world`; Component Model,
 -- Explainer, Import and Export Definitions).
 use Rattle.std.specs.Prelude.{◌≡◌, ℕ, ◌+◌, List, [], ◌∷◌, ◌++◌, length, string_bytes}
-use Rattle.std.specs.List.{AllByRecursion as Each}
 use Rattle.wit_order.specs.Order.{Has}
 use Rattle.wit_types.specs.declared.function.Function.{Function}
 use Rattle.wit_types.specs.declared.interface.TypeDef.{TypeDef}
@@ -9,11 +8,12 @@ use Rattle.wit_types.specs.declared.interface.TypeOwner.TheVariants as belongs
 use Rattle.wit_reach.specs.Paths.{AreEnds}
 use Rattle.wit_reach.specs.Made.{IsMadeOfWithin}
 use Rattle.type_meaning.specs.Scope.{import_label}
-use Rattle.type_writing.specs.Writing.{Begins, names_of_types}
+use Rattle.type_writing.specs.Writing.{Begins, names_of_types, IsRemembered}
 use Rattle.type_sinks.specs.declared.root.Root.{Root}
 use Rattle.type_sinks.specs.Kept.{index_of}
 use Rattle.type_sinks.specs.Views.{root_scope, root_names, root_setting, interface_names, RootIsGood, IsFunctionAt}
 use Rattle.component_imports.specs.Functions.{function_names}
+use Rattle.component_imports.specs.Interface.{AreItemsUnready}
 use Rattle.component_imports.specs.Interfaces.{ids_of}
 
 -- these functions are imported under their names, one after the other from an index on
@@ -33,3 +33,10 @@ pub record AreWorldsImported (old new : Root) (types : List TypeDef) (world : �
   pub are : AreEnds (IsMadeOfWithin (belongs.World world) types) (Has (ids_of functions)) ids
   pub names : root_names new ≡ root_names old ++ (names_of_types (root_setting old) types ids ++ function_names functions)
   pub has : AreFunctionsAt new (length (root_scope old).functions) types functions
+
+-- one of its types isn't ready, or one of the functions behind them
+abbrev pub AreWorldItemsUnready : Root → List TypeDef → List ℕ → List Function → Type 0
+AreWorldItemsUnready r types ids functions = AreItemsUnready (root_setting r) (IsRemembered (index_of r.known)) (root_names r) types ids functions
+
+abbrev pub IsWorldUnready : Root → List TypeDef → ℕ → List Function → Type 0
+IsWorldUnready r types world functions = (ids : List ℕ) × AreEnds (IsMadeOfWithin (belongs.World world) types) (Has (ids_of functions)) ids × AreWorldItemsUnready r types ids functions

@@ -4,7 +4,7 @@ ghost use Rattle.std.specs.Prelude.{◌≡◌, ◌<◌, ◌++◌, length, IfOk, 
 ghost use Rattle.std.specs.List.{All, AllByRecursion as Each};
 ghost use Rattle.type_writing.specs.Refusals.{IsCause};
 ghost use Rattle.type_writing.specs.Writing.{Begins, HasItsName, names_of_types, IsRemembered};
-ghost use Rattle.type_sinks.specs.Inside.{OthersAreApart};
+ghost use Rattle.type_sinks.specs.Inside.{TakenAreApart};
 ghost use Rattle.type_sinks.specs.Kept.{index_of};
 ghost use Rattle.type_sinks.specs.Views.{root_scope, RootIsGood, inside_names, inside_setting, InsideIsGood, IsFullInside, IsGiven};
 ghost use Rattle.component_imports.specs.Functions.{functions_of, function_names, HasFunctionOf};
@@ -54,7 +54,7 @@ pub fn import_interface<'s>(
 ) -> Result<Root<'s>, Fault>
     requires there { All (λ id. id < length types.now) ids.now }
     requires good { RootIsGood root types.now }
-    requires apart { OthersAreApart interface types.now }
+    requires apart { TakenAreApart (index_of root.homes) interface types.now }
     ensures ok { IfOk result (λ r. IsInterfaceImported root.entry r types.entry.now interface ids.now (functions_of functions.now)) }
     ensures cause { IfErr result (IsInterfaceCause root.entry types.entry.now interface ids.now (functions_of functions.now)) }
 {

@@ -1,6 +1,6 @@
 //! All interfaces that are needed.
 
-ghost use Rattle.std.specs.Prelude.{◌≡◌, ◌<◌, ◌++◌, ℕ, List, length, map, flat_map, IfOk, OnOk};
+ghost use Rattle.std.specs.Prelude.{◌≡◌, ◌<◌, ◌++◌, ℕ, List, length, map, flat_map, None, IfOk, IfErr, OnOk};
 ghost use Rattle.wit_order.specs.Order.{Has};
 ghost use Rattle.wit_types.specs.declared.interface.TypeOwner.TheVariants as belongs;
 ghost use Rattle.wit_reach.specs.Paths.{AreEnds};
@@ -8,10 +8,13 @@ ghost use Rattle.wit_reach.specs.Ids.{function_ids};
 ghost use Rattle.wit_reach.specs.Types.{AreTypesBackward, AreTypesThere};
 ghost use Rattle.wit_reach.specs.Made.{IsMadeOfWithin};
 ghost use Rattle.wit_reach.specs.Lists.{AreOwnersThere};
-ghost use Rattle.type_sinks.specs.Inside.{OthersAreApart};
+ghost use Rattle.type_sinks.specs.Inside.{TakenAreApart};
+ghost use Rattle.type_sinks.specs.Kept.{index_of};
 ghost use Rattle.type_sinks.specs.Views.{RootIsGood};
 ghost use Rattle.component_imports.specs.Functions.{functions_of};
+ghost use Rattle.type_writing.specs.Refusals.{IsCause};
 ghost use Rattle.component_imports.specs.Interfaces as spec;
+ghost use Rattle.component_imports.specs.Ready.{AreWritable};
 
 use crate::interface::import_interface;
 use std::alloc::{AllocError, Global};
@@ -91,8 +94,9 @@ fn import_needed<'s>(
     requires there { AreTypesThere types.now needed.now }
     requires functions_there { AreTypesThere types.now (spec.ids_of (functions_of functions.now)) }
     requires good { RootIsGood root types.now }
-    requires apart { OthersAreApart interface types.now }
-    ensures { IfOk result (λ r. spec.IsImportedIfNeeded root.entry r types.entry.now interface needed.now (functions_of functions.now)) }
+    requires apart { TakenAreApart (index_of root.homes) interface types.now }
+    ensures ok { IfOk result (λ r. spec.IsImportedIfNeeded root.entry r types.entry.now interface needed.now (functions_of functions.now)) }
+    ensures cause { IfErr result (IsCause (spec.IsUnreadyWith root.entry types.entry.now interface needed.now (functions_of functions.now)) (Unit {0})) }
 {
     if !is_needed(needed, functions) {
         return Ok(root);
@@ -104,7 +108,9 @@ fn import_needed<'s>(
 /// Imports all interfaces that are needed, in rising order: those of which functions are linked, by their ids, and those that have a type
 /// of which one of these functions or one of these types is made over any number of steps. Each exports exactly its needed types and its
 /// linked functions. An interface stands behind those whose types it uses, since types are made of earlier ones (WIT, Item: `interface`;
-/// Component Model, Explainer, Import and Export Definitions).
+/// Component Model, Explainer, Import and Export Definitions). No interface is imported yet. Answers `NotYet` only where what is asked for isn't all written, as a resource,
+/// a handle, a future, a stream or an error context, or two names are one; `TooLarge` where 32 bits can't say an index; and `OutOfMemory`
+/// where memory is wanting.
 pub fn import_interfaces<'s>(
     alloc: Global,
     root: Root<'s>,
@@ -116,8 +122,10 @@ pub fn import_interfaces<'s>(
     requires there { AreTypesThere types.now (spec.asked others.now (spec.linked_of linked.now)) }
     requires owners { AreOwnersThere (length linked.now) types.now }
     requires good { RootIsGood root types.now }
-    requires apart { (i : ℕ) → OthersAreApart i types.now }
-    ensures { IfOk result (λ r. spec.AreNeededImported root.entry r types.entry.now others.now (spec.linked_of linked.now)) }
+    requires none { (id : ℕ) → index_of root.homes id ≡ None }
+    requires apart { spec.EarlierAreApart types.now }
+    ensures ok { IfOk result (λ r. spec.AreNeededImported root.entry r types.entry.now others.now (spec.linked_of linked.now)) }
+    ensures written { AreWritable root.entry types.entry.now others.now (spec.linked_of linked.now) → IfErr result (IsCause ⊥ (Unit {0})) }
 {
     let ids = asked(alloc, others, linked)?;
     let found = NeededTypes::new(alloc, types, linked.len(), ids.as_slice())?;

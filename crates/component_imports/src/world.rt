@@ -1,14 +1,15 @@
 //! The functions of a world that are imported.
 
-ghost use Rattle.std.specs.Prelude.{◌≡◌, ◌++◌, List, length, IfOk, OnOk};
+ghost use Rattle.std.specs.Prelude.{◌≡◌, ◌++◌, List, length, IfOk, IfErr, OnOk};
 ghost use Rattle.wit_types.specs.declared.interface.TypeDef.{TypeDef as Def};
 ghost use Rattle.wit_reach.specs.Types.{AreTypesBackward, AreTypesThere};
-ghost use Rattle.type_writing.specs.Writing.{Begins};
+ghost use Rattle.type_writing.specs.Refusals.{IsCause};
+ghost use Rattle.type_writing.specs.Writing.{Begins, IsRemembered};
 ghost use Rattle.type_sinks.specs.Kept.{index_of};
 ghost use Rattle.type_sinks.specs.Views.{root_scope, root_names, interface_names, RootIsGood};
-ghost use Rattle.component_imports.specs.Functions.{functions_of, function_names};
+ghost use Rattle.component_imports.specs.Functions.{functions_of, function_names, AreFunctionsUnready};
 ghost use Rattle.component_imports.specs.Interfaces.{ids_of};
-ghost use Rattle.component_imports.specs.World.{AreFunctionsAt, AreWorldsImported};
+ghost use Rattle.component_imports.specs.World.{AreFunctionsAt, AreWorldsImported, IsWorldUnready};
 
 use crate::interfaces::add_functions;
 use std::alloc::Global;
@@ -24,6 +25,7 @@ fn add_imports<'s>(
     functions: &[&'s Function],
 ) -> Result<(), Fault>
     ensures interfaces { interface_names root.new ≡ interface_names root.old }
+    ensures table { index_of root.new.known ≡ index_of root.old.known }
     ensures homes { index_of root.new.homes ≡ index_of root.old.homes }
     ensures types { Begins (root_scope root.old).types (root_scope root.new).types }
     ensures functions { Begins (root_scope root.old).functions (root_scope root.new).functions }
@@ -31,6 +33,7 @@ fn add_imports<'s>(
     ensures good { (types : List Def) → RootIsGood root.old types → RootIsGood root.new types }
     ensures names { OnOk result (root_names root.new ≡ root_names root.old ++ function_names (functions_of functions.now)) }
     ensures are { OnOk result ((types : List Def) → RootIsGood root.old types → AreFunctionsAt root.new (length (root_scope root.old).functions) types (functions_of functions.now)) }
+    ensures cause { IfErr result (IsCause (AreFunctionsUnready (IsRemembered (index_of root.old.known)) (root_names root.old) (functions_of functions.now)) (Unit {0})) }
 {
     for function in functions {
         root.import_function(
@@ -58,7 +61,8 @@ pub fn import_functions<'s>(
     requires backward { AreTypesBackward types.now }
     requires there { AreTypesThere types.now (ids_of (functions_of functions.now)) }
     requires good { RootIsGood root types.now }
-    ensures { IfOk result (λ r. AreWorldsImported root.entry r types.entry.now world (functions_of functions.now)) }
+    ensures ok { IfOk result (λ r. AreWorldsImported root.entry r types.entry.now world (functions_of functions.now)) }
+    ensures cause { IfErr result (IsCause (IsWorldUnready root.entry types.entry.now world (functions_of functions.now)) (Unit {0})) }
 {
     let mut starts = Vec::new(alloc);
     add_functions(&mut starts, functions)?;

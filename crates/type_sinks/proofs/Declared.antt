@@ -24,14 +24,14 @@ use Rattle.type_meaning.specs.Items.{Item, Entry, a_type, from_import, a_functio
 use Rattle.type_sinks.specs.declared.root.Root.{Root}
 use Rattle.type_sinks.specs.declared.inside.InterfaceTypes.{InterfaceTypes}
 use Rattle.type_writing.specs.Unfolding.{OwnName, WitTree}
-use Rattle.type_writing.specs.Writing.{written, Stands, KindStands, Begins, Setting}
+use Rattle.type_writing.specs.Writing.{written, Stands, KindStands, Begins, Setting, IsRemembered}
 use Rattle.type_sinks.specs.Kept.{index_of}
 use Rattle.type_sinks.specs.Root.{root_label}
 use Rattle.type_sinks.specs.Inside.{type_count, exported_name, exported_names, is_of, inside_label, InsideGood}
 use Rattle.type_writing.specs.Functions.{function_form, IsFunctionOf}
 use Rattle.type_sinks.specs.Views.{root_scope, interface_names, root_names, RootIsGood, IsTaken, declarator_values, inside, inside_names, inside_setting, InsideIsGood, IsGiven, IsSameInside, IsDeclared, HasFunction}
 use Rattle.type_writing.proofs.Standing.{begins_here, begins_same, begins_on, value_inside, next_value, new_item, parts_written}
-use Rattle.type_sinks.proofs.Insides.{inside_count, items_named, named_last, function_named_keeps, inside_push, inside_step, inside_same, inside_over, type_stays, export_stays, outer_stays, export_good, own_name, name_there, written_apart, other_interface, names_push}
+use Rattle.type_sinks.proofs.Insides.{inside_count, items_named, named_last, function_named_keeps, inside_push, inside_step, inside_same, inside_over, type_stays, export_stays, outer_stays, export_good, own_name, name_there, written_apart, names_push}
 
 -- what an instance type remembers, with parts of it by themselves
 abbrev pub GoodOver : Root → List (ℕ × ℕ) → List ℕ → List DeclaratorValue → ℕ → List TypeDef → Type 0
@@ -130,11 +130,11 @@ exported old new n id body types d owner a new_name own g at is name stands =
 
 pub foreign_stands : (old new : InterfaceTypes) (n : List ℕ) (k id i : ℕ) (owner : TypeOwner) (types : List TypeDef) (d : TypeDef)
     → i ≡ type_count (declarator_values old) → IsDeclared old new (declared_alias (outer 1 k)) old.exports.items
-    → is_of old.interface owner ≡ false → ((j : ℕ) × (d.owner ≡ belongs.Interface j))
+    → IsRemembered (index_of old.root.homes) id
     → InsideIsGood old types → slice_get types id ≡ Some d → d.owner ≡ owner → option_map string_bytes d.name ≡ Some n
     → Stands (root_label (interface_names old.root)) types (root_scope old.root).types (Id id) (Index k)
     → InsideIsGood new types × Stands (inside_label (interface_names new.root) new.interface) types (inside new).types (Id id) (Index i)
-foreign_stands old new n k id i owner types d count a away o g at is name s =
+foreign_stands old new n k id i owner types d count a home g at is name s =
     let names = interface_names old.root in
     let own = old.interface in
     let outside = (root_scope old.root).types in
@@ -143,7 +143,7 @@ foreign_stands old new n k id i owner types d count a away o g at is name s =
     let r = value_inside outside k w s.2 in
     let x = name_there d.name n name in
     let word : w ≡ written (inside_label (interface_names new.root) new.interface) t =
-    written_apart names own t (g.apart id o.0 d x.0 t at o.1 (other_interface own o.0 owner d.owner o.1 is away) x.1 s.1) ∙ ap (λ l. written l t) (sym (label_after old new (declared_alias (outer 1 k)) old.exports.items a)) in (
+    written_apart names own t (g.apart id home.0 d x.0 t home.1 at x.1 s.1) ∙ ap (λ l. written l t) (sym (label_after old new (declared_alias (outer 1 k)) old.exports.items a)) in (
       stepped old new (declared_alias (outer 1 k)) types a (outer_stays outside (inside old) k w r.0) g,
       (
         t,
@@ -163,11 +163,11 @@ over_same : (old new : InterfaceTypes) (types : List TypeDef) → IsOver old new
 over_same old new types o b g =
     ap (inside_of ((root_scope new.root).types ∷ [])) o.declarators ∙ inside_same (root_scope old.root).types (root_scope new.root).types (declarator_values old) b g.stays
 
-over_good : (old new : InterfaceTypes) (types : List TypeDef) → IsOver old new → interface_names new.root ≡ interface_names old.root → Begins (root_scope old.root).types (root_scope new.root).types → RootIsGood new.root types → InsideIsGood old types → InsideIsGood new types
-over_good old new types o names b root g =
+over_good : (old new : InterfaceTypes) (types : List TypeDef) → IsOver old new → interface_names new.root ≡ interface_names old.root → new.root.homes ≡ old.root.homes → Begins (root_scope old.root).types (root_scope new.root).types → RootIsGood new.root types → InsideIsGood old types → InsideIsGood new types
+over_good old new types o names homes b root g =
     let r = old.root in
     let s = new.root in
-    let on = inside_over (interface_names r) (interface_names s) (index_of r.known) (index_of r.homes) (index_of s.known) (index_of s.homes) (root_scope r) (root_scope s) (index_of old.known) old.exports.items (declarator_values old) old.interface types names b root g in
+    let on = inside_over (interface_names r) (interface_names s) (index_of r.known) (index_of r.homes) (index_of s.known) (index_of s.homes) (root_scope r) (root_scope s) (index_of old.known) old.exports.items (declarator_values old) old.interface types names (ap index_of homes) b root g in
     subst (λ ds. GoodOver s new.known new.exports.items ds new.interface types) (sym o.declarators)
     (subst (λ n. GoodOver s new.known new.exports.items (declarator_values old) n types) (sym o.interface)
     (subst (λ k. GoodOver s k new.exports.items (declarator_values old) old.interface types) (sym o.known) (subst (λ l. GoodOver s old.known l (declarator_values old) old.interface types) (sym o.exports) on)))
@@ -193,14 +193,14 @@ over_setting old new n k id o taken =
 
 -- from the root, which may grow, and then from around
 pub foreign_taken : (old mid new : InterfaceTypes) (owner : TypeOwner) (n : List ℕ) (k id i : ℕ)
-    → IsOver old mid → IsTaken old.root mid.root n id k → is_of old.interface owner ≡ false
+    → IsOver old mid → IsTaken old.root mid.root n id k
     → i ≡ type_count (declarator_values mid) → IsDeclared mid new (declared_alias (outer 1 k)) mid.exports.items
     → (types : List TypeDef) (d : TypeDef) → InsideIsGood old types → slice_get types id ≡ Some d → d.owner ≡ owner → option_map string_bytes d.name ≡ Some n
     → InsideIsGood new types × Stands (inside_label (interface_names new.root) new.interface) types (inside new).types (Id id) (Index i)
-foreign_taken old mid new owner n k id i o taken away count a types d g at is name =
+foreign_taken old mid new owner n k id i o taken count a types d g at is name =
     let t = taken.stands types d g.root at name in
-    let outside : is_of mid.interface owner ≡ false = ap (λ j. is_of j owner) o.interface ∙ away in
-    foreign_stands mid new n k id i owner types d count a outside (taken.owner types d g.root at) (over_good old mid types o taken.names taken.begins (taken.good types g.root) g) at is name t
+    let home : IsRemembered (index_of mid.root.homes) id = subst (λ l. IsRemembered (index_of l) id) (sym taken.homes) taken.home in
+    foreign_stands mid new n k id i owner types d count a home (over_good old mid types o taken.names taken.homes taken.begins (taken.good types g.root) g) at is name t
 
 pub foreign_begins : (old mid new : InterfaceTypes) (n : List ℕ) (k id : ℕ) → IsOver old mid → IsTaken old.root mid.root n id k → IsDeclared mid new (declared_alias (outer 1 k)) mid.exports.items
     → (types : List TypeDef) → InsideIsGood old types → Begins (inside old).types (inside new).types
@@ -246,7 +246,7 @@ inside_stays old new a = record {
 
 -- the root has grown, and no more is written
 pub over_stays : (old mid new : InterfaceTypes) (n : List ℕ) (id k : ℕ) → IsOver old mid → IsTaken old.root mid.root n id k → IsSameInside mid new → (types : List TypeDef) → InsideIsGood old types → InsideIsGood new types
-over_stays old mid new n id k o taken a types g = (inside_stays mid new a).good types (over_good old mid types o taken.names taken.begins (taken.good types g.root) g)
+over_stays old mid new n id k o taken a types g = (inside_stays mid new a).good types (over_good old mid types o taken.names taken.homes taken.begins (taken.good types g.root) g)
 
 pub over_sets : (old mid new : InterfaceTypes) (n : List ℕ) (id k : ℕ) → IsOver old mid → IsTaken old.root mid.root n id k → IsSameInside mid new → inside_setting new ≡ inside_setting old
 over_sets old mid new n id k o taken a = (inside_stays mid new a).setting ∙ foreign_setting old mid n k id o taken

@@ -1,5 +1,5 @@
 -- An instance that is imported has the types that its type exports, in the words of the root.
-use Rattle.std.proofs.Common.{◌≡◌, ℕ, ◌<◌, List, [], ◌∷◌, ◌++◌, length, map, get_or, Option, Some, None, refl, sym, ap, subst, ◌∙◌, inl, inr, append_assoc}
+use Rattle.std.proofs.Common.{◌≡◌, ◌⊎◌, ℕ, ◌<◌, List, [], ◌∷◌, ◌++◌, length, map, get_or, Option, Some, None, refl, sym, ap, subst, ◌∙◌, inl, inr, append_assoc}
 use Rattle.std.specs.Prelude.{nat_eq, bytes_eq, String, string_bytes}
 use Rattle.std.specs.declared.alloc.Global.{Global}
 use Rattle.std.proofs.lemmas.List.{append-nil, get_or-map}
@@ -32,7 +32,7 @@ use Rattle.type_sinks.specs.Root.{InterfaceNames, root_label, imported_name, imp
 use Rattle.type_sinks.specs.Inside.{inside_label, IsExported, InsideGood}
 use Rattle.type_writing.specs.Functions.{function_form}
 use Rattle.type_sinks.specs.Kept.{index_of, AreKept}
-use Rattle.type_sinks.specs.Views.{entry_values, root_scope, interface_names, root_names, RootIsGood, IsAdded, IsImported, IsInstanceWith, declarator_values, inside, inside_names, HasFunction, InstanceHasFunction}
+use Rattle.type_sinks.specs.Views.{entry_values, root_scope, interface_names, root_names, RootIsGood, IsAdded, IsImported, IsInstanceWith, IsTypeOf, declarator_values, inside, inside_names, HasFunction, InstanceHasFunction}
 use Rattle.type_writing.proofs.Standing.{new_item}
 use Rattle.type_sinks.proofs.Rooted.{instances_added, names_added, good_keeps}
 use Rattle.type_sinks.proofs.Keeping.{each_keeps, kept_cases}
@@ -229,6 +229,16 @@ import_good old new own known exports ds types a g =
       instances = λ id j h. kept_cases (IsHome names types instances) (index_of old.homes) (index_of new.homes) exports k id j a.homes h homes (grown.instances id);
     } in
     subst (λ m. RootGood m (index_of new.known) (index_of new.homes) (root_scope new) types) (sym a.names) (subst (λ l. RootGood names (index_of l) (index_of new.homes) (root_scope new) types) (sym a.known) good)
+
+-- a type that may be taken is of the interface, or might be before
+pub import_only : (old new : Root) (own : ℕ) (known : ℕ → Option ℕ) (exports : List ℕ) (ds : List DeclaratorValue) (types : List TypeDef)
+    → IsImported old new own ds exports → InsideGood (interface_names old) (index_of old.known) (index_of old.homes) (root_scope old) known exports ds own types
+    → (id k : ℕ) → index_of new.homes id ≡ Some k → (index_of old.homes id ≡ Some k) ⊎ IsTypeOf types id own
+import_only old new own known exports ds types a g id k h =
+    let s = inside_of ((root_scope old).types ∷ []) ds in
+    kept_cases (λ i n. (index_of old.homes i ≡ Some n) ⊎ IsTypeOf types i own) (index_of old.homes) (index_of new.homes) exports (length (root_scope old).instances) id k a.homes h
+    (each_keeps (IsExported (interface_names old) own types s) (λ i. (index_of old.homes i ≡ Some (length (root_scope old).instances)) ⊎ IsTypeOf types i own) exports (λ i e. inr (e.def, e.there, e.owner)) g.exported)
+    (λ n e. inl e)
 
 -- ---- as the code does it
 

@@ -28,7 +28,7 @@ use Rattle.type_writing.specs.declared.fault.Fault.{Fault}
 use Rattle.type_writing.specs.Unfolding.{OwnName, WitTree, Unfolds, unfolds_type, under_name}
 use Rattle.type_writing.specs.Writing.{written, written_parts, own_resource, Stands, KindStands, Begins, remembering}
 use Rattle.type_sinks.specs.Root.{InterfaceNames, root_label, RootGood}
-use Rattle.type_sinks.specs.Inside.{declares, type_count, exported_name, exported_names, is_of, inside_label, IsApart, AreApart, OthersAreApart, StaysInside, IsExported, InsideGood, names_in}
+use Rattle.type_sinks.specs.Inside.{declares, type_count, exported_name, exported_names, is_of, inside_label, IsApart, AreApart, TakenAreApart, StaysInside, IsExported, InsideGood, names_in}
 use Rattle.type_sinks.proofs.Keeping.{each_keeps, each_push, one_here, others_stay}
 use Rattle.type_writing.proofs.Standing.{begins_here, get_begin, stands_keeps, value_inside}
 
@@ -157,7 +157,7 @@ exported_keeps names own types s t id b h = record {
 -- ---- where nothing is written
 
 pub inside_nothing : (names : InterfaceNames) (root_known homes : ℕ → Option ℕ) (scope : Scope) (known : ℕ → Option ℕ) (exports : List ℕ) (ds : List DeclaratorValue) (own : ℕ) (types : List TypeDef)
-    → ((id : ℕ) → known id ≡ None) → exports ≡ [] → ds ≡ [] → RootGood names root_known homes scope types → OthersAreApart own types → InsideGood names root_known homes scope known exports ds own types
+    → ((id : ℕ) → known id ≡ None) → exports ≡ [] → ds ≡ [] → RootGood names root_known homes scope types → TakenAreApart homes own types → InsideGood names root_known homes scope known exports ds own types
 inside_nothing names root_known homes scope known exports ds own types e f d root apart = record {
   root = root;
   stays = λ more. ap (inside_of ((scope.types ++ more) ∷ [])) d ∙ sym (ap (inside_of (scope.types ∷ [])) d);
@@ -209,9 +209,9 @@ pub inside_same : (old new : List Item) (ds : List DeclaratorValue) → Begins o
 inside_same old new ds b stays = ap (λ l. inside_of (l ∷ []) ds) b.1 ∙ stays b.0
 
 pub inside_over : (names more_names : InterfaceNames) (root_known homes new_known new_homes : ℕ → Option ℕ) (old new : Scope) (known : ℕ → Option ℕ) (exports : List ℕ) (ds : List DeclaratorValue) (own : ℕ) (types : List TypeDef)
-    → more_names ≡ names → Begins old.types new.types → RootGood more_names new_known new_homes new types → InsideGood names root_known homes old known exports ds own types
+    → more_names ≡ names → new_homes ≡ homes → Begins old.types new.types → RootGood more_names new_known new_homes new types → InsideGood names root_known homes old known exports ds own types
     → InsideGood more_names new_known new_homes new known exports ds own types
-inside_over names more_names root_known homes new_known new_homes old new known exports ds own types e b root g =
+inside_over names more_names root_known homes new_known new_homes old new known exports ds own types e f b root g =
     let s = inside_of (old.types ∷ []) ds in
     let t = inside_of (new.types ∷ []) ds in
     let same : t ≡ s = inside_same old.types new.types ds b g.stays in
@@ -220,7 +220,7 @@ inside_over names more_names root_known homes new_known new_homes old new known 
       stays = λ more. ap (λ l. inside_of (l ∷ []) ds) (ap (λ l. l ++ more) b.1 ∙ append_assoc old.types b.0 more) ∙ g.stays (b.0 ++ more) ∙ sym same;
       ids = λ id i h. subst (λ n. Stands (inside_label n own) types t.types (Id id) (Index i)) (sym e) (subst (λ (q : Inside). Stands (inside_label names own) types q.types (Id id) (Index i)) (sym same) (g.ids id i h));
       exported = subst (λ n. Each (IsExported n own types t) exports) (sym e) (subst (λ (q : Inside). Each (IsExported names own types q) exports) (sym same) g.exported);
-      apart = g.apart;
+      apart = subst (λ (h : ℕ → Option ℕ). TakenAreApart h own types) (sym f) g.apart;
     }
 
 -- ---- what the declarators add
@@ -327,10 +327,6 @@ module _ (names : InterfaceNames) (own : ℕ) where
         let e = written_apart t h.0 in
         let f = written_apart_parts ps h.1 in
         λ i. part (e i) (f i)
-
--- a type of another interface
-pub other_interface : (own j : ℕ) (owner other : TypeOwner) → other ≡ belongs.Interface j → other ≡ owner → is_of own owner ≡ false → nat_eq j own ≡ false
-other_interface own j owner other e same away = ap (is_of own) (sym e ∙ same) ∙ away
 
 -- ---- the names of items
 

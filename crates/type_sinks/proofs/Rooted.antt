@@ -1,5 +1,5 @@
 -- The root: one more entry, and what is remembered stays so.
-use Rattle.std.proofs.Common.{◌≡◌, ℕ, zero, suc, ◌+◌, List, [], ◌∷◌, ◌++◌, length, map, Option, Some, None, true, refl, sym, ap, subst, ◌∙◌, arith, length-append}
+use Rattle.std.proofs.Common.{◌≡◌, ℕ, ◌+◌, List, [], ◌∷◌, ◌++◌, length, map, Option, Some, None, true, refl, sym, ap, subst, ◌∙◌, arith, length-append}
 use Rattle.std.specs.Prelude.{Result, Ok, Err, IfOk, OnOk, slice_get, option_map, string_bytes, fold}
 use Rattle.std.specs.List.{flat_map}
 use Rattle.std.proofs.lemmas.Grind.{flat_map-append}
@@ -176,12 +176,6 @@ import_added old new owner n i own a =
     ∙ ap (λ s. (root_scope old).types ++ named_item (record { site = s; name = n }) (item_at (root_scope old).types i) ∷ []) (own_root (interface_names old) owner own)
 
 -- ---- what an instance has
-
-pub home_owner : (names : InterfaceNames) (types : List TypeDef) (instances : List Item) (id k : ℕ) (d : TypeDef) → IsHome names types instances id k → slice_get types id ≡ Some d → (j : ℕ) × (d.owner ≡ belongs.Interface j)
-home_owner names types instances id k d h at =
-    let there = h.there in
-    let same : h.def ≡ d = cc in
-    (h.interface, ap (λ (x : TypeDef). x.owner) (sym same) ∙ h.owner)
 
 pub alias_stands : (names : InterfaceNames) (types : List TypeDef) (old new : Scope) (k id i : ℕ) (d : TypeDef) (n : List ℕ)
     → IsHome names types old.instances id k → slice_get types id ≡ Some d → option_map string_bytes d.name ≡ Some n

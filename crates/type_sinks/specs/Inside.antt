@@ -68,10 +68,9 @@ abbrev mutual
   AreApart own (gap ps) = AreApart own ps
   AreApart own (part t ps) = IsApart own t × AreApart own ps
 
--- the types of other interfaces don't speak of this one: interfaces depend on each other in no circle
-abbrev pub OthersAreApart : ℕ → List TypeDef → Type 0
-OthersAreApart own types =
-    (id j : ℕ) (d : TypeDef) (x : String Global) (t : WitTree) → slice_get types id ≡ Some d → d.owner ≡ belongs.Interface j → nat_eq j own ≡ false → d.name ≡ Some x → Unfolds types (Id id) t → IsApart own t
+-- what may be taken from instances doesn't speak of this interface: those that are imported depend on earlier ones alone
+abbrev pub TakenAreApart : (ℕ → Option ℕ) → ℕ → List TypeDef → Type 0
+TakenAreApart homes own types = (id k : ℕ) (d : TypeDef) (x : String Global) (t : WitTree) → homes id ≡ Some k → slice_get types id ≡ Some d → d.name ≡ Some x → Unfolds types (Id id) t → IsApart own t
 
 -- these declarators, in the root as it is or with more types, stand for this
 abbrev pub StaysInside : List Item → List DeclaratorValue → Inside → Type 0
@@ -95,4 +94,4 @@ pub record InsideGood (names : InterfaceNames) (root_known homes : ℕ → Optio
   pub stays : StaysInside scope.types ds (inside_of (scope.types ∷ []) ds)
   pub ids : (id i : ℕ) → known id ≡ Some i → Stands (inside_label names own) types (inside_of (scope.types ∷ []) ds).types (Id id) (Index i)
   pub exported : Each (IsExported names own types (inside_of (scope.types ∷ []) ds)) exports
-  pub apart : OthersAreApart own types
+  pub apart : TakenAreApart homes own types

@@ -12,14 +12,14 @@ use Rattle.wit_types.specs.declared.kind.«Type».TheVariants.{Id}
 use Rattle.wit_types.specs.declared.function.Param.{Param}
 use Rattle.wit_types.specs.declared.interface.TypeDef.{TypeDef}
 use Rattle.wit_types.specs.declared.interface.TypeOwner.TheVariants as belongs
-use Rattle.type_meaning.specs.Words.{Site, imported, Label}
+use Rattle.type_meaning.specs.Words.{Site, Label}
 use Rattle.type_meaning.specs.Items.{Inside as TheInside, inside_of, Items, items_of, item_at, item_named, own_label, from_import, a_function, an_instance}
 use Rattle.type_meaning.specs.Scope.{Scope, meaning, adds}
 use Rattle.type_sinks.specs.declared.root.Root.{Root}
 use Rattle.type_sinks.specs.declared.inside.InterfaceTypes.{InterfaceTypes}
 use Rattle.type_writing.specs.Unfolding.{WitTree}
 use Rattle.type_writing.specs.declared.fault.Fault.{Fault}
-use Rattle.type_writing.specs.Writing.{written, Stands, Begins, Setting}
+use Rattle.type_writing.specs.Writing.{written, Stands, Begins, Setting, IsRemembered}
 use Rattle.type_writing.specs.Refusals.{IsCause}
 use Rattle.type_sinks.specs.Root.{InterfaceNames, root_label, is_of_world, imported_names, RootGood}
 use Rattle.type_sinks.specs.Inside.{type_count, exported_names, is_of, inside_label, names_in, InsideGood}
@@ -85,7 +85,7 @@ pub record IsTaken (old new : Root) (name : List ℕ) (id i : ℕ) : Type 0 wher
   pub homes : new.homes ≡ old.homes
   pub functions : (root_scope new).functions ≡ (root_scope old).functions
   pub instances : (root_scope new).instances ≡ (root_scope old).instances
-  pub owner : (types : List TypeDef) (d : TypeDef) → RootIsGood old types → slice_get types id ≡ Some d → (j : ℕ) × (d.owner ≡ belongs.Interface j)
+  pub home : IsRemembered (index_of old.homes) id
   pub begins : Begins (root_scope old).types (root_scope new).types
   pub good : (types : List TypeDef) → RootIsGood old types → RootIsGood new types
   pub stands : (types : List TypeDef) (d : TypeDef) → RootIsGood old types → slice_get types id ≡ Some d → option_map string_bytes d.name ≡ Some name → Stands (root_label (interface_names new)) types (root_scope new).types (Id id) (Index i)
@@ -179,6 +179,10 @@ pub record HasFunction (t : InterfaceTypes) (types : List TypeDef) (name : List 
   pub tree : WitTree
   pub unfolds : FunctionUnfolds types params result tree
   pub has : item_named name (items_of (inside t).items) ≡ a_function (from_import (own_label name)) (written (inside_label (interface_names t.root) t.interface) tree)
+
+-- the type with that id belongs to the interface
+abbrev pub IsTypeOf : List TypeDef → ℕ → ℕ → Type 0
+IsTypeOf types id interface = (d : TypeDef) × (slice_get types id ≡ Some d) × (d.owner ≡ belongs.Interface interface)
 
 -- the instance at an index exports something under these names, and nothing else
 pub record IsInstanceWith (r : Root) (instance : ℕ) (site : Site) (names : List (List ℕ)) : Type 0 where

@@ -1,6 +1,6 @@
 //! The type of the instance that is imported for an interface.
 
-ghost use Rattle.std.specs.Prelude.{◌≡◌, ◌++◌, ◌∷◌, [], ◌≤◌, ◌+◌, ◌^◌, ℕ, nat_eq, List, Option, Some, None, true, false, get_or, length, map, IfOk, IfErr, OnOk, OnErr};
+ghost use Rattle.std.specs.Prelude.{◌≡◌, ◌⊎◌, ◌++◌, ◌∷◌, [], ◌≤◌, ◌+◌, ◌^◌, ℕ, nat_eq, List, Option, Some, None, true, false, get_or, length, map, IfOk, IfErr, OnOk, OnErr};
 ghost use Rattle.std.specs.List.{list_any};
 ghost use Rattle.component_definitions.specs.declared.externs.Description.TheVariants as descriptions;
 ghost use Rattle.distinct_names.specs.Names.{is_new};
@@ -9,7 +9,7 @@ ghost use Rattle.wit_types.specs.declared.function.Param.{Param as Parameter};
 ghost use Rattle.wit_types.specs.declared.kind.«Type».{«Type» as Ref};
 ghost use Rattle.wit_types.specs.declared.interface.TypeDef.{TypeDef as Def};
 ghost use Rattle.type_sinks.specs.Kept.{index_of};
-ghost use Rattle.type_sinks.specs.Inside.{declares, type_count, exported_name, exported_names, is_of, OthersAreApart};
+ghost use Rattle.type_sinks.specs.Inside.{declares, type_count, exported_name, exported_names, is_of, TakenAreApart};
 ghost use Rattle.type_sinks.specs.Refusals.{IsFunctionCause};
 ghost use Rattle.type_writing.specs.Functions.{function_form};
 ghost use Rattle.type_writing.specs.Refusals.{IsCause};
@@ -67,7 +67,7 @@ fn export<'s>(
 }
 
 impl<'s> InterfaceTypes<'s> {
-    ghost use Rattle.type_sinks.specs.Views.{root_scope, interface_names, root_names, RootIsGood, IsFull, declarator_values, inside, inside_names, inside_setting, InsideIsGood, IsFullInside, IsGiven, IsSameInside, IsDeclared, IsImported, IsImportCause, IsInstanceWith, HasFunction, InstanceHasFunction};
+    ghost use Rattle.type_sinks.specs.Views.{root_scope, interface_names, root_names, RootIsGood, IsFull, declarator_values, inside, inside_names, inside_setting, InsideIsGood, IsFullInside, IsGiven, IsSameInside, IsDeclared, IsImported, IsImportCause, IsInstanceWith, IsTypeOf, HasFunction, InstanceHasFunction};
     ghost use Rattle.type_meaning.specs.Words.{imported};
     ghost use Rattle.type_writing.specs.Writing.{Begins};
 
@@ -78,7 +78,7 @@ impl<'s> InterfaceTypes<'s> {
         ensures declarators { declarator_values result ≡ [] }
         ensures exports { result.exports.items ≡ [] }
         ensures table { (id : ℕ) → index_of result.known id ≡ None }
-        ensures good { (types : List Def) → RootIsGood root.entry types → OthersAreApart interface types → InsideIsGood result types }
+        ensures good { (types : List Def) → RootIsGood root.entry types → TakenAreApart (index_of root.entry.homes) interface types → InsideIsGood result types }
     {
         InterfaceTypes {
             root,
@@ -99,6 +99,7 @@ impl<'s> InterfaceTypes<'s> {
         ensures good { IfOk result (λ r. (types : List Def) → InsideIsGood self.entry types → RootIsGood r types) }
         ensures homes { IfOk result (λ r. (id : ℕ) → IsGiven self.entry id → index_of r.homes id ≡ Some (length (root_scope self.entry.root).instances)) }
         ensures interfaces { IfOk result (λ r. interface_names r ≡ interface_names self.entry.root) }
+        ensures only { IfOk result (λ r. (types : List Def) → InsideIsGood self.entry types → (id k : ℕ) → index_of r.homes id ≡ Some k → (index_of self.entry.root.homes id ≡ Some k) ⊎ IsTypeOf types id self.entry.interface) }
         ensures others { IfOk result (λ r. (id : ℕ) → list_any (nat_eq id) self.entry.exports.items ≡ false → index_of r.homes id ≡ index_of self.entry.root.homes id) }
         ensures begins { IfOk result (λ r. Begins (root_scope self.entry.root).types (root_scope r).types × Begins (root_scope self.entry.root).instances (root_scope r).instances) }
         ensures same { IfOk result (λ r. (root_scope r).functions ≡ (root_scope self.entry.root).functions) }
@@ -182,6 +183,7 @@ impl<'s> InterfaceTypes<'s> {
         ensures table { self.new.known ≡ self.old.known }
         ensures exports { self.new.exports.items ≡ self.old.exports.items }
         ensures names { OnOk result (inside_names self.new ≡ inside_names self.old ++ name.entry.now ∷ []) }
+        ensures err { OnErr result (inside_names self.new ≡ inside_names self.old) }
         ensures begins { Begins (inside self.old).types (inside self.new).types }
         ensures good { (types : List Def) → InsideIsGood self.old types → InsideIsGood self.new types }
         ensures has { IfOk result (λ _. (types : List Def) → InsideIsGood self.old types → HasFunction self.new types name.entry.now params.entry.now answer.now) }

@@ -1,6 +1,6 @@
 //! The root of a component.
 
-ghost use Rattle.std.specs.Prelude.{◌≡◌, ◌⊎◌, ◌≤◌, ◌+◌, ◌^◌, [], ◌∷◌, ◌++◌, List, Option, length, map, IfOk, IfErr, OnErr, OnOk, None, true, false, string_bytes};
+ghost use Rattle.std.specs.Prelude.{◌≡◌, ◌⊎◌, ◌≤◌, ◌+◌, ◌^◌, [], ◌∷◌, ◌++◌, ℕ, List, Option, length, map, IfOk, IfErr, OnErr, OnOk, None, true, false, string_bytes};
 ghost use Rattle.component_definitions.specs.declared.externs.Description.TheVariants as descriptions;
 ghost use Rattle.component_instances.specs.Declarators.{declarator_value};
 ghost use Rattle.component_definitions.specs.declared.sorts.ComponentSort.TheVariants as sorts;
@@ -80,6 +80,7 @@ impl<'s> Root<'s> {
     pub fn new(alloc: Global, names: &'s [String]) -> Root<'s>
         ensures entries { entry_values result ≡ [] }
         ensures names { interface_names result ≡ map string_bytes names.entry.now }
+        ensures homes { (id : ℕ) → index_of result.homes id ≡ None }
         ensures good { (defs : List Def) → RootIsGood result defs }
     {
         Root {
@@ -212,6 +213,7 @@ impl<'s> Root<'s> {
         answer: &Option<Type>,
     ) -> Result<u32, Fault>
         ensures interfaces { interface_names self.new ≡ interface_names self.old }
+        ensures table { index_of self.new.known ≡ index_of self.old.known }
         ensures homes { index_of self.new.homes ≡ index_of self.old.homes }
         ensures types { Begins (root_scope self.old).types (root_scope self.new).types }
         ensures functions { Begins (root_scope self.old).functions (root_scope self.new).functions }
@@ -220,6 +222,7 @@ impl<'s> Root<'s> {
         ensures names { OnOk result (root_names self.new ≡ root_names self.old ++ name.entry.now ∷ []) }
         ensures index { IfOk result (λ i. (i ≡ length (root_scope self.old).functions) × (length (root_scope self.new).functions ≡ i + 1)) }
         ensures is { IfOk result (λ i. (types : List Def) → RootIsGood self.old types → IsFunctionAt self.new i (import_label name.entry.now) types params.entry.now answer.now) }
+        ensures err { OnErr result ((root_names self.new ≡ root_names self.old) × ((root_scope self.new).functions ≡ (root_scope self.old).functions)) }
         ensures cause { IfErr result (IsFunctionCause (index_of self.old.known) (function_form params.entry.now answer.now).parts (root_names self.old) name.entry.now (IsFull self.new ⊎ IsFullOfFunctions self.new)) }
     {
         let ty = write_function(alloc, self, params, answer)?;

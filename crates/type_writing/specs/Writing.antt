@@ -9,7 +9,7 @@ use Rattle.component_value_types.specs.declared.values.ValueType.{ValueType}
 use Rattle.component_value_types.specs.declared.values.ValueType.TheVariants.{Index}
 use Rattle.component_value_types.specs.Types.{DefinedTypeValue}
 use Rattle.type_meaning.specs.Tree.{Parts, named, resource, put, put_parts, record_kind}
-use Rattle.type_meaning.specs.Words.{Site, root_import, itself, imported, root_export, exported, Label, Resource, imported_as, its_own, BinaryTree}
+use Rattle.type_meaning.specs.Words.{Site, itself, Label, Resource, imported_as, its_own, BinaryTree}
 use Rattle.type_meaning.specs.Items.{Item, part_tree, is_function_kind, is_handle_kind}
 use Rattle.type_meaning.specs.Syntax.{syntax_of}
 use Rattle.type_writing.specs.Unfolding.{OwnName, WitTree, FormOf, form_of, Unfolds, KindUnfolds}

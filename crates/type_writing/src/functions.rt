@@ -1,6 +1,6 @@
 //! Types of functions, by the indices of what is written.
 
-ghost use Rattle.std.specs.Prelude.{◌≡◌, ℕ, List, map, IfOk, IfErr, Some, string_bytes};
+ghost use Rattle.std.specs.Prelude.{◌≡◌, ℕ, List, map, IfOk, IfErr, OnErr, Some, string_bytes};
 ghost use Rattle.component_value_types.specs.Names.{named_value};
 ghost use Rattle.component_value_types.specs.Types.{function, function_type_value};
 ghost use Rattle.wit_types.specs.declared.interface.TypeDef.{TypeDef as Def};
@@ -68,6 +68,7 @@ pub fn write_function<'s, S: ValtypeEncoder<'s>>(
     ensures names { S.names sink.new ≡ S.names sink.old }
     ensures given { (k : ℕ) → S.given sink.old k → S.given sink.new k }
     ensures begins { Begins (S.space sink.old) (S.space sink.new) }
+    ensures err { OnErr result (S.space sink.new ≡ S.space sink.old) }
     ensures good { (types : List Def) → S.good sink.old types → S.good sink.new types }
     ensures stands { (types : List Def) → S.good sink.old types → IfOk result (λ i. FunctionStands (S.setting sink.new).label types (S.space sink.new) params.entry.now answer.now i) }
     ensures cause { IfErr result (IsCause (AreUnready (IsRemembered (S.table sink.old)) (function_form params.entry.now answer.now).parts) (S.full sink.new)) }

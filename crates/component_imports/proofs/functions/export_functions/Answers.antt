@@ -1,4 +1,4 @@
-use Rattle.std.proofs.Common.{◌∙◌, ap, subst, sym, ◌⊎◌, ◌≡◌, false}
+use Rattle.std.proofs.Common.{◌∙◌, subst, ◌⊎◌, ◌≡◌, false}
 use Rattle.std.specs.Prelude.{List, ℕ}
 use Rattle.std.proofs.lemmas.Result.{err_from_is_err_and}
 use Rattle.distinct_names.specs.Names.{is_new}

@@ -1,5 +1,4 @@
-use Rattle.std.proofs.Common.{ap, ◌∙◌, ◌++◌, subst, [], inl}
-use Rattle.std.specs.Prelude.{length, List, ℕ}
+use Rattle.std.proofs.Common.{ap, ◌∙◌, ◌++◌, subst, inl}
 use Rattle.std.specs.List.{AllByRecursion as Each}
 use Rattle.std.proofs.lemmas.Result.{IfOk-weaker, IfErr-weaker, err_from_is_err_and}
 use Rattle.type_writing.specs.Writing.{Setting, HasItsName, names_of_types}
@@ -8,8 +7,7 @@ use Rattle.type_sinks.specs.declared.root.Root.{Root}
 use Rattle.type_sinks.specs.Views.{root_scope, inside_setting, IsGiven}
 use Rattle.type_writing.specs.Writing.{Begins}
 use Rattle.component_imports.specs.Functions.{functions_of, function_names}
-use Rattle.component_imports.specs.Interface.{setting_over}
-use Rattle.component_imports.proofs.Imported.{nothing_named, setting_is, items_unready, IsFilled, IsPut, put_of, all_imported, put_unready}
+use Rattle.component_imports.proofs.Imported.{nothing_named, setting_is, items_unready, IsFilled, put_of, all_imported, put_unready}
 use Rattle.component_imports.proofs.interface.import_interface.Goals as goal
 
 pub returns-in_err-write_items-clause-cause : goal.returns-in_err-write_items-clause-cause
@@ -44,6 +42,6 @@ returns c =
       has = w.has;
     } in
     record {
-      ok = IfOk-weaker c.import.result _ _ (λ r h. all_imported root t r types interface ids fs filled h) (put_of c.import.result t types p.good w.good p.homes p.others p.interfaces p.begins p.same p.names p.items p.functions);
+      ok = IfOk-weaker c.import.result _ _ (λ r h. all_imported root t r types interface ids fs filled h) (put_of c.import.result t types p.good w.good p.homes p.others p.only p.interfaces p.begins p.same p.names p.items p.functions);
       cause = IfErr-weaker c.import.result _ _ (λ e h. put_unready _ root t interface e set h) p.cause;
     }

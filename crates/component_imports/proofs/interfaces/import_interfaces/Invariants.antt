@@ -1,4 +1,3 @@
-use Rattle.std.proofs.Common.{take}
 use Rattle.component_imports.specs.Interfaces.{linked_of}
 use Rattle.component_imports.proofs.Needing.{AreImportedTo}
 use Rattle.component_imports.proofs.interfaces.import_interfaces.Given as goal

@@ -1,7 +1,5 @@
-use Rattle.std.proofs.Common.{ap, ◌∙◌, ◌++◌, sym, subst}
-use Rattle.wit_reach.specs.Paths.{AreEnds}
+use Rattle.std.proofs.Common.{◌∙◌}
 use Rattle.wit_reach.specs.Made.{IsMadeOfWithin}
-use Rattle.wit_order.specs.Order.{Has}
 use Rattle.wit_types.specs.declared.interface.TypeOwner.TheVariants as belongs
 use Rattle.component_imports.specs.Functions.{functions_of}
 use Rattle.component_imports.specs.Interfaces.{ids_of}

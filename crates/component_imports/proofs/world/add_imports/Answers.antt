@@ -1,15 +1,20 @@
-use Rattle.std.proofs.Common.{sym, ap, subst, ◌∙◌, arith, ◌≡◌, ◌+◌, length}
-use Rattle.std.specs.Prelude.{List, ℕ, string_bytes}
+use Rattle.std.proofs.Common.{take, ◌⊎◌, false, Option, subst, ◌∙◌, arith, ◌≡◌, ◌+◌, length}
+use Rattle.std.specs.Prelude.{List, ℕ}
 use Rattle.wit_types.specs.declared.function.Param.{Param}
-use Rattle.wit_types.specs.declared.interface.TypeDef.{TypeDef}
 use Rattle.type_meaning.specs.Scope.{import_label}
 use Rattle.type_writing.proofs.Standing.{begins_on}
 use Rattle.type_sinks.specs.Views.{root_scope, root_names, IsFunctionAt}
 use Rattle.component_imports.specs.Functions.{functions_of}
-use Rattle.component_imports.proofs.Exported.{names_next}
+use Rattle.std.proofs.lemmas.Result.{err_from_is_err_and}
+use Rattle.distinct_names.specs.Names.{is_new}
+use Rattle.type_writing.specs.Functions.{function_form}
+use Rattle.type_writing.specs.Refusals.{AreUnready}
+use Rattle.type_writing.specs.Writing.{IsRemembered}
+use Rattle.type_writing.proofs.Refusals.{cause_weaker}
+use Rattle.type_sinks.specs.Kept.{index_of}
+use Rattle.component_imports.proofs.Exported.{names_next, functions_cause}
 use Rattle.component_imports.proofs.Worldly.{functions_at_stay, at_next}
 use Rattle.component_imports.proofs.world.add_imports.Goals as goal
-use Rattle.std.proofs.Common.{take}
 
 pub loop-function-preserved : goal.loop-function-preserved
 loop-function-preserved c =
@@ -33,6 +38,7 @@ loop-function-preserved c =
     let here : i ≡ first + n = omega (arith, index, so_far) in
     record {
       interfaces = a.interfaces ∙ before.interfaces;
+      table = a.table ∙ before.table;
       homes = a.homes ∙ before.homes;
       types = begins_on (root_scope start).types (root_scope old).types (root_scope new).types before.types a.types;
       functions = begins_on (root_scope start).functions (root_scope old).functions (root_scope new).functions before.functions a.functions;
@@ -44,3 +50,21 @@ loop-function-preserved c =
           at_next new first i n types fs f lt at here (functions_at_stay old new first types (functions_of (take n fs)) a.interfaces a.functions (before.are types g))
           (subst (λ m. IsFunctionAt new i (import_label m) types f.now.params.items f.now.result) name (subst (λ (ps : List Param). IsFunctionAt new i (import_label c.as_str.result.now) types ps f.now.result) params (a.is types (before.good types g))));
     }
+
+pub returns-in_err-import_function-clause-cause : goal.returns-in_err-import_function-clause-cause
+returns-in_err-import_function-clause-cause c =
+    let start = c.args.root.now in
+    let old = c.loop-function.root in
+    let before = c.loop-function.invariant in
+    let fs = c.args.functions.now in
+    let i = c.loop-function.function-index in
+    let f = c.function-item.result in
+    let moved = err_from_is_err_and c.from_residual.result c.from_residual.ensures.1 in
+    let P : List Param → List ℕ → List (List ℕ) → (ℕ → Option ℕ) → Type 0 = λ ps n names table. AreUnready (IsRemembered table) (function_form ps f.now.result).parts ⊎ (is_new names n ≡ false) in
+    rw (moved.1, moved.2)
+    (cause_weaker (λ h.
+    functions_cause (IsRemembered (index_of start.known)) (root_names start) (root_names old) fs i f c.loop-function-test.true c.function-item.is before.names
+    (subst (P f.now.params.items _ (root_names old)) before.table (subst (λ n. P f.now.params.items n (root_names old) (index_of old.known)) c.as_str.ensures.value (subst (λ ps. P ps c.as_str.result.now (root_names old) (index_of old.known)) c.deref.ensures.value h))))
+    (λ h. tt)
+    c.in_err-import_function.field-0.0
+    c.in_err-import_function.ensures.cause)

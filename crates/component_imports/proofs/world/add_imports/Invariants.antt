@@ -10,6 +10,7 @@ use Rattle.component_imports.proofs.world.add_imports.Given as goal
 abbrev pub invariant-loop-function : goal.invariant-loop-function
 invariant-loop-function l = record {
   interfaces : interface_names l.root ≡ interface_names l.initial.root;
+  table : index_of l.root.known ≡ index_of l.initial.root.known;
   homes : index_of l.root.homes ≡ index_of l.initial.root.homes;
   types : Begins (root_scope l.initial.root).types (root_scope l.root).types;
   functions : Begins (root_scope l.initial.root).functions (root_scope l.root).functions;

@@ -32,6 +32,7 @@ returns g c =
       names = a.names;
       given = a.keeps;
       begins = in_either c.define.result _ (λ i h. (_ ∷ [], h.1)) (λ e. begins_same (S.space sink) (S.space new) e) a.ok a.err;
+      err = a.err;
       good = a.good;
       stands = λ types good. IfOk-weaker c.define.result _ _ (λ i h.
           function_stands (S.setting sink).label (S.setting new).label types (S.space sink) (S.space new) c.args.params.now c.args.answer.now (function (function_type_value c.in_ok-function.function)) i (c.in_ok-function.ensures.function types good) label h.0 h.1) a.ok;

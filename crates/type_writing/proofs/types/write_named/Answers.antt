@@ -4,7 +4,7 @@ use Rattle.std.proofs.lemmas.Result.{IfOk-weaker, IfErr-weaker, on_ok_weaker}
 use Rattle.distinct_names.specs.Names.{is_new}
 use Rattle.type_writing.specs.Writing.{Setting, IsRemembered}
 use Rattle.type_writing.proofs.Standing.{begins_same, begins_on, in_either, on_ok_always, named_elsewhere, no_name, no_own_name, own_name, unnamed_stands, named_stands}
-use Rattle.type_writing.proofs.Refusals.{cause_weaker, unnamed_cause, own_kind_cause, own_name_cause, elsewhere_cause}
+use Rattle.type_writing.proofs.Refusals.{cause_weaker, unnamed_cause, own_name_cause, elsewhere_cause}
 use Rattle.type_writing.proofs.types.write_named.Goals as goal
 
 pub returns-in_default-clause-stands : goal.returns-in_default-clause-stands

@@ -1,4 +1,4 @@
-use Rattle.std.proofs.Common.{◌≡◌, ◌++◌, ap, ◌∙◌, sym, subst}
+use Rattle.std.proofs.Common.{◌++◌, ap, ◌∙◌}
 use Rattle.std.specs.Prelude.{slice_get}
 use Rattle.std.proofs.lemmas.Result.{err_from_is_err_and}
 use Rattle.type_writing.specs.Writing.{Setting, name_of, IsRemembered}
@@ -29,7 +29,7 @@ loop-id-preserved g c =
       begins = begins_on (S.space start) (S.space old) (S.space new) before.begins a.begins;
       good = a.good;
       remembered = remembers_next (IsRemembered (S.table start)) (IsRemembered (S.table old)) (IsRemembered (S.table new)) ids i id lt at before.remembered a.remembers (c.in_ok-write_type.field-0, a.remembered);
-      names = names_next (S.setting start) types (S.names start) (S.names old) (S.names new) ids i id lt at before.names (a.names ∙ ap (λ (s : Setting). S.names old ++ name_of s (slice_get types id)) before.setting);
+      names = names_next (S.setting start) types (S.names start) (S.names old) (S.names new) ids i id lt at before.names (◌∙◌ {b = S.names old ++ name_of (S.setting old) (slice_get types id)} a.names (ap (λ (s : Setting). S.names old ++ name_of s (slice_get types id)) before.setting));
       given = λ k h. a.given k (before.given k h);
       named = named_next (S.setting start) (S.setting old) types (S.given old) (S.given new) ids i id lt at before.setting a.given before.named a.named;
     }

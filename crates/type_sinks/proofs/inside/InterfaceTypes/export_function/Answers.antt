@@ -1,11 +1,12 @@
 use Rattle.std.proofs.Common.{sym, ap, ◌∙◌, ◌++◌, ◌∷◌, [], inl, inr}
 use Rattle.std.proofs.lemmas.List.{append-nil}
-use Rattle.std.proofs.lemmas.Result.{IfOk-weaker, IfErr-weaker, err_from_is_err_and}
+use Rattle.std.proofs.lemmas.Result.{IfOk-weaker, IfErr-weaker, on_err_weaker, err_from_is_err_and}
 use Rattle.component_value_types.specs.Types.{function, function_type_value}
 use Rattle.component_definitions.specs.declared.externs.Description.TheVariants as descriptions
 use Rattle.component_instances.specs.Declarators.{declared_type, declared_export}
 use Rattle.distinct_names.specs.Names.{is_new}
-use Rattle.type_sinks.specs.Views.{inside_names}
+use Rattle.type_sinks.specs.Inside.{exported_names}
+use Rattle.type_sinks.specs.Views.{inside_names, IsSameInside}
 use Rattle.type_writing.proofs.Standing.{in_either}
 use Rattle.type_writing.proofs.Refusals.{cause_weaker}
 use Rattle.type_sinks.proofs.Rooted.{ok_always}
@@ -58,6 +59,7 @@ returns c =
       table = in_either r _ (λ u h. h.1.known) (λ s. s.known) item.ok item.err ∙ c.in_ok-ty.ensures.known;
       exports = in_either r _ (λ u h. h.1.exports) (λ s. s.exports) item.ok item.err ∙ c.in_ok-ty.ensures.exports;
       names = ok_always r _ (λ u h. names_after mid new (declared_export n (descriptions.Function i)) mid.exports.items h.1 ∙ ap (λ l. l ++ n ∷ []) same) item.ok;
+      err = on_err_weaker r (λ (s : IsSameInside mid new). ap exported_names s.declarators ∙ same) item.err;
       begins = a.begins;
       good = a.good;
       has = IfOk-weaker r _ _ (λ u h types g. function_has old mid new types c.args.params.now c.args.answer.now n d i ty.0 (c.in_ok-function.ensures.function types g) h.0 ty.1 h.1) item.ok;

@@ -1,10 +1,12 @@
-use Rattle.std.proofs.Common.{ap, [], ◌∷◌, ◌++◌, inl}
+use Rattle.std.proofs.Common.{◌≡◌, List, ap, [], ◌∷◌, ◌++◌, inl}
 use Rattle.std.proofs.lemmas.Result.{IfOk-weaker, IfErr-weaker, on_err_weaker}
 use Rattle.component_definitions.specs.declared.externs.Description.TheVariants as descriptions
 use Rattle.component_instances.specs.Declarators.{declared_export}
 use Rattle.type_writing.proofs.Standing.{in_either}
 use Rattle.type_writing.proofs.Refusals.{cause_weaker}
+use Rattle.wit_types.specs.declared.interface.TypeDef.{TypeDef}
 use Rattle.type_sinks.specs.Kept.{index_of}
+use Rattle.type_sinks.specs.Views.{inside, inside_names, InsideIsGood}
 use Rattle.type_sinks.proofs.Rooted.{ok_always}
 use Rattle.type_sinks.proofs.Declared.{inside_stays, index_after, setting_after, names_after, export_after, exported, given_same, given_more, given_last, root_stays_outside}
 use Rattle.type_sinks.proofs.inside.InterfaceTypesValtypeEncoder.declare.Goals as goal
@@ -32,6 +34,6 @@ returns c =
       keeps = λ k g. in_either r _ (λ i h. given_more old new k id h.2.exports g) (λ s. given_same old new k s.exports g) a.ok a.err;
       good = ok_always r _ (λ i h types e g at is name stands. exported old new n id body types e owner h.2 h.1 own g at is name stands) a.ok;
       ok = IfOk-weaker r _ _ (λ i h. (index_after old i h.0, export_after old new owner n body ids own h.2)) a.ok;
-      err = on_err_weaker r (λ s. let t = stays s in (t.types, t.names, t.good)) a.err;
+      err = on_err_weaker {Q = ((inside new).types ≡ (inside old).types) × (inside_names new ≡ inside_names old) × ((types : List TypeDef) → InsideIsGood old types → InsideIsGood new types)} r (λ s. let t = stays s in (t.types, t.names, t.good)) a.err;
       cause = IfErr-weaker r _ _ (cause_weaker (λ h. h) (λ h. inl h)) a.cause;
     }

@@ -1,5 +1,5 @@
 use Rattle.std.proofs.Common.{ap, ◌∙◌, ◌++◌, ◌∷◌, [], inl, inr, refl, sym}
-use Rattle.std.proofs.lemmas.Result.{IfOk-weaker, IfErr-weaker, err_from_is_err_and}
+use Rattle.std.proofs.lemmas.Result.{IfOk-weaker, IfErr-weaker, on_err_weaker, err_from_is_err_and}
 use Rattle.component_definitions.specs.declared.externs.Description.TheVariants as descriptions
 use Rattle.component_entries.specs.Entries.{an_import}
 use Rattle.distinct_names.specs.Names.{is_new}
@@ -7,7 +7,8 @@ use Rattle.type_writing.specs.Writing.{Setting}
 use Rattle.type_writing.proofs.Standing.{begins_same, begins_on, in_either}
 use Rattle.type_writing.proofs.Refusals.{cause_weaker}
 use Rattle.type_sinks.specs.Kept.{index_of}
-use Rattle.type_sinks.specs.Views.{root_scope}
+use Rattle.type_sinks.specs.Root.{imported_names}
+use Rattle.type_sinks.specs.Views.{root_scope, IsSameRoot}
 use Rattle.type_sinks.proofs.Rooted.{root_keeps, same_good, root_stays, ok_always, names_added, function_added, types_same, instances_same, functions_begin, import_is, import_counted}
 use Rattle.type_sinks.proofs.root.Root.import_function.Goals as goal
 
@@ -24,6 +25,7 @@ returns c =
     let a = c.add_function.ensures in
     record {
       interfaces = in_either r _ (λ i h. h.1.names) (λ s. s.names) a.ok a.err ∙ ap (λ (s : Setting). s.around.interfaces) w.setting;
+      table = ap index_of (in_either r _ (λ i h. h.1.known) (λ s. s.known) a.ok a.err) ∙ w.table;
       homes = ap index_of (in_either r _ (λ i h. h.1.homes) (λ s. s.homes) a.ok a.err) ∙ ap (λ (s : Setting). s.homes) w.setting;
       types = begins_on (root_scope old).types (root_scope mid).types (root_scope new).types w.begins (begins_same (root_scope mid).types (root_scope new).types (in_either r _ (λ i h. types_same mid new n ty h.1) (λ s. (root_stays mid new s).1) a.ok a.err));
       functions = functions_begin old mid new (ap (λ (s : Setting). s.around.functions) w.setting) (in_either r _ (λ i h. function_added mid new e h.1) (λ s. begins_same (root_scope mid).functions (root_scope new).functions (ap (λ (t : Setting). t.around.functions) (root_stays mid new s).0)) a.ok a.err);
@@ -32,6 +34,7 @@ returns c =
       names = ok_always r _ (λ i h. names_added mid new e h.1 ∙ ap (λ l. l ++ n ∷ []) w.names) a.ok;
       index = IfOk-weaker r _ _ (λ i h. import_counted old mid new n ty i (ap (λ (s : Setting). s.around.functions) w.setting) h.0 h.1) a.ok;
       is = IfOk-weaker r _ _ (λ i h types g. import_is mid new n ty i types c.args.params.now c.args.answer.now h.0 h.1 (w.stands types g)) a.ok;
+      err = on_err_weaker r (λ (s : IsSameRoot mid new). (ap imported_names s.entries ∙ w.names, ap (λ (t : Setting). t.around.functions) (root_stays mid new s).0 ∙ ap (λ (t : Setting). t.around.functions) w.setting)) a.err;
       cause = IfErr-weaker r _ _ (cause_weaker (λ h. inr (ap (λ l. is_new l n) (sym w.names) ∙ h)) inr) a.cause;
     }
 
@@ -55,3 +58,8 @@ returns-in_err-ty-clause-homes c = ap (λ (s : Setting). s.homes) c.in_err-ty.en
 
 pub returns-in_err-ty-clause-instances : goal.returns-in_err-ty-clause-instances
 returns-in_err-ty-clause-instances c = ap (λ (s : Setting). s.around.instances) c.in_err-ty.ensures.setting
+
+pub returns-in_err-ty-clause-err : goal.returns-in_err-ty-clause-err
+returns-in_err-ty-clause-err c =
+    let moved = err_from_is_err_and c.from_residual.result c.from_residual.ensures.1 in
+    rw moved.1 (c.in_err-ty.ensures.names, ap (λ (s : Setting). s.around.functions) c.in_err-ty.ensures.setting)

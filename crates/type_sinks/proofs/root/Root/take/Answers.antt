@@ -1,4 +1,4 @@
-use Rattle.std.proofs.Common.{refl, ap, subst, sym, ◌∙◌}
+use Rattle.std.proofs.Common.{refl, subst, sym, ◌∙◌}
 use Rattle.std.proofs.lemmas.List.{append-nil}
 use Rattle.std.proofs.lemmas.Result.{IfOk-weaker}
 use Rattle.component_value_types.specs.declared.values.ValueType.TheVariants.{Index}
@@ -10,7 +10,7 @@ use Rattle.type_meaning.specs.Scope.{adds}
 use Rattle.type_sinks.specs.Root.{root_label}
 use Rattle.type_writing.specs.Writing.{Stands}
 use Rattle.type_sinks.specs.Views.{root_scope, root_names, interface_names}
-use Rattle.type_sinks.proofs.Rooted.{types_added, names_added, functions_same, instances_same, root_keeps, alias_stands, home_owner}
+use Rattle.type_sinks.proofs.Rooted.{types_added, names_added, functions_same, instances_same, root_keeps, alias_stands}
 use Rattle.type_sinks.proofs.root.Root.take.Goals as goal
 
 pub returns-clause-ok : goal.returns-clause-ok
@@ -27,7 +27,7 @@ returns-clause-ok c =
       homes = h.1.homes;
       functions = functions_same old new e h.1 refl;
       instances = instances_same old new e h.1 refl;
-      owner = λ types d g at. home_owner (interface_names old) types (root_scope old).instances c.args.id k d (g.instances c.args.id k home) at;
+      home = (k, home);
       begins = ((adds (root_scope old) e).types, types_added old new e h.1);
       good = λ types. root_keeps old new e types h.1;
       stands = λ types d g at w.

@@ -1,5 +1,5 @@
 use Rattle.std.proofs.Common.{refl, [], ap}
-use Rattle.std.proofs.lemmas.Result.{IfOk-weaker, on_ok_weaker, on_err_weaker}
+use Rattle.std.proofs.lemmas.Result.{IfOk-weaker, on_err_weaker}
 use Rattle.component_definitions.specs.declared.externs.Description.TheVariants as descriptions
 use Rattle.component_entries.specs.Entries.{an_import}
 use Rattle.type_writing.proofs.Standing.{begins_here, in_either}

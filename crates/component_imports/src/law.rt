@@ -1,0 +1,23 @@
+//! Laws of what is imported.
+
+ghost use Rattle.component_imports.specs.Order.{RisingAreApart, UsedStandBefore};
+ghost use Rattle.component_imports.specs.Ready.{ReadyIsImported};
+
+/// Where each type stands behind those that it is made of, those of other interfaces are there, functions are over these types, no two
+/// items have one name and the interface has a name under which nothing is imported, `import_interface` never answers `NotYet` (WIT, Item:
+/// `interface`; Component Model, Explainer, Import and Export Definitions).
+pub fn law_ready_is_imported()
+    ensures { ReadyIsImported }
+{}
+
+/// Where something that is needed of an interface is made of a type of an earlier interface, that is imported too, and before it (WIT, Use;
+/// Component Model, Explainer, Index Spaces).
+pub fn law_used_stand_before()
+    ensures { UsedStandBefore }
+{}
+
+/// Where types of interfaces are made of those of the same or of earlier interfaces, a type of an interface doesn't speak of later ones (WIT,
+/// Use).
+pub fn law_rising_are_apart()
+    ensures { RisingAreApart }
+{}
