@@ -107,10 +107,10 @@ fn import_needed<'s>(
 
 /// Imports all interfaces that are needed, in rising order: those of which functions are linked, by their ids, and those that have a type
 /// of which one of these functions or one of these types is made over any number of steps. Each exports exactly its needed types and its
-/// linked functions. An interface stands behind those whose types it uses, since types are made of earlier ones (WIT, Item: `interface`;
-/// Component Model, Explainer, Import and Export Definitions). No interface is imported yet. Answers `NotYet` only where what is asked for isn't all written, as a resource,
-/// a handle, a future, a stream or an error context, or two names are one; `TooLarge` where 32 bits can't say an index; and `OutOfMemory`
-/// where memory is wanting.
+/// linked functions. An interface stands behind those whose types it uses, since types are made of earlier ones; no interface is imported
+/// before (WIT, Item: `interface`; Component Model, Explainer, Import and Export Definitions). Answers `NotYet` only where what is asked
+/// for isn't all written, as a resource, a handle, a future, a stream or an error context, or two names are one; `TooLarge` where 32 bits
+/// can't say an index; and `OutOfMemory` where memory is wanting.
 pub fn import_interfaces<'s>(
     alloc: Global,
     root: Root<'s>,
