@@ -44,7 +44,6 @@ part_cause ready f xs i x e lt is h = subst (IsCause (AreUnready ready (map f xs
 pub rest_cause : (ready : ℕ → Type 0) (p : Option Ref) (ps : List (Option Ref)) (e : Fault) → IsCause (AreUnready ready ps) ⊥ e → IsCause (AreUnready ready (p ∷ ps)) ⊥ e
 rest_cause ready p ps = cause_weaker (λ h. let (k, z, low, at, q) = h in (suc k, z, omega (arith, low), at, q)) (λ h. h)
 
-
 -- ---- what isn't ready where more is isn't where less is
 
 module _ (ready less : ℕ → Type 0) (wider : (k : ℕ) → less k → ready k) where
