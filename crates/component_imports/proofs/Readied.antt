@@ -21,13 +21,13 @@ use Rattle.wit_order.proofs.Lists.{has_was}
 use Rattle.wit_reach.proofs.Lists.{has_parts, has_append}
 use Rattle.wit_reach.specs.Ids.{ref_ids, part_ids, kind_ids, signature_ids}
 use Rattle.type_writing.specs.Functions.{function_form}
-use Rattle.type_writing.specs.Writing.{name_of, name_given, names_of_types}
+use Rattle.type_writing.specs.Writing.{Setting, name_of, name_given, names_of_types}
 use Rattle.type_writing.specs.Refusals.{IsUnready as IsPartUnready, AreUnready, IsKindUnready, IsNamedUnready, IsDefUnready, AreTypesUnready}
 use Rattle.type_sinks.specs.declared.root.Root.{Root}
 use Rattle.type_sinks.specs.Inside.{is_of}
 use Rattle.component_imports.specs.Functions.{function_names, AreFunctionsUnready}
-use Rattle.component_imports.specs.Interface.{setting_over, IsUnready}
-use Rattle.component_imports.specs.Ready.{IsWrittenHere, IsReady}
+use Rattle.component_imports.specs.Interface.{setting_over, AreItemsUnready, IsUnready}
+use Rattle.component_imports.specs.Ready.{IsWrittenHere, AreReady, IsReady}
 
 abbrev All : ℕ → Type 0
 All i = Unit {0}
@@ -113,46 +113,47 @@ signature_id ready f h never =
 
 -- ---- types
 
-module _ (r : Root) (types : List TypeDef) (own : ℕ) (ids : List ℕ) (functions : List Function) (ready : IsReady r types own ids functions) where
+module _ (s : Setting) (given : List (List ℕ)) (now : ℕ → Type 0) (types : List TypeDef) (ids : List ℕ) (functions : List Function) (ready : AreReady s given types ids functions) where
   in_list : (before : List ℕ) (i : ℕ) (behind : List ℕ) → ids ≡ before ++ i ∷ behind → Has ids i
   in_list before i behind e = subst (λ l. Has l i) (sym e) (has_append before (i ∷ behind) i (inl refl))
 
-  kind_ready : (before : List ℕ) (i : ℕ) (behind : List ℕ) (d : TypeDef) → ids ≡ before ++ i ∷ behind → slice_get types i ≡ Some d → IsWrittenHere own d → IsKindUnready (λ k. ⊥ ⊎ Has before k) d.kind → ⊥
+  kind_ready : (before : List ℕ) (i : ℕ) (behind : List ℕ) (d : TypeDef) → ids ≡ before ++ i ∷ behind → slice_get types i ≡ Some d → IsWrittenHere s d → IsKindUnready (λ k. now k ⊎ Has before k) d.kind → ⊥
   kind_ready before i behind d are at here h =
-      let one = kind_id (λ k. ⊥ ⊎ Has before k) d.kind h (ready.kinds i d (in_list before i behind are) at here) in
+      let one = kind_id (λ k. now k ⊎ Has before k) d.kind h (ready.kinds i d (in_list before i behind are) at here) in
       one.2 (inr (ready.parts before i behind d one.0 are at here one.1))
 
-  not_again : (before : List (List ℕ)) (x : List ℕ) (behind : List (List ℕ)) → names_of_types (setting_over r own) types ids ++ function_names functions ≡ before ++ x ∷ behind → is_new before x ≡ false → ⊥
+  not_again : (before : List (List ℕ)) (x : List ℕ) (behind : List (List ℕ)) → given ++ (names_of_types s types ids ++ function_names functions) ≡ before ++ x ∷ behind → is_new before x ≡ false → ⊥
   not_again before x behind e h = let k : true ≡ false = sym (ready.distinct before x behind e) ∙ h in absurd cc
 
-  name_there : (before : List ℕ) (i : ℕ) (behind : List ℕ) (d : TypeDef) (x : String Global) → ids ≡ before ++ i ∷ behind → slice_get types i ≡ Some d → d.name ≡ Some x → is_of own d.owner ≡ true
-      → names_of_types (setting_over r own) types ids ++ function_names functions ≡ names_of_types (setting_over r own) types before ++ string_bytes x ∷ (names_of_types (setting_over r own) types behind ++ function_names functions)
+  name_there : (before : List ℕ) (i : ℕ) (behind : List ℕ) (d : TypeDef) (x : String Global) → ids ≡ before ++ i ∷ behind → slice_get types i ≡ Some d → d.name ≡ Some x → s.is_own d.owner ≡ true
+      → given ++ (names_of_types s types ids ++ function_names functions) ≡ (given ++ names_of_types s types before) ++ string_bytes x ∷ (names_of_types s types behind ++ function_names functions)
   name_there before i behind d x are at named owned =
-      let s = setting_over r own in
       let f : ℕ → List (List ℕ) = λ k. name_of s (slice_get types k) in
       let one : f i ≡ string_bytes x ∷ [] = ap (name_of s) at ∙ ap (λ b. name_given b d.name) owned ∙ ap (name_given true) named in
+      let all : names_of_types s types ids ++ function_names functions ≡ flat_map f before ++ string_bytes x ∷ (flat_map f behind ++ function_names functions) =
       ap (λ l. names_of_types s types l ++ function_names functions) are
       ∙ ap (λ l. l ++ function_names functions) (flat_map-append f before (i ∷ behind) ∙ ap (λ l. flat_map f before ++ (l ++ flat_map f behind)) one)
-      ∙ append_assoc (flat_map f before) (string_bytes x ∷ flat_map f behind) (function_names functions)
+      ∙ append_assoc (flat_map f before) (string_bytes x ∷ flat_map f behind) (function_names functions) in
+      ap (λ l. given ++ l) all ∙ sym (append_assoc given (flat_map f before) (string_bytes x ∷ (flat_map f behind ++ function_names functions)))
 
   def_ready : (before : List ℕ) (i : ℕ) (behind : List ℕ) (d : TypeDef) → ids ≡ before ++ i ∷ behind → slice_get types i ≡ Some d → (x : Option (String Global)) → d.name ≡ x
-      → IsDefUnready (setting_over r own) (λ k. ⊥ ⊎ Has before k) ([] ++ names_of_types (setting_over r own) types before) i d x → ⊥
+      → IsDefUnready s (λ k. now k ⊎ Has before k) (given ++ names_of_types s types before) i d x → ⊥
   def_ready before i behind d are at None named h = kind_ready before i behind d are at (inl named) h
-  def_ready before i behind d are at (Some x) named h = elim (cases_Bool (is_of own d.owner)) [
+  def_ready before i behind d are at (Some x) named h = elim (cases_Bool (s.is_own d.owner)) [
     | inl b ↦
-        let k : IsNamedUnready true (setting_over r own).homes (λ k. ⊥ ⊎ Has before k) (names_of_types (setting_over r own) types before) i d.kind (string_bytes x) = subst (λ c. IsNamedUnready c (setting_over r own).homes (λ k. ⊥ ⊎ Has before k) (names_of_types (setting_over r own) types before) i d.kind (string_bytes x)) b h in
+        let k : IsNamedUnready true s.homes (λ k. now k ⊎ Has before k) (given ++ names_of_types s types before) i d.kind (string_bytes x) = subst (λ c. IsNamedUnready c s.homes (λ k. now k ⊎ Has before k) (given ++ names_of_types s types before) i d.kind (string_bytes x)) b h in
         elim k as (λ _. ⊥) [
           | inl u ↦ kind_ready before i behind d are at (inr b) u
-          | inr n ↦ not_again (names_of_types (setting_over r own) types before) (string_bytes x) (names_of_types (setting_over r own) types behind ++ function_names functions) (name_there before i behind d x are at named b) n
+          | inr n ↦ not_again (given ++ names_of_types s types before) (string_bytes x) (names_of_types s types behind ++ function_names functions) (name_there before i behind d x are at named b) n
         ]
     | inr b ↦
-        let k : IsNamedUnready false (setting_over r own).homes (λ k. ⊥ ⊎ Has before k) (names_of_types (setting_over r own) types before) i d.kind (string_bytes x) = subst (λ c. IsNamedUnready c (setting_over r own).homes (λ k. ⊥ ⊎ Has before k) (names_of_types (setting_over r own) types before) i d.kind (string_bytes x)) b h in
+        let k : IsNamedUnready false s.homes (λ k. now k ⊎ Has before k) (given ++ names_of_types s types before) i d.kind (string_bytes x) = subst (λ c. IsNamedUnready c s.homes (λ k. now k ⊎ Has before k) (given ++ names_of_types s types before) i d.kind (string_bytes x)) b h in
         let home = ready.foreign i d x (in_list before i behind are) at named b in
         let both : Some home.0 ≡ None = sym home.1 ∙ k in
         absurd cc
   ]
 
-  types_ready : AreTypesUnready (setting_over r own) (λ _. ⊥) [] types ids → ⊥
+  types_ready : AreTypesUnready s now given types ids → ⊥
   types_ready h = def_ready h.before h.id h.behind h.unready.0 h.are h.unready.1 h.unready.0.name refl h.unready.2
 
   -- ---- functions
@@ -164,25 +165,28 @@ module _ (r : Root) (types : List TypeDef) (own : ℕ) (ids : List ℕ) (functio
       there [] = inl refl
       there (b ∷ bs) = inr (there bs)
 
-  functions_ready : AreFunctionsUnready (λ id. ⊥ ⊎ Has ids id) ([] ++ names_of_types (setting_over r own) types ids) functions → ⊥
+  functions_ready : AreFunctionsUnready (λ id. now id ⊎ Has ids id) (given ++ names_of_types s types ids) functions → ⊥
   functions_ready h =
       let f = h.function in
-      let names = names_of_types (setting_over r own) types ids in
+      let names = given ++ names_of_types s types ids in
       let f_in = function_in h.before f h.behind h.are in
       elim h.unready as (λ _. ⊥) [
-        | inl u ↦ let one = signature_id (λ id. ⊥ ⊎ Has ids id) f u (ready.written f f_in) in one.2 (inr (ready.over f one.0 f_in one.1))
+        | inl u ↦ let one = signature_id (λ id. now id ⊎ Has ids id) f u (ready.written f f_in) in one.2 (inr (ready.over f one.0 f_in one.1))
         | inr n ↦
-            let all : names ++ function_names functions ≡ (names ++ function_names h.before) ++ string_bytes f.name ∷ function_names h.behind =
-            ap (λ l. names ++ function_names l) h.are ∙ ap (λ l. names ++ l) (map-append (λ (g : Function). string_bytes g.name) h.before (f ∷ h.behind))
+            let all : given ++ (names_of_types s types ids ++ function_names functions) ≡ (names ++ function_names h.before) ++ string_bytes f.name ∷ function_names h.behind =
+            sym (append_assoc given (names_of_types s types ids) (function_names functions)) ∙ ap (λ l. names ++ function_names l) h.are ∙ ap (λ l. names ++ l) (map-append (λ (g : Function). string_bytes g.name) h.before (f ∷ h.behind))
             ∙ sym (append_assoc names (function_names h.before) (string_bytes f.name ∷ function_names h.behind)) in
             not_again (names ++ function_names h.before) (string_bytes f.name) (function_names h.behind) all n
       ]
 
-  pub ready_imported : IsUnready r types own ids functions → ⊥
-  ready_imported h = elim h as (λ _. ⊥) [
-    | inl items ↦ elim items as (λ _. ⊥) [ inl a ↦ types_ready a | inr b ↦ functions_ready b ]
-    | inr not ↦ elim not as (λ _. ⊥) [
-      | inl low ↦ (let k = ready.named in absurd (omega (arith, k, low)))
-      | inr n ↦ (let k : true ≡ false = sym ready.new ∙ n in absurd cc)
-    ]
+  pub items_ready : AreItemsUnready s now given types ids functions → ⊥
+  items_ready h = elim h as (λ _. ⊥) [ inl a ↦ types_ready a | inr b ↦ functions_ready b ]
+
+pub ready_imported : (r : Root) (types : List TypeDef) (own : ℕ) (ids : List ℕ) (functions : List Function) → IsReady r types own ids functions → IsUnready r types own ids functions → ⊥
+ready_imported r types own ids functions ready h = elim h as (λ _. ⊥) [
+  | inl items ↦ items_ready (setting_over r own) [] (λ _. ⊥) types ids functions ready.items items
+  | inr not ↦ elim not as (λ _. ⊥) [
+    | inl low ↦ (let k = ready.named in absurd (omega (arith, k, low)))
+    | inr n ↦ (let k : true ≡ false = sym ready.new ∙ n in absurd cc)
   ]
+]

@@ -25,7 +25,7 @@ use Rattle.type_sinks.specs.declared.root.Root.{Root}
 use Rattle.type_sinks.specs.Inside.{is_of}
 use Rattle.type_sinks.specs.Views.{root_names}
 use Rattle.component_imports.specs.Functions.{function_names}
-use Rattle.component_imports.specs.Interface.{interface_name}
+use Rattle.component_imports.specs.Interface.{interface_name, setting_over}
 use Rattle.component_imports.specs.Interfaces.{ids_of, asked, is_needed, name_if, names_from}
 use Rattle.component_imports.specs.Ready.{AreDistinct, IsWrittenHere, IsReady, IsAsked, IsSeenBy, AreWritable}
 use Rattle.component_imports.proofs.Staying.{owned_are}
@@ -101,7 +101,7 @@ module _ (start old : Root) (types : List TypeDef) (others : List ℕ) (linked :
         from.2,
       )
 
-  opens : (i : ℕ) (d : TypeDef) → Has walked i → slice_get types i ≡ Some d → IsWrittenHere own d → is_open (belongs.Interface own) d.owner ≡ true
+  opens : (i : ℕ) (d : TypeDef) → Has walked i → slice_get types i ≡ Some d → IsWrittenHere (setting_over old own) d → is_open (belongs.Interface own) d.owner ≡ true
   opens i d h t here = elim here as (λ _. is_open (belongs.Interface own) d.owner ≡ true) [
     | inl bare ↦ ap (is_open (belongs.Interface own)) (can.bare i d (asked_there i h) t bare)
     | inr owned ↦ open_own d.owner owned
@@ -115,7 +115,7 @@ module _ (start old : Root) (types : List TypeDef) (others : List ℕ) (linked :
   in_front : (front : List ℕ) (i : ℕ) (behind : List ℕ) → walked ≡ front ++ i ∷ behind → Has walked i
   in_front front i behind e = subst (λ l. Has l i) (sym e) (has_append front (i ∷ behind) i (inl refl))
 
-  parts_ready : (front : List ℕ) (i : ℕ) (behind : List ℕ) (d : TypeDef) (k : ℕ) → walked ≡ front ++ i ∷ behind → slice_get types i ≡ Some d → IsWrittenHere own d → Has (kind_ids d.kind) k → Has front k
+  parts_ready : (front : List ℕ) (i : ℕ) (behind : List ℕ) (d : TypeDef) (k : ℕ) → walked ≡ front ++ i ∷ behind → slice_get types i ≡ Some d → IsWrittenHere (setting_over old own) d → Has (kind_ids d.kind) k → Has front k
   parts_ready front i behind d k e t here part =
       let i_in = in_front front i behind e in
       let from = ends.only i i_in in
@@ -147,13 +147,15 @@ module _ (start old : Root) (types : List TypeDef) (others : List ℕ) (linked :
 
   pub ready_now : IsReady old types own walked fs
   ready_now = record {
-    kinds = λ i d h t here. can.kinds i d (asked_there i h) t;
-    parts = parts_ready;
-    foreign = home_ready;
-    written = λ f. can.functions own fs f has;
-    over = over_ready;
-    distinct = subst (λ l. AreDistinct (l ++ function_names fs)) (sym (owned_are old own types walked ∙ same_names (length linked) types others linked needed all own ids fs at has walked ends))
-        (can.distinct own ids fs (λ i h. ((all.needed own ids at i).0 h).0) (all.rising own ids at) has);
+    items = record {
+      kinds = λ i d h t here. can.kinds i d (asked_there i h) t;
+      parts = parts_ready;
+      foreign = home_ready;
+      written = λ f. can.functions own fs f has;
+      over = over_ready;
+      distinct = subst (λ l. AreDistinct (l ++ function_names fs)) (sym (owned_are old own types walked ∙ same_names (length linked) types others linked needed all own ids fs at has walked ends))
+          (can.distinct own ids fs (λ i h. ((all.needed own ids at i).0 h).0) (all.rising own ids at) has);
+    };
     named = (let a = can.named in let b = got_below linked own fs has in let c = ap length before.stays.interfaces in omega (arith, a, b, c));
     new = name_new;
   }

@@ -1,5 +1,6 @@
--- When nothing stands in the way of importing an interface, but sizes and memory.
-use Rattle.std.specs.Prelude.{◌≡◌, ◌<◌, ◌≤◌, ◌⊎◌, bytes_eq, ℕ, List, ◌∷◌, ◌++◌, length, slice_get, None, Some, true, false, String}
+-- When nothing stands in the way of importing interfaces and functions, but sizes and memory (Component Model, Explainer, Import and Export
+-- Definitions).
+use Rattle.std.specs.Prelude.{◌≡◌, ◌<◌, ◌≤◌, ◌⊎◌, bytes_eq, ℕ, List, [], ◌∷◌, ◌++◌, length, slice_get, None, Some, true, false, String}
 use Rattle.std.specs.declared.alloc.Global.{Global}
 use Rattle.distinct_names.specs.Names.{is_new}
 use Rattle.wit_order.specs.Order.{Has}
@@ -12,23 +13,23 @@ use Rattle.wit_reach.specs.Types.{IsMadeOf}
 use Rattle.wit_reach.specs.Made.{IsMadeOfWithin}
 use Rattle.wit_reach.specs.Needed.{BelongsTo}
 use Rattle.type_writing.specs.Functions.{function_form}
-use Rattle.type_writing.specs.Writing.{names_of_types, IsRemembered}
+use Rattle.type_writing.specs.Writing.{Setting, names_of_types, IsRemembered}
 use Rattle.type_writing.specs.Refusals.{AreUnready, IsKindUnready}
 use Rattle.type_sinks.specs.declared.root.Root.{Root}
-use Rattle.type_sinks.specs.Kept.{index_of}
 use Rattle.type_sinks.specs.Inside.{is_of}
-use Rattle.type_sinks.specs.Views.{root_names, interface_names}
+use Rattle.type_sinks.specs.Views.{root_names, root_setting, interface_names}
 use Rattle.component_imports.specs.Functions.{function_names}
 use Rattle.component_imports.specs.Interface.{interface_name, setting_over, IsUnready}
 use Rattle.component_imports.specs.Interfaces.{ids_of, asked, owned_names}
+use Rattle.component_imports.specs.World.{AreWorldItemsUnready}
 
 -- no name stands twice
 abbrev pub AreDistinct : List (List ℕ) → Type 0
 AreDistinct names = (before : List (List ℕ)) (name : List ℕ) (behind : List (List ℕ)) → names ≡ before ++ name ∷ behind → is_new before name ≡ true
 
--- a type that is written here: it has no name, or belongs to the interface
-abbrev pub IsWrittenHere : ℕ → TypeDef → Type 0
-IsWrittenHere own d = (d.name ≡ None) ⊎ (is_of own d.owner ≡ true)
+-- a type that is written where the setting is: it has no name, or is given its name there
+abbrev pub IsWrittenHere : Setting → TypeDef → Type 0
+IsWrittenHere s d = (d.name ≡ None) ⊎ (s.is_own d.owner ≡ true)
 
 -- even where all types are ready it has parts that are never written, or no form
 abbrev pub IsNeverWritten : TypeDef → Type 0
@@ -37,21 +38,29 @@ IsNeverWritten d = IsKindUnready (λ _. Unit {0}) d.kind
 abbrev pub HasUnwrittenParts : Function → Type 0
 HasUnwrittenParts f = AreUnready (λ _. Unit {0}) (function_form f.params.items f.result).parts
 
--- Each type stands behind those that it is made of, and those of other interfaces are there; functions are over these types; no two items have
--- one name, and the interface has one under which nothing is imported
-pub record IsReady (r : Root) (types : List TypeDef) (own : ℕ) (ids : List ℕ) (functions : List Function) : Type 0 where
-  pub kinds : (i : ℕ) (d : TypeDef) → Has ids i → slice_get types i ≡ Some d → IsWrittenHere own d → IsNeverWritten d → ⊥
-  pub parts : (before : List ℕ) (i : ℕ) (behind : List ℕ) (d : TypeDef) (k : ℕ) → ids ≡ before ++ i ∷ behind → slice_get types i ≡ Some d → IsWrittenHere own d → Has (kind_ids d.kind) k → Has before k
-  pub foreign : (i : ℕ) (d : TypeDef) (x : String Global) → Has ids i → slice_get types i ≡ Some d → d.name ≡ Some x → is_of own d.owner ≡ false → IsRemembered (index_of r.homes) i
+-- each type stands behind those that it is made of, and those of other interfaces are there; functions are over these types; no two items have
+-- one name, and none has one of those that are given
+pub record AreReady (s : Setting) (given : List (List ℕ)) (types : List TypeDef) (ids : List ℕ) (functions : List Function) : Type 0 where
+  pub kinds : (i : ℕ) (d : TypeDef) → Has ids i → slice_get types i ≡ Some d → IsWrittenHere s d → IsNeverWritten d → ⊥
+  pub parts : (before : List ℕ) (i : ℕ) (behind : List ℕ) (d : TypeDef) (k : ℕ) → ids ≡ before ++ i ∷ behind → slice_get types i ≡ Some d → IsWrittenHere s d → Has (kind_ids d.kind) k → Has before k
+  pub foreign : (i : ℕ) (d : TypeDef) (x : String Global) → Has ids i → slice_get types i ≡ Some d → d.name ≡ Some x → s.is_own d.owner ≡ false → IsRemembered s.homes i
   pub written : (f : Function) → Has functions f → HasUnwrittenParts f → ⊥
   pub over : (f : Function) (k : ℕ) → Has functions f → Has (signature_ids f) k → Has ids k
-  pub distinct : AreDistinct (names_of_types (setting_over r own) types ids ++ function_names functions)
+  pub distinct : AreDistinct (given ++ (names_of_types s types ids ++ function_names functions))
+
+-- so it is of what an interface's instance exports, and the interface has a name under which nothing is imported
+pub record IsReady (r : Root) (types : List TypeDef) (own : ℕ) (ids : List ℕ) (functions : List Function) : Type 0 where
+  pub items : AreReady (setting_over r own) [] types ids functions
   pub named : own < length (interface_names r)
   pub new : is_new (root_names r) (interface_name r own) ≡ true
 
 -- then the interface is imported, but for sizes and memory
 abbrev pub ReadyIsImported : Type 0
 ReadyIsImported = (r : Root) (types : List TypeDef) (own : ℕ) (ids : List ℕ) (functions : List Function) → IsReady r types own ids functions → IsUnready r types own ids functions → ⊥
+
+-- and functions of a world are
+abbrev pub ReadyFunctionsAreImported : Type 0
+ReadyFunctionsAreImported = (r : Root) (types : List TypeDef) (ids : List ℕ) (functions : List Function) → AreReady (root_setting r) (root_names r) types ids functions → AreWorldItemsUnready r types ids functions → ⊥
 
 -- ---- all interfaces that are needed
 

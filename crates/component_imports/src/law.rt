@@ -1,13 +1,19 @@
 //! Laws of what is imported.
 
 ghost use Rattle.component_imports.specs.Order.{RisingAreApart, UsedStandBefore};
-ghost use Rattle.component_imports.specs.Ready.{ReadyIsImported};
+ghost use Rattle.component_imports.specs.Ready.{ReadyFunctionsAreImported, ReadyIsImported};
 
 /// Where each type stands behind those that it is made of, those of other interfaces are there, functions are over these types, no two
 /// items have one name and the interface has a name under which nothing is imported, `import_interface` never answers `NotYet` (WIT, Item:
 /// `interface`; Component Model, Explainer, Import and Export Definitions).
 pub fn law_ready_is_imported()
     ensures { ReadyIsImported }
+{}
+
+/// Where each type stands behind those that it is made of, those of interfaces are there, functions are over these types, and no two items
+/// have one name, `import_functions` never answers `NotYet` (WIT, Item: `world`; Component Model, Explainer, Import and Export Definitions).
+pub fn law_ready_functions_are_imported()
+    ensures { ReadyFunctionsAreImported }
 {}
 
 /// Where something that is needed of an interface is made of a type of an earlier interface, that is imported too, and before it (WIT, Use;
