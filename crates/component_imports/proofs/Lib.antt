@@ -9,3 +9,4 @@ mod Readied
 mod Turns
 mod Ordered
 mod Apart
+mod Homes

@@ -24,7 +24,6 @@ use Rattle.type_writing.specs.Functions.{function_form}
 use Rattle.type_writing.specs.Writing.{Setting, name_of, name_given, names_of_types}
 use Rattle.type_writing.specs.Refusals.{IsUnready as IsPartUnready, AreUnready, IsKindUnready, IsNamedUnready, IsDefUnready, AreTypesUnready}
 use Rattle.type_sinks.specs.declared.root.Root.{Root}
-use Rattle.type_sinks.specs.Inside.{is_of}
 use Rattle.component_imports.specs.Functions.{function_names, AreFunctionsUnready}
 use Rattle.component_imports.specs.Interface.{setting_over, AreItemsUnready, IsUnready}
 use Rattle.component_imports.specs.Ready.{IsWrittenHere, AreReady, IsReady}

@@ -75,13 +75,17 @@ IsStartOf types linked own s = BelongsTo types s own ⊎ ((fs : List Function) �
 abbrev pub IsSeenBy : List TypeDef → List (List Function) → ℕ → ℕ → Type 0
 IsSeenBy types linked own i = (s : ℕ) × IsStartOf types linked own s × Reaches (IsMadeOfWithin (belongs.Interface own) types) s i
 
+-- the types with names that an interface sees and that aren't its own are of earlier ones
+abbrev pub AreUsedEarlier : List TypeDef → List (List Function) → Type 0
+AreUsedEarlier types linked = (own i : ℕ) (d : TypeDef) (x : String Global) → IsSeenBy types linked own i → slice_get types i ≡ Some d → d.name ≡ Some x → is_of own d.owner ≡ false → (j : ℕ) × (d.owner ≡ belongs.Interface j) × (j < own)
+
 -- What is asked for is all written; types without names belong nowhere; interfaces use types of earlier interfaces; no two types of an
 -- interface or functions have one name, no two interfaces have one, and nothing is imported under these yet
 pub record AreWritable (r : Root) (types : List TypeDef) (others : List ℕ) (linked : List (List Function)) : Type 0 where
   pub kinds : (i : ℕ) (d : TypeDef) → IsAsked types others linked i → slice_get types i ≡ Some d → IsNeverWritten d → ⊥
   pub functions : (own : ℕ) (fs : List Function) (f : Function) → slice_get linked own ≡ Some fs → Has fs f → HasUnwrittenParts f → ⊥
   pub bare : (i : ℕ) (d : TypeDef) → IsAsked types others linked i → slice_get types i ≡ Some d → d.name ≡ None → d.owner ≡ belongs.None
-  pub earlier : (own i : ℕ) (d : TypeDef) (x : String Global) → IsSeenBy types linked own i → slice_get types i ≡ Some d → d.name ≡ Some x → is_of own d.owner ≡ false → (j : ℕ) × (d.owner ≡ belongs.Interface j) × (j < own)
+  pub earlier : AreUsedEarlier types linked
   pub distinct : (own : ℕ) (ids : List ℕ) (fs : List Function) → ((i : ℕ) → Has ids i → BelongsTo types i own) → AreRising ids → slice_get linked own ≡ Some fs → AreDistinct (owned_names own types ids ++ function_names fs)
   pub named : length linked ≤ length (interface_names r)
   pub new : (own : ℕ) → own < length linked → is_new (root_names r) (interface_name r own) ≡ true

@@ -1,5 +1,6 @@
 //! Laws of what is imported.
 
+ghost use Rattle.component_imports.specs.Homes.{HomesAreUsedEarlier, HomesRise};
 ghost use Rattle.component_imports.specs.Order.{RisingAreApart, UsedStandBefore};
 ghost use Rattle.component_imports.specs.Ready.{ReadyFunctionsAreImported, ReadyIsImported};
 
@@ -26,4 +27,16 @@ pub fn law_used_stand_before()
 /// Use).
 pub fn law_rising_are_apart()
     ensures { RisingAreApart }
+{}
+
+/// Where types are at home in their interfaces, given to others by `use` alone, and interfaces use types of earlier ones alone, what a type
+/// of an interface is made of is of that interface or of earlier ones (WIT, Use).
+pub fn law_homes_rise()
+    ensures { HomesRise }
+{}
+
+/// Where besides the functions of each interface are over types at home there, all that an interface takes from others is of earlier ones
+/// (WIT, Use).
+pub fn law_homes_are_used_earlier()
+    ensures { HomesAreUsedEarlier }
 {}
