@@ -10,3 +10,4 @@ mod Turns
 mod Ordered
 mod Apart
 mod Homes
+mod Distinct

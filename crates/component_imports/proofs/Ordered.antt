@@ -1,11 +1,24 @@
 -- Interfaces are imported in rising order.
-use Rattle.std.proofs.Common.{◌≡◌, ◌<◌, ◌+◌, ℕ, zero, suc, List, [], ◌∷◌, ◌++◌, length, Some, true, sym, ap, ◌∙◌, arith, append_assoc}
+use Rattle.std.proofs.Common.{◌≡◌, ◌<◌, ◌+◌, ℕ, zero, suc, List, [], ◌∷◌, ◌++◌, length, Some, true, refl, sym, ap, ◌∙◌, arith, append_assoc}
 use Rattle.std.specs.Prelude.{slice_get}
 use Rattle.wit_types.specs.declared.function.Function.{Function}
 use Rattle.component_imports.specs.Interfaces.{is_needed, name_if, names_from}
 use Rattle.component_imports.specs.Order.{StandsBefore, UsedStandBefore}
 use Rattle.component_imports.proofs.Needing.{got_below, some_needed, from_start, made}
 use Rattle.component_imports.proofs.Turns.{get_some}
+
+-- the name of the first, which is needed, stands in front
+first_name : (f : ℕ → List ℕ) (k low : ℕ) (x js : List ℕ) (y gs : List Function) (rest tail : List (List ℕ)) → x ≡ js → y ≡ gs → k ≡ low → is_needed js gs ≡ true → rest ≡ tail → name_if (is_needed x y) (f k) ++ rest ≡ f low ∷ tail
+first_name f k low x js y gs rest tail same others at is e = (λ i. name_if (is_needed (same i) (others i)) (f (at i)) ++ e i) ∙ ap (λ c. name_if c (f low) ++ tail) is
+
+-- names in front change nothing
+behind_more : (first names : List (List ℕ)) (a b : List ℕ) → StandsBefore names a b → StandsBefore (first ++ names) a b
+behind_more first names a b h = record {
+  front = first ++ h.front;
+  mid = h.mid;
+  back = h.back;
+  are = ap (λ l. first ++ l) h.are ∙ sym (append_assoc first h.front (a ∷ (h.mid ++ b ∷ h.back)));
+}
 
 -- the name of one that is needed is there
 there : (f : ℕ → List ℕ) (k n m : ℕ) (needed : List (List ℕ)) (linked : List (List Function)) (ids : List ℕ) (fs : List Function) → m ≡ k + n → slice_get needed n ≡ Some ids → slice_get linked n ≡ Some fs → is_needed ids fs ≡ true
@@ -16,7 +29,8 @@ there f k zero m (x ∷ needed) (y ∷ linked) ids fs e a b is =
     let same : x ≡ ids = cc in
     let others : y ≡ fs = cc in
     let at : k ≡ m = omega (arith, e) in
-    ([], names_from f (suc k) needed linked, (λ i. name_if (is_needed (same i) (others i)) (f (at i)) ++ names_from f (suc k) needed linked) ∙ ap (λ c. name_if c (f m) ++ names_from f (suc k) needed linked) is)
+    let rest = names_from f (suc k) needed linked in
+    ([], rest, first_name f k m x ids y fs rest rest same others at is refl)
 there f k (suc n) m (x ∷ needed) (y ∷ linked) ids fs e a b is =
     let at : m ≡ suc k + n = omega (arith, e) in
     let more = there f (suc k) n m needed linked ids fs at a b is in
@@ -39,17 +53,11 @@ before f k zero (suc n) low high (x ∷ needed) (y ∷ linked) js ids gs fs d e 
       front = [];
       mid = more.0;
       back = more.1;
-      are = (λ z. name_if (is_needed (same z) (others z)) (f (at z)) ++ names_from f (suc k) needed linked) ∙ ap (λ c. name_if c (f low) ++ names_from f (suc k) needed linked) is ∙ ap (λ l. f low ∷ l) more.2;
+      are = first_name f k low x js y gs (names_from f (suc k) needed linked) (more.0 ++ f high ∷ more.1) same others at is more.2;
     }
 before f k (suc i) (suc n) low high (x ∷ needed) (y ∷ linked) js ids gs fs d e lt a b is c g are =
-    let first = name_if (is_needed x y) (f k) in
-    let h = before f (suc k) i n low high needed linked js ids gs fs (omega (arith, d)) (omega (arith, e)) (omega (arith, lt)) a b is c g are in
-    record {
-      front = first ++ h.front;
-      mid = h.mid;
-      back = h.back;
-      are = ap (λ l. first ++ l) h.are ∙ sym (append_assoc first h.front (f low ∷ (h.mid ++ f high ∷ h.back)));
-    }
+    behind_more (name_if (is_needed x y) (f k)) (names_from f (suc k) needed linked) (f low) (f high)
+    (before f (suc k) i n low high needed linked js ids gs fs (omega (arith, d)) (omega (arith, e)) (omega (arith, lt)) a b is c g are)
 
 pub used_before : UsedStandBefore
 used_before types others linked needed name own j x ids fs all at has is seen b low =

@@ -79,6 +79,10 @@ IsSeenBy types linked own i = (s : ℕ) × IsStartOf types linked own s × Reach
 abbrev pub AreUsedEarlier : List TypeDef → List (List Function) → Type 0
 AreUsedEarlier types linked = (own i : ℕ) (d : TypeDef) (x : String Global) → IsSeenBy types linked own i → slice_get types i ≡ Some d → d.name ≡ Some x → is_of own d.owner ≡ false → (j : ℕ) × (d.owner ≡ belongs.Interface j) × (j < own)
 
+-- no two of the types of an interface and its linked functions have one name
+abbrev pub HaveDistinctItems : List TypeDef → List (List Function) → Type 0
+HaveDistinctItems types linked = (own : ℕ) (ids : List ℕ) (fs : List Function) → ((i : ℕ) → Has ids i → BelongsTo types i own) → AreRising ids → slice_get linked own ≡ Some fs → AreDistinct (owned_names own types ids ++ function_names fs)
+
 -- What is asked for is all written; types without names belong nowhere; interfaces use types of earlier interfaces; no two types of an
 -- interface or functions have one name, no two interfaces have one, and nothing is imported under these yet
 pub record AreWritable (r : Root) (types : List TypeDef) (others : List ℕ) (linked : List (List Function)) : Type 0 where
@@ -86,7 +90,7 @@ pub record AreWritable (r : Root) (types : List TypeDef) (others : List ℕ) (li
   pub functions : (own : ℕ) (fs : List Function) (f : Function) → slice_get linked own ≡ Some fs → Has fs f → HasUnwrittenParts f → ⊥
   pub bare : (i : ℕ) (d : TypeDef) → IsAsked types others linked i → slice_get types i ≡ Some d → d.name ≡ None → d.owner ≡ belongs.None
   pub earlier : AreUsedEarlier types linked
-  pub distinct : (own : ℕ) (ids : List ℕ) (fs : List Function) → ((i : ℕ) → Has ids i → BelongsTo types i own) → AreRising ids → slice_get linked own ≡ Some fs → AreDistinct (owned_names own types ids ++ function_names fs)
+  pub distinct : HaveDistinctItems types linked
   pub named : length linked ≤ length (interface_names r)
   pub new : (own : ℕ) → own < length linked → is_new (root_names r) (interface_name r own) ≡ true
   pub apart : (i j : ℕ) → i < j → j < length linked → bytes_eq (interface_name r j) (interface_name r i) ≡ false

@@ -1,5 +1,6 @@
 //! Laws of what is imported.
 
+ghost use Rattle.component_imports.specs.Distinct.{ApartAreDistinct};
 ghost use Rattle.component_imports.specs.Homes.{HomesAreUsedEarlier, HomesRise};
 ghost use Rattle.component_imports.specs.Order.{RisingAreApart, UsedStandBefore};
 ghost use Rattle.component_imports.specs.Ready.{ReadyFunctionsAreImported, ReadyIsImported};
@@ -39,4 +40,10 @@ pub fn law_homes_rise()
 /// (WIT, Use).
 pub fn law_homes_are_used_earlier()
     ensures { HomesAreUsedEarlier }
+{}
+
+/// Where no two types of an interface have one name, no two of its functions, and no type that of a function, no two items that an instance
+/// of it exports have one (WIT, Item: `interface`).
+pub fn law_apart_are_distinct()
+    ensures { ApartAreDistinct }
 {}
