@@ -14,7 +14,8 @@ use Rattle.wit_reach.specs.Made.{is_open, IsMadeOfWithin}
 use Rattle.wit_reach.specs.Needed.{BelongsTo}
 use Rattle.wit_reach.specs.Deps.{alias_target, interface_of, but_own, owned, at_target, def_dep}
 use Rattle.type_sinks.specs.Inside.{is_of}
-use Rattle.component_imports.specs.Homes.{IsAtHome, IsUse, AreHomesInOrder, AreFunctionsAtHome, HomesRise, HomesAreUsedEarlier}
+use Rattle.wit_homes.specs.Homes.{IsAtHome, IsUse}
+use Rattle.component_imports.specs.Homes.{AreHomesInOrder, AreFunctionsAtHome, HomesRise, HomesAreUsedEarlier}
 use Rattle.component_imports.specs.Order.{InterfacesRise}
 use Rattle.component_imports.specs.Ready.{IsSeenBy, IsStartOf, AreUsedEarlier}
 
