@@ -1,1 +1,1 @@
-mod Homes
+pub mod Homes
