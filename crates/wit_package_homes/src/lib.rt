@@ -3,4 +3,4 @@
 
 mod law;
 
-pub use law::law_filled_types_keep_homes;
+pub use law::{law_filled_types_keep_homes, law_unknown_types_are_at_home};
