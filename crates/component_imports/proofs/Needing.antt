@@ -16,6 +16,7 @@ use Rattle.wit_reach.specs.Made.{IsMadeOfWithin}
 use Rattle.wit_reach.specs.Needed.{AreNeeded, BelongsTo}
 use Rattle.wit_reach.specs.Deps.{interface_of}
 use Rattle.wit_order.proofs.Lists.{has_was}
+use Rattle.wit_reach.proofs.Sorting.{belongs_one}
 use Rattle.wit_reach.proofs.Lists.{has_parts, has_append}
 use Rattle.wit_reach.proofs.Ends.{reaches_then}
 use Rattle.wit_reach.proofs.Seen.{path_over}
@@ -117,11 +118,8 @@ home_there n types others linked needed all own ids fs at has {old} {new} with i
     let walked = reached_needed n types others linked needed all own ids fs at has with.ids with.are id there in
     let given = each_in (HasItsName (setting_over old own) types (λ i. index_of new.homes i ≡ Some (length (root_scope old).instances))) with.ids id with.imported.homes walked in
     let b = ((all.needed own ids at id).0 there).0 in
-    (length (root_scope old).instances, given d x at_type named (owner_own own d.owner (belongs_owner types id own d at_type b)))
+    (length (root_scope old).instances, given d x at_type named (owner_own own d.owner (belongs_one types id own d at_type b)))
   where
-    belongs_owner : (ds : List TypeDef) (i j : ℕ) (e : TypeDef) → slice_get ds i ≡ Some e → BelongsTo ds i j → interface_of e.owner ≡ Some j
-    belongs_owner ds i j e k b = let t = b.1 in let same : b.0 ≡ e = cc in ap (λ (y : TypeDef). interface_of y.owner) (sym same) ∙ b.2
-
     owner_own : (o : ℕ) (w : TypeOwner) → interface_of w ≡ Some o → is_of o w ≡ true
     owner_own o (belongs.World v) k = absurd cc
     owner_own o (belongs.Interface j) k = let e : j ≡ o = cc in eq-eqb j o e

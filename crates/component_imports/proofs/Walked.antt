@@ -9,8 +9,8 @@ use Rattle.wit_order.specs.Order.{Has}
 use Rattle.wit_reach.specs.Paths.{AreEnds, AreRising, AreBackward}
 use Rattle.wit_reach.specs.Types.{AreTypesBackward, AreTypesThere}
 use Rattle.wit_reach.specs.Made.{IsMadeOfWithin}
-use Rattle.wit_reach.proofs.Lists.{has_parts}
 use Rattle.wit_reach.proofs.Ends.{ends_below}
+use Rattle.wit_reach.proofs.Local.{sides_there}
 use Rattle.wit_types.specs.declared.interface.TypeDef.{TypeDef}
 use Rattle.wit_types.specs.declared.interface.TypeOwner.{TypeOwner}
 use Rattle.wit_types.specs.declared.interface.TypeOwner.TheVariants as belongs
@@ -19,9 +19,6 @@ use Rattle.wit_types.specs.declared.interface.TypeOwner.TheVariants as belongs
 
 pub starts_are : (needed more none first all : List ℕ) → none ≡ [] → first ≡ none ++ needed → all ≡ first ++ more → all ≡ needed ++ more
 starts_are needed more none first all e f g = g ∙ ap (λ l. l ++ more) (f ∙ ap (λ l. l ++ needed) e)
-
-pub both_there : (types : List TypeDef) (xs ys all : List ℕ) → all ≡ xs ++ ys → AreTypesThere types xs → AreTypesThere types ys → AreTypesThere types all
-both_there types xs ys all e h k i has = elim (has_parts xs ys i (subst (λ l. Has l i) e has)) as (λ _. i < length types) [ inl a ↦ h i a | inr b ↦ k i b ]
 
 pub walked_from : (uses : ℕ → ℕ → Type 0) (starts same : List ℕ) (r : Result (Vec ℕ Global) AllocError) → starts ≡ same → IfOk r (λ v. AreEnds uses (Has starts) v.items) → IfOk r (λ v. AreEnds uses (Has same) v.items)
 walked_from uses starts same (Ok v) e h = subst (λ l. AreEnds uses (Has l) v.items) e h
@@ -41,7 +38,7 @@ ends_there types by starts order backward there ends = ends_below (IsMadeOfWithi
 pub walked_there : (types : List TypeDef) (own : ℕ) (needed more order : List ℕ) → AreTypesBackward types → AreTypesThere types needed → AreTypesThere types more
     → AreEnds (IsMadeOfWithin (belongs.Interface own) types) (Has (needed ++ more)) order → (i : ℕ) → Has order i → i < length types
 walked_there types own needed more order backward there functions_there ends =
-    ends_there types (belongs.Interface own) (needed ++ more) order backward (both_there types needed more (needed ++ more) refl there functions_there) ends
+    ends_there types (belongs.Interface own) (needed ++ more) order backward (sides_there types needed more (needed ++ more) refl there functions_there) ends
 
 -- ---- what counts of a rising list
 

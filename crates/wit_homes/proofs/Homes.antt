@@ -132,13 +132,13 @@ module _ (a : List TypeDef) (home : ℕ → TypeOwner) (d : TypeDef) (o : TypeOw
 
 -- ---- steps one behind the other
 
-keeps_self : (a : List TypeDef) (home : ℕ → TypeOwner) → AreHomes a home → Keeps a a home home
+pub keeps_self : (a : List TypeDef) (home : ℕ → TypeOwner) → AreHomes a home → Keeps a a home home
 keeps_self a home are = record { more = []; grown = sym (append-nil a); stays = λ i low. refl; homes = are }
 
 grows : (a b : List TypeDef) (home next : ℕ → TypeOwner) → Keeps a b home next → length a ≤ length b
 grows a b home next k = (let e : length b ≡ length a + length k.more = ap length k.grown ∙ length-append a k.more in omega (arith, e))
 
-keeps_both : (a b c : List TypeDef) (home next last : ℕ → TypeOwner) → Keeps a b home next → Keeps b c next last → Keeps a c home last
+pub keeps_both : (a b c : List TypeDef) (home next last : ℕ → TypeOwner) → Keeps a b home next → Keeps b c next last → Keeps a c home last
 keeps_both a b c home next last k m = record {
   more = k.more ++ m.more;
   grown = m.grown ∙ ap (λ l. l ++ m.more) k.grown ∙ append_assoc a k.more m.more;

@@ -1,5 +1,5 @@
 -- Where the types of a scope are at home.
-use Rattle.std.proofs.Common.{◌≡◌, ◌+◌, ℕ, List, [], ◌∷◌, ◌++◌, length, length-append, Option, Some, None, refl, sym, ap, subst, ◌∙◌, arith, append-nil, append_assoc, inl, inr}
+use Rattle.std.proofs.Common.{◌≡◌, ◌+◌, ℕ, List, [], ◌∷◌, ◌++◌, length, length-append, Option, Some, None, refl, sym, ap, subst, ◌∙◌, arith, inl, inr}
 use Rattle.std.specs.Prelude.{slice_get, String, string_bytes, option_map}
 use Rattle.std.specs.declared.alloc.Global.{Global}
 use Rattle.wit_types.specs.declared.kind.TypeDefKind.{TypeDefKind}
@@ -20,7 +20,7 @@ use Rattle.wit_reach.specs.Needed.{BelongsTo}
 use Rattle.wit_reach.specs.Deps.{interface_of}
 use Rattle.wit_homes.specs.Homes.{AreHomes}
 use Rattle.wit_homes.specs.Steps.{AreNamesHere, Keeps, BringsOwn, IsOwnType}
-use Rattle.wit_homes.proofs.Homes.{keep_homes}
+use Rattle.wit_homes.proofs.Homes.{keeps_self, keeps_both, keep_homes}
 use Rattle.wit_package_homes.specs.Filled.{AreOwnedBy, BelongToInterfaces, FilledTypesKeepHomes}
 
 -- ---- what is known
@@ -77,15 +77,6 @@ module _ (by : TypeOwner) (somewhere : by ≡ belongs.None → ⊥) (k : KnownTy
   abbrev Filled : List TypeDef → List TypeDef → (ℕ → TypeOwner) → Entries → Type 0
   Filled a b home table = (next : ℕ → TypeOwner) × Keeps a b home next × AreNamesHere b next by table × AreOwnedBy b by table
 
-  -- a step behind others
-  behind : (a b c : List TypeDef) (home next last : ℕ → TypeOwner) → Keeps a b home next → Keeps b c next last → Keeps a c home last
-  behind a b c home next last one more = record {
-    more = one.more ++ more.more;
-    grown = more.grown ∙ ap (λ l. l ++ more.more) one.grown ∙ append_assoc a one.more more.more;
-    stays = λ i low. (let e : length b ≡ length a + length one.more = ap length one.grown ∙ length-append a one.more in more.stays i (omega (arith, low, e)) ∙ one.stays i low);
-    homes = more.homes;
-  }
-
   one_more : (a b : List TypeDef) (home : ℕ → TypeOwner) (table : Entries) (m : MemberTree) (c : List TypeDef) (i : ℕ) → BelongToInterfaces k a → Filled a b home table → Defines k table by b m c i → Filled a c home (table ++ (m.name.text, i) ∷ [])
   one_more a b home table m c i known (next, keeps, names, owned) def =
       let known_b = subst (BelongToInterfaces k) (sym keeps.grown) (kept k a keeps.more known) in
@@ -95,7 +86,7 @@ module _ (by : TypeOwner) (somewhere : by ≡ belongs.None → ⊥) (k : KnownTy
       subst (λ z. Filled a z home (table ++ (m.name.text, i) ∷ [])) (sym def.last)
       (subst (λ n. Filled a (def.before ++ def.def ∷ []) home (table ++ (m.name.text, n) ∷ [])) (sym def.id_is) (
         last,
-        behind a b (def.before ++ def.def ∷ []) home next last keeps more,
+        keeps_both a b (def.before ++ def.def ∷ []) home next last keeps more,
         (keep_homes by table).named (def.before ++ def.def ∷ []) last m.name.text (length def.before) named (omega (arith, count)) own_home,
         owned_more b def.before def.def table m.name.text more.more more.grown def.is.owner owned,
       ))
@@ -103,7 +94,7 @@ module _ (by : TypeOwner) (somewhere : by ≡ belongs.None → ⊥) (k : KnownTy
   fills : (a b : List TypeDef) (home : ℕ → TypeOwner) (ms : List MemberTree) (table : Entries) → AreHomes a home → BelongToInterfaces k a → Fills k by a ms b table → Filled a b home table
   fills a b home ms table are known fills_none = (
     home,
-    record { more = []; grown = sym (append-nil a); stays = λ i low. refl; homes = are },
+    keeps_self a home are,
     λ x i (p, at). absurd cc,
     λ x i (p, at). absurd cc,
   )

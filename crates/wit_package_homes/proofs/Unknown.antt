@@ -1,8 +1,8 @@
 -- Where types of other packages are at home.
-use Rattle.std.proofs.Common.{◌≡◌, ◌<◌, ℕ, zero, suc, List, [], ◌∷◌, length, Option, Some, None, refl, sym, ap, subst, ◌∙◌, arith}
+use Rattle.std.proofs.Common.{◌≡◌, ℕ, List, Option, Some, None, sym, ap, subst, ◌∙◌, arith, inl, inr}
 use Rattle.std.specs.Prelude.{slice_get, String, string_bytes, option_map}
 use Rattle.std.specs.declared.alloc.Global.{Global}
-use Rattle.std.proofs.lemmas.Option.{slice_get_within}
+use Rattle.std.proofs.lemmas.Option.{slice_get_within, slice_get_cases}
 use Rattle.wit_order.specs.Order.{Has}
 use Rattle.wit_words.specs.declared.source_map.Span.{Span}
 use Rattle.wit_types.specs.declared.kind.TypeDefKind.TheVariants as kinds
@@ -20,11 +20,6 @@ use Rattle.wit_package_homes.specs.Unknown.{HaveHomes, UnknownTypesAreAtHome}
 abbrev owner_at : Option TypeDef → TypeOwner
 owner_at None = belongs.None
 owner_at (Some d) = d.owner
-
-at_place : {X : Type 0} (xs : List X) (i : ℕ) → i < length xs → (x : X) × (slice_get xs i ≡ Some x)
-at_place [] i low = absurd (omega (arith, low))
-at_place (x ∷ xs) zero low = (x, refl)
-at_place (x ∷ xs) (suc i) low = at_place xs i (omega (arith, low))
 
 has_name : (o : Option (String Global)) (x : List ℕ) → option_map string_bytes o ≡ Some x → o ≡ None → ⊥
 has_name None x e none = absurd cc
@@ -46,11 +41,14 @@ module _ (items : Items) (needs : List NeedTree) (a : List TypeDef) (entries : L
   is_bare i d at =
       let so_many = are.so_many_types in
       let within = slice_get_within a i d at in
-      let e = at_place entries i (omega (arith, so_many, within)) in
-      let known = are.each i e.0 e.1 in
-      let there = known.type_at in
-      let same : known.def ≡ d = cc in
-      subst IsBare same (record { text = _; name = known.is.name; kind = known.is.kind; interface = known.interface; owner = known.is.owner })
+      elim (slice_get_cases entries i).1 as (λ _. IsBare d) [
+        | inl (e, low, here, same) ↦
+            let known = are.each i e here in
+            let there = known.type_at in
+            let one : known.def ≡ d = cc in
+            subst IsBare one (record { text = _; name = known.is.name; kind = known.is.kind; interface = known.interface; owner = known.is.owner })
+        | inr (past, none) ↦ absurd (omega (arith, so_many, within, past))
+      ]
 
   no_part : (i k : ℕ) (d : TypeDef) → slice_get a i ≡ Some d → Has (kind_ids d.kind) k → ⊥
   no_part i k d at h = subst (λ z. Has (kind_ids z) k) (is_bare i d at).kind h
