@@ -22,7 +22,8 @@ use Rattle.type_sinks.specs.Kept.{index_of}
 use Rattle.type_sinks.specs.Inside.{exported_name, exported_names}
 use Rattle.type_sinks.specs.Views.{root_scope, root_names, interface_names, RootIsGood, declarator_values, inside_names, inside_setting, InsideIsGood, IsGiven, IsImportCause, IsInstanceWith, IsTypeOf, HasFunction, InstanceHasFunction}
 use Rattle.component_imports.specs.Functions.{function_names, HasFunctionOf}
-use Rattle.component_imports.specs.Interface.{interface_name, setting_over, ImportHasFunction, IsInterfaceImported, IsNotImported, AreItemsUnready}
+use Rattle.type_sinks.specs.Views.{setting_over}
+use Rattle.component_imports.specs.Interface.{interface_name, ImportHasFunction, IsInterfaceImported, IsNotImported, AreItemsUnready}
 use Rattle.component_imports.proofs.Exported.{functions_less}
 
 -- names that are given are given under what follows from it

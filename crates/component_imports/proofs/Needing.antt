@@ -28,7 +28,8 @@ use Rattle.type_sinks.specs.Root.{IsHome}
 use Rattle.type_sinks.specs.Inside.{is_of, TakenAreApart}
 use Rattle.type_sinks.specs.Views.{root_scope, root_names, interface_names, IsInstanceWith, IsTypeOf, InstanceHasFunction}
 use Rattle.component_imports.specs.Functions.{functions_of, function_names}
-use Rattle.component_imports.specs.Interface.{interface_name, setting_over, IsInterfaceImported}
+use Rattle.type_sinks.specs.Views.{setting_over}
+use Rattle.component_imports.specs.Interface.{interface_name, IsInterfaceImported}
 use Rattle.component_imports.specs.Interfaces.{EarlierAreApart, ids_of, linked_of, asked, is_needed, name_if, names_from, owned_name, owned_names, HasInterface, Stays, IsImportedWith, IsImportedIfNeeded, AreImported}
 use Rattle.type_sinks.proofs.Keeping.{each_keeps}
 use Rattle.component_imports.proofs.Imported.{named_more}

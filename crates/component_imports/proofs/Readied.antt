@@ -25,7 +25,8 @@ use Rattle.type_writing.specs.Writing.{Setting, name_of, name_given, names_of_ty
 use Rattle.type_writing.specs.Refusals.{IsUnready as IsPartUnready, AreUnready, IsKindUnready, IsNamedUnready, IsDefUnready, AreTypesUnready}
 use Rattle.type_sinks.specs.declared.root.Root.{Root}
 use Rattle.component_imports.specs.Functions.{function_names, AreFunctionsUnready}
-use Rattle.component_imports.specs.Interface.{setting_over, AreItemsUnready, IsUnready}
+use Rattle.type_sinks.specs.Views.{setting_over}
+use Rattle.component_imports.specs.Interface.{AreItemsUnready, IsUnready}
 use Rattle.component_imports.specs.Ready.{IsWrittenHere, AreReady, IsReady}
 
 abbrev All : ℕ → Type 0

@@ -16,8 +16,10 @@ use Rattle.type_sinks.specs.declared.root.Root.{Root}
 use Rattle.type_sinks.specs.Root.{root_label, IsHome}
 use Rattle.type_sinks.specs.Views.{root_scope, root_names, interface_names, RootIsGood, IsInstanceWith, InstanceHasFunction}
 use Rattle.type_sinks.proofs.Rooted.{home_keeps}
+use Rattle.type_sinks.proofs.Rooted.{instance_there}
 use Rattle.component_imports.specs.Functions.{function_names}
-use Rattle.component_imports.specs.Interface.{interface_name, setting_over, IsInterfaceImported}
+use Rattle.type_sinks.specs.Views.{setting_over}
+use Rattle.component_imports.specs.Interface.{interface_name, IsInterfaceImported}
 use Rattle.wit_reach.specs.Paths.{AreEnds}
 use Rattle.wit_reach.specs.Made.{IsMadeOfWithin}
 use Rattle.wit_types.specs.declared.interface.TypeOwner.TheVariants as belongs
@@ -57,12 +59,8 @@ stays_of old new types interface ids functions h = record {
 
 -- ---- instances
 
-there : (x : Option Item) (s : Site) (is : Items) → or_nothing x ≡ an_instance s is → x ≡ Some (an_instance s is)
-there None s is h = absurd cc
-there (Some x) s is h = ap (λ (i : Item). Some i) h
-
 item_stays : (xs ys : List Item) (k : ℕ) (s : Site) (is : Items) → Begins xs ys → item_at xs k ≡ an_instance s is → item_at ys k ≡ an_instance s is
-item_stays xs ys k s is b h = ap or_nothing (ap (λ l. slice_get l k) b.1 ∙ get_begin xs b.0 k (an_instance s is) (there (slice_get xs k) s is h))
+item_stays xs ys k s is b h = ap or_nothing (ap (λ l. slice_get l k) b.1 ∙ get_begin xs b.0 k (an_instance s is) (instance_there (slice_get xs k) s is h))
 
 instance_stays : (old new : Root) (types : List TypeDef) (k : ℕ) (s : Site) (names : List (List ℕ)) → Stays old new types → IsInstanceWith old k s names → IsInstanceWith new k s names
 instance_stays old new types k s names t h = record {

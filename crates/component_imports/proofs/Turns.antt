@@ -25,7 +25,8 @@ use Rattle.type_sinks.specs.declared.root.Root.{Root}
 use Rattle.type_sinks.specs.Inside.{is_of}
 use Rattle.type_sinks.specs.Views.{root_names}
 use Rattle.component_imports.specs.Functions.{function_names}
-use Rattle.component_imports.specs.Interface.{interface_name, setting_over}
+use Rattle.type_sinks.specs.Views.{setting_over}
+use Rattle.component_imports.specs.Interface.{interface_name}
 use Rattle.component_imports.specs.Interfaces.{ids_of, asked, is_needed, name_if, names_from}
 use Rattle.component_imports.specs.Ready.{AreDistinct, IsWrittenHere, IsReady, IsAsked, IsSeenBy, AreWritable}
 use Rattle.component_imports.proofs.Staying.{owned_are}

@@ -11,23 +11,12 @@ use Rattle.type_writing.specs.Writing.{Setting, Begins, HasItsName, names_of_typ
 use Rattle.type_writing.specs.Refusals.{IsCause, AreTypesUnready}
 use Rattle.type_sinks.specs.declared.root.Root.{Root}
 use Rattle.type_sinks.specs.Kept.{index_of}
-use Rattle.type_sinks.specs.Inside.{is_of, inside_label}
-use Rattle.type_sinks.specs.Views.{root_scope, root_names, interface_names, RootIsGood, IsInstanceWith, IsTypeOf, InstanceHasFunction}
+use Rattle.type_sinks.specs.Views.{setting_over, root_scope, root_names, interface_names, RootIsGood, IsInstanceWith, IsTypeOf, InstanceHasFunction}
 use Rattle.component_imports.specs.Functions.{function_names, AreFunctionsUnready}
 
 -- the name under which it is imported
 abbrev pub interface_name : Root → ℕ → List ℕ
 interface_name r interface = get_or (interface_names r) interface []
-
--- where the types of its instance are written
-abbrev pub setting_over : Root → ℕ → Setting
-setting_over r interface = record {
-  label = inside_label (interface_names r) interface;
-  is_own = is_of interface;
-  homes = index_of r.homes;
-  interface = Some interface;
-  around = record { interfaces = interface_names r; imported = root_names r; functions = (root_scope r).functions; instances = (root_scope r).instances };
-}
 
 -- the instance that is new has a function under its name
 abbrev pub ImportHasFunction : Root → Root → ℕ → List TypeDef → Function → Type 0

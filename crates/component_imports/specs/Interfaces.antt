@@ -22,7 +22,8 @@ use Rattle.type_sinks.specs.Inside.{is_of, IsApart}
 use Rattle.type_sinks.specs.Root.{IsHome}
 use Rattle.type_sinks.specs.Views.{root_scope, root_names, interface_names, RootIsGood, IsInstanceWith, IsTypeOf, InstanceHasFunction}
 use Rattle.component_imports.specs.Functions.{functions_of, function_names}
-use Rattle.component_imports.specs.Interface.{interface_name, setting_over, IsInterfaceImported, IsUnready}
+use Rattle.type_sinks.specs.Views.{setting_over}
+use Rattle.component_imports.specs.Interface.{interface_name, IsInterfaceImported, IsUnready}
 
 -- ---- what is asked for
 

@@ -19,7 +19,8 @@ use Rattle.type_sinks.specs.declared.root.Root.{Root}
 use Rattle.type_sinks.specs.Inside.{is_of}
 use Rattle.type_sinks.specs.Views.{root_names, root_setting, interface_names}
 use Rattle.component_imports.specs.Functions.{function_names}
-use Rattle.component_imports.specs.Interface.{interface_name, setting_over, IsUnready}
+use Rattle.type_sinks.specs.Views.{setting_over}
+use Rattle.component_imports.specs.Interface.{interface_name, IsUnready}
 use Rattle.component_imports.specs.Interfaces.{ids_of, asked, owned_names}
 use Rattle.component_imports.specs.World.{AreWorldItemsUnready}
 

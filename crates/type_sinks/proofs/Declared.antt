@@ -16,7 +16,6 @@ use Rattle.wit_types.specs.declared.kind.«Type».TheVariants.{Id}
 use Rattle.wit_types.specs.declared.function.Param.{Param}
 use Rattle.wit_types.specs.declared.interface.TypeDef.{TypeDef}
 use Rattle.wit_types.specs.declared.interface.TypeOwner.{TypeOwner}
-use Rattle.wit_types.specs.declared.interface.TypeOwner.TheVariants as belongs
 use Rattle.type_meaning.specs.Words.{Label, BinaryTree}
 use Rattle.type_meaning.specs.Tree.{Form, of, function_kind}
 use Rattle.type_meaning.specs.Syntax.{syntax_of}
@@ -29,7 +28,7 @@ use Rattle.type_sinks.specs.Kept.{index_of}
 use Rattle.type_sinks.specs.Root.{root_label}
 use Rattle.type_sinks.specs.Inside.{type_count, exported_name, exported_names, is_of, inside_label, InsideGood}
 use Rattle.type_writing.specs.Functions.{function_form, IsFunctionOf}
-use Rattle.type_sinks.specs.Views.{root_scope, interface_names, root_names, RootIsGood, IsTaken, declarator_values, inside, inside_names, inside_setting, InsideIsGood, IsGiven, IsSameInside, IsDeclared, HasFunction}
+use Rattle.type_sinks.specs.Views.{setting_over, root_scope, interface_names, RootIsGood, IsTaken, declarator_values, inside, inside_names, inside_setting, InsideIsGood, IsGiven, IsSameInside, IsDeclared, HasFunction}
 use Rattle.type_writing.proofs.Standing.{begins_here, begins_same, begins_on, value_inside, next_value, new_item, parts_written}
 use Rattle.type_sinks.proofs.Insides.{inside_count, items_named, named_last, function_named_keeps, inside_push, inside_step, inside_same, inside_over, type_stays, export_stays, outer_stays, export_good, own_name, name_there, written_apart, names_push}
 
@@ -57,17 +56,8 @@ items_after old new d ids a =
 pub label_after : (old new : InterfaceTypes) (d : DeclaratorValue) (ids : List ℕ) → IsDeclared old new d ids → inside_label (interface_names new.root) new.interface ≡ inside_label (interface_names old.root) old.interface
 label_after old new d ids a = ap (λ (r : Root). inside_label (interface_names r) new.interface) a.root ∙ ap (inside_label (interface_names old.root)) a.interface
 
-abbrev setting_with : Root → ℕ → Setting
-setting_with r n = record {
-  label = inside_label (interface_names r) n;
-  is_own = is_of n;
-  homes = index_of r.homes;
-  interface = Some n;
-  around = record { interfaces = interface_names r; imported = root_names r; functions = (root_scope r).functions; instances = (root_scope r).instances };
-}
-
 pub setting_same : (old new : InterfaceTypes) → new.root ≡ old.root → new.interface ≡ old.interface → inside_setting new ≡ inside_setting old
-setting_same old new e f = λ i. setting_with (e i) (f i)
+setting_same old new e f = λ i. setting_over (e i) (f i)
 
 pub setting_after : (old new : InterfaceTypes) (d : DeclaratorValue) (ids : List ℕ) → IsDeclared old new d ids → inside_setting new ≡ inside_setting old
 setting_after old new d ids a = setting_same old new a.root a.interface

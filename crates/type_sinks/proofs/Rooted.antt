@@ -92,7 +92,7 @@ functions_added old new e a = ap (λ (s : Scope). s.functions) (ap meaning a.ent
 pub instances_added : (old new : Root) (e : EntryValue) → IsAdded old new e → (root_scope new).instances ≡ (root_scope old).instances ++ (adds (root_scope old) e).instances
 instances_added old new e a = ap (λ (s : Scope). s.instances) (ap meaning a.entries ∙ meaning_push (entry_values old) e)
 
-instance_there : (x : Option Item) (s : Site) (is : Items) → or_nothing x ≡ an_instance s is → x ≡ Some (an_instance s is)
+pub instance_there : (x : Option Item) (s : Site) (is : Items) → or_nothing x ≡ an_instance s is → x ≡ Some (an_instance s is)
 instance_there None s is h = absurd cc
 instance_there (Some x) s is h = ap (λ (i : Item). Some i) h
 

@@ -136,15 +136,18 @@ inside t = inside_of ((root_scope t.root).types ∷ []) (declarator_values t)
 abbrev pub inside_names : InterfaceTypes → List (List ℕ)
 inside_names t = exported_names (declarator_values t)
 
--- what stays while types are written: those of the interface are given their names here
-abbrev pub inside_setting : InterfaceTypes → Setting
-inside_setting t = record {
-  label = inside_label (interface_names t.root) t.interface;
-  is_own = is_of t.interface;
-  homes = index_of t.root.homes;
-  interface = Some t.interface;
-  around = record { interfaces = interface_names t.root; imported = root_names t.root; functions = (root_scope t.root).functions; instances = (root_scope t.root).instances };
+-- what stays while types of an interface are written over a root: they are given their names here
+abbrev pub setting_over : Root → ℕ → Setting
+setting_over r interface = record {
+  label = inside_label (interface_names r) interface;
+  is_own = is_of interface;
+  homes = index_of r.homes;
+  interface = Some interface;
+  around = record { interfaces = interface_names r; imported = root_names r; functions = (root_scope r).functions; instances = (root_scope r).instances };
 }
+
+abbrev pub inside_setting : InterfaceTypes → Setting
+inside_setting t = setting_over t.root t.interface
 
 -- 32 bits can't say how many types there are with one more, here or around
 abbrev pub IsFullInside : InterfaceTypes → Type 0
