@@ -7,3 +7,4 @@ pub mod Deps
 pub mod Lists
 pub mod Made
 pub mod Needed
+pub mod Holding
