@@ -47,7 +47,7 @@ params_agree variant xs ys rs a = elim (same_or_long 16 xs ys a) [
   | inr l ↦ rw (is_long 16 xs l.0, is_long 16 ys l.1) (long_params variant (not (nat_le (length rs) 1)) xs ys rs)
 ]
 
-results_agree : (variant : AbiVariant) (ps xs ys : List ValType) → Agree cap xs ys → signature_of variant ps xs ≡ signature_of variant ps ys
+pub results_agree : (variant : AbiVariant) (ps xs ys : List ValType) → Agree cap xs ys → signature_of variant ps xs ≡ signature_of variant ps ys
 results_agree variant ps xs ys a = elim (same_or_long 1 xs ys (fewer_agree cap 2 xs ys (omega arith) a)) [
   | inl e ↦ ap (λ (zs : List ValType). signature_of variant ps zs) e
   | inr l ↦ rw (is_long 1 xs l.0, is_long 1 ys l.1) (long_results variant (not (nat_le (length ps) 16)) ps xs ys)

@@ -1,5 +1,5 @@
 -- What core modules import of a world that isn't linked so far (Component Model, Build Targets).
-use Rattle.std.specs.Prelude.{◌≡◌, ℕ, Bool, true, false, List, Some, None, map, is_some, slice_get}
+use Rattle.std.specs.Prelude.{◌≡◌, ℕ, Bool, true, false, List, Some, None, map, is_some, slice_get, string_bytes}
 use Rattle.name_places.specs.FirstPlaces.{place_of}
 use Rattle.plain_worlds.specs.World.{FunctionItem}
 use Rattle.wasm_types.specs.Entries.{ImportValue}
@@ -13,8 +13,8 @@ names_of fs = map (λ (f : FunctionItem). f.name) fs
 
 -- one of the functions of those names, which are the world's own
 abbrev pub is_own : List (List ℕ) → CoreImport → Bool
-is_own names (CoreImport.func None name) = is_some (place_of name names)
-is_own names (CoreImport.func (Some key) name) = false
+is_own names (CoreImport.func None f) = is_some (place_of (string_bytes f.name) names)
+is_own names (CoreImport.func (Some key) f) = false
 is_own names (CoreImport.intrinsic interface resource what) = false
 
 -- in the spelling of the standard or in the older one, a core import stands for something else, or for two things

@@ -3,6 +3,7 @@ use Rattle.std.specs.Prelude.{ℕ, List, [], ◌∷◌, ◌++◌, fold, slice_ge
 use Rattle.component_value_types.specs.declared.values.ValueType.{ValueType}
 use Rattle.component_value_types.specs.declared.values.ValueType.TheVariants as values
 use Rattle.component_value_types.specs.Types.{DefinedTypeValue}
+use Rattle.component_definitions.specs.declared.canonical.CanonicalOption.{CanonicalOption}
 use Rattle.component_definitions.specs.declared.externs.Description.{Description}
 use Rattle.component_definitions.specs.declared.externs.Description.TheVariants as descriptions
 use Rattle.component_definitions.specs.Aliases.{AliasValue, core_instance_export, instance_export, outer}
@@ -11,10 +12,10 @@ use Rattle.type_meaning.specs.Tree.{Kind, own_kind, borrow_kind, function_kind, 
 use Rattle.type_meaning.specs.Words.{Site, itself, imported, Label, Resource, imported_as, its_own, BinaryTree, moved}
 use Rattle.type_meaning.specs.Syntax.{syntax_of, plain, primitive_kind}
 
--- whose a function is: it is the import of a name, or the lift of the core function with that index
+-- whose a function is: it is the import of a name, or the lift of the core function with that index, with these options
 pub data Origin : Type 0 where
   from_import : Label → Origin
-  from_lift : ℕ → Origin
+  from_lift : ℕ → List CanonicalOption → Origin
 
 -- an item of a component's index spaces of types and of instances, or under a name; an instance type has functions and types under names,
 -- and an instance too, which has a site besides
@@ -162,7 +163,7 @@ instance_type around ds = an_instance_type (items_of (inside_of around ds).items
 
 abbrev pub put_origin : (Label → Label) → Origin → Origin
 put_origin f (from_import l) = from_import (f l)
-put_origin f (from_lift n) = from_lift n
+put_origin f (from_lift n os) = from_lift n os
 
 abbrev pub put_item : (Label → Label) → (Resource → BinaryTree) → Item → Item
 put_item f g (a_type t) = a_type (put f g t)

@@ -20,7 +20,7 @@ use Rattle.wit_core_items.specs.declared.export_places.ExportPlace.TheVariants.{
 use Rattle.wit_core_items.proofs.Placing.{adds_put, adds_then, are_append, are_counted}
 
 module _ (k : Known) (w : World) (entry : ℕ) (key : WorldKey) (id : ℕ) (stability : Stability) (span : Span) (d : Interface) (known : slice_get k.interfaces id ≡ Some d) (there : slice_get w.exports.entries entry ≡ Some (key, item.Interface id stability span)) where
-  kind_there : (j : ℕ) (e : String Global × Function) → slice_get d.functions.entries j ≡ Some e → (kind : WasmExportKind) → AreAt (export_at k w) (InterfaceFunction entry j kind ∷ []) (CoreExport.func (Some key) (string_bytes e.1.name) kind ∷ [])
+  kind_there : (j : ℕ) (e : String Global × Function) → slice_get d.functions.entries j ≡ Some e → (kind : WasmExportKind) → AreAt (export_at k w) (InterfaceFunction entry j kind ∷ []) (CoreExport.func (Some key) e.1 kind ∷ [])
   kind_there j e at kind =
       ap (λ (o : Option CoreExport). o ∷ [])
       (ap (λ (o : Option Entry). interface_export k j kind o) there ∙ ap (λ (o : Option Interface). export_of_function (Some key) kind (function_of o j)) known
@@ -28,7 +28,7 @@ module _ (k : Known) (w : World) (entry : ℕ) (key : WorldKey) (id : ℕ) (stab
 
   function_there : (j : ℕ) (e : String Global × Function) → slice_get d.functions.entries j ≡ Some e → AreAt (export_at k w) (function_places entry j) (export_functions k (Some key) e.1)
   function_there j e at =
-      are_append (export_at k w) (InterfaceFunction entry j Normal ∷ []) (InterfaceFunction entry j PostReturn ∷ []) (CoreExport.func (Some key) (string_bytes e.1.name) Normal ∷ []) (CoreExport.func (Some key) (string_bytes e.1.name) PostReturn ∷ [])
+      are_append (export_at k w) (InterfaceFunction entry j Normal ∷ []) (InterfaceFunction entry j PostReturn ∷ []) (CoreExport.func (Some key) e.1 Normal ∷ []) (CoreExport.func (Some key) e.1 PostReturn ∷ [])
       (kind_there j e at Normal) (kind_there j e at PostReturn)
 
   destructors_there : (rs : List ℕ) → AreAt (export_at k w) (map (λ r. Destructor entry r) rs) (map (λ (r : ℕ). CoreExport.destructor key r) rs)

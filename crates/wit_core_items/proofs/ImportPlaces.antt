@@ -25,7 +25,7 @@ module _ (k : Known) (w : World) (entry : ℕ) (key : WorldKey) (id : ℕ) (stab
   abbrev it : WorldItem
   it = item.Interface id stability span
 
-  function_there : slice_get w.imports.entries entry ≡ Some (key, it) → (j : ℕ) (e : String Global × Function) → slice_get d.functions.entries j ≡ Some e → AreAt (import_at k w) (InterfaceFunction entry j ∷ []) (CoreImport.func (Some key) (string_bytes e.1.name) ∷ [])
+  function_there : slice_get w.imports.entries entry ≡ Some (key, it) → (j : ℕ) (e : String Global × Function) → slice_get d.functions.entries j ≡ Some e → AreAt (import_at k w) (InterfaceFunction entry j ∷ []) (CoreImport.func (Some key) e.1 ∷ [])
   function_there there j e at =
       ap (λ (o : Option CoreImport). o ∷ [])
       (ap (λ (o : Option Entry). interface_import k j o) there ∙ ap (λ (o : Option Interface). import_of_function (Some key) (function_of o j)) known
@@ -42,8 +42,8 @@ module _ (k : Known) (w : World) (entry : ℕ) (key : WorldKey) (id : ℕ) (stab
       → Adds (import_at k w) old new (of_import k key it)
   interface_put old mid new found count there size are one two =
       let functions : AreAt (import_at k w) (counted (λ j. InterfaceFunction entry j ∷ []) (length d.functions.entries)) (functions_of k (Some key) d.functions.entries) =
-      subst (AreAt (import_at k w) (counted (λ j. InterfaceFunction entry j ∷ []) (length d.functions.entries))) (flat_map_single (λ (e : String Global × Function). CoreImport.func (Some key) (string_bytes e.1.name)) d.functions.entries)
-      (are_counted (import_at k w) (λ j. InterfaceFunction entry j ∷ []) (λ (e : String Global × Function). CoreImport.func (Some key) (string_bytes e.1.name) ∷ []) d.functions.entries (function_there there)) in
+      subst (AreAt (import_at k w) (counted (λ j. InterfaceFunction entry j ∷ []) (length d.functions.entries))) (flat_map_single (λ (e : String Global × Function). CoreImport.func (Some key) e.1) d.functions.entries)
+      (are_counted (import_at k w) (λ j. InterfaceFunction entry j ∷ []) (λ (e : String Global × Function). CoreImport.func (Some key) e.1 ∷ []) d.functions.entries (function_there there)) in
       subst (λ (o : Option Interface). Adds (import_at k w) old new (of_imported_interface k key o)) (sym known)
       (adds_then (import_at k w) old mid new (functions_of k (Some key) d.functions.entries) (drops_of k (Some key) (resources k d.types.entries))
       (adds_put (import_at k w) old mid _ _ (one ∙ ap (λ n. old ++ counted (λ j. InterfaceFunction entry j ∷ []) n) size) functions)

@@ -2,6 +2,6 @@ mod Lists
 mod Placing
 mod ImportPlaces
 mod ExportPlaces
-mod Growing
-mod Naming
+pub mod Growing
+pub mod Naming
 mod OnSide

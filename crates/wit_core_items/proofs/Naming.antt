@@ -103,13 +103,13 @@ module _ (k : Known) where
   one_module m of_key (Some key) a b (t, is, e) (u, is_u, e_u) = e ∙ ap of_key (one_text k.packages k.interfaces (interface_text_in m) key t u is is_u) ∙ sym e_u
 
   pub import_has_name : ArePackagesKnown k.packages k.interfaces → (x : CoreImport) → IsImportOnSide x → is_import_named k x ≡ true → IsImportNamed k x
-  import_has_name known (CoreImport.func o own) side is = interface_has_text known o is
+  import_has_name known (CoreImport.func o f) side is = interface_has_text known o is
   import_has_name known (CoreImport.intrinsic o r what) side is =
       let (a, b) = and_parts (is_interface_named k.interfaces o) (is_type_named (slice_get k.types r)) is in
       (interface_has_text known o a, side, type_has_name k.types r b)
 
   pub import_has_none : (m : Mangling) (x : CoreImport) → is_import_named k x ≡ false → (a b : List ℕ) → IsImportName m k x a b → ⊥
-  import_has_none m (CoreImport.func o own) isnt a b (of, is) = module_has_none m (interface_module m) o a isnt of
+  import_has_none m (CoreImport.func o f) isnt a b (of, is) = module_has_none m (interface_module m) o a isnt of
   import_has_none m (CoreImport.intrinsic o r what) isnt a b (of, (n, named, is)) =
       elim (and_cases (is_interface_named k.interfaces o) (is_type_named (slice_get k.types r)) isnt) as (λ _. ⊥) [
         | inl no_key ↦ module_has_none m (side_module m what) o a no_key of
@@ -118,7 +118,7 @@ module _ (k : Known) where
 
   -- what is imported has one name in each spelling
   pub one_import_name : (m : Mangling) (x : CoreImport) (a b c d : List ℕ) → IsImportName m k x a b → IsImportName m k x c d → (a ≡ c) × (b ≡ d)
-  one_import_name m (CoreImport.func o own) a b c d (of, is) (of2, is2) = (one_module m (interface_module m) o a c of of2, is ∙ sym is2)
+  one_import_name m (CoreImport.func o f) a b c d (of, is) (of2, is2) = (one_module m (interface_module m) o a c of of2, is ∙ sym is2)
   one_import_name m (CoreImport.intrinsic o r what) a b c d (of, (n, named, is)) (of2, (n2, named2, is2)) =
       (one_module m (side_module m what) o a c of of2, is ∙ ap (intrinsic_name m what) (one_name k.types r n n2 named named2) ∙ sym is2)
 
@@ -148,7 +148,7 @@ module _ (k : Known) where
   one_text_of m (Some key) a b (t, is, e) (u, is_u, e_u) = e ∙ ap (λ (x : List ℕ). Some x) (one_text k.packages k.interfaces (interface_text_in m) key t u is is_u) ∙ sym e_u
 
   pub export_has_name : ArePackagesKnown k.packages k.interfaces → (x : CoreExport) → is_export_named k x ≡ true → IsExportNamed k x
-  export_has_name known (CoreExport.func o own kind) is = interface_has_text known o is
+  export_has_name known (CoreExport.func o f kind) is = interface_has_text known o is
   export_has_name known (CoreExport.destructor key r) is =
       let (a, b) = and_parts (is_key_named k.interfaces key) (is_type_named (slice_get k.types r)) is in
       (key_has_text k.packages k.interfaces known key a, type_has_name k.types r b)
@@ -157,7 +157,7 @@ module _ (k : Known) where
   export_has_name known CoreExport.realloc is = tt
 
   pub export_has_none : (m : Mangling) (x : CoreExport) → is_export_named k x ≡ false → (a : List ℕ) → IsExportName m k x a → ⊥
-  export_has_none m (CoreExport.func o own kind) isnt a (of, (found, is, e), named) = text_has_none m o found isnt is
+  export_has_none m (CoreExport.func o f kind) isnt a (of, (found, is, e), named) = text_has_none m o found isnt is
   export_has_none m (CoreExport.destructor key r) isnt a (t, n, is, named, e) =
       elim (and_cases (is_key_named k.interfaces key) (is_type_named (slice_get k.types r)) isnt) as (λ _. ⊥) [
         | inl no_key ↦ key_has_none k.packages k.interfaces (interface_text_in m) key t no_key is
@@ -169,8 +169,8 @@ module _ (k : Known) where
 
   -- what is exported has one name in each spelling
   pub one_export_name : (m : Mangling) (x : CoreExport) (a b : List ℕ) → IsExportName m k x a → IsExportName m k x b → a ≡ b
-  one_export_name m (CoreExport.func o own kind) a b (of, (found, is, e), named) (of2, (found2, is2, e2), named2) =
-      named ∙ ap (kind_name m kind) (e ∙ ap (λ (x : Option (List ℕ)). core_export_name m x own) (one_text_of m o found found2 is is2) ∙ sym e2) ∙ sym named2
+  one_export_name m (CoreExport.func o f kind) a b (of, (found, is, e), named) (of2, (found2, is2, e2), named2) =
+      named ∙ ap (kind_name m kind) (e ∙ ap (λ (x : Option (List ℕ)). core_export_name m x (string_bytes f.name)) (one_text_of m o found found2 is is2) ∙ sym e2) ∙ sym named2
   one_export_name m (CoreExport.destructor key r) a b (t, n, is, named, e) (t2, n2, is2, named2, e2) =
       e ∙ ap (λ (x : List ℕ). destructor_name m x n) (one_text k.packages k.interfaces (interface_text_in m) key t t2 is is2) ∙ ap (destructor_name m t2) (one_name k.types r n n2 named named2) ∙ sym e2
   one_export_name m CoreExport.memory a b one two = one ∙ sym two

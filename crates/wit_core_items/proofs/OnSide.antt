@@ -34,7 +34,7 @@ module _ (k : Known) where
   imported_on_side key None x h = absurd h
   imported_on_side key (Some d) x h =
       each_append IsImportOnSide (functions_of k (Some key) d.functions.entries) (drops_of k (Some key) (resources k d.types.entries))
-      (has_map (λ (e : String Global × Function). CoreImport.func (Some key) (string_bytes e.1.name)) IsImportOnSide d.functions.entries (λ e i. tt))
+      (has_map (λ (e : String Global × Function). CoreImport.func (Some key) e.1) IsImportOnSide d.functions.entries (λ e i. tt))
       (has_map (λ (r : ℕ). CoreImport.intrinsic (Some key) r ImportedDrop) IsImportOnSide (resources k d.types.entries) (λ r i. tt)) x h
 
   import_on_side : (key : WorldKey) (it : WorldItem) → Each IsImportOnSide (of_import k key it)

@@ -16,7 +16,7 @@ use Rattle.wit_core_items.specs.declared.export_places.ExportPlace.TheVariants a
 -- ---- what stands at a place
 
 abbrev pub export_of_function : Option WorldKey → WasmExportKind → Option Function → Option CoreExport
-export_of_function key kind f = option_map (λ (g : Function). CoreExport.func key (string_bytes g.name) kind) f
+export_of_function key kind f = option_map (λ (g : Function). CoreExport.func key g kind) f
 
 abbrev pub own_export : WasmExportKind → Option Entry → Option CoreExport
 own_export kind None = None

@@ -15,7 +15,7 @@ use Rattle.wit_core_items.specs.declared.import_places.ImportPlace.TheVariants.{
 -- ---- what stands at a place
 
 abbrev pub import_of_function : Option WorldKey → Option Function → Option CoreImport
-import_of_function key f = option_map (λ (g : Function). CoreImport.func key (string_bytes g.name)) f
+import_of_function key f = option_map (λ (g : Function). CoreImport.func key g) f
 
 abbrev pub own_import : Option Entry → Option CoreImport
 own_import None = None

@@ -29,20 +29,20 @@ is_type_named (Some d) = is_some d.name
 
 -- only an interface has exported resources of which modules import something
 abbrev pub IsImportOnSide : CoreImport → Type 0
-IsImportOnSide (CoreImport.func interface own) = Unit {0}
+IsImportOnSide (CoreImport.func interface f) = Unit {0}
 IsImportOnSide (CoreImport.intrinsic interface r what) = IsOnSide what interface
 
 module _ (k : Known) where
   -- ---- imports
 
   abbrev pub is_import_named : CoreImport → Bool
-  is_import_named (CoreImport.func interface own) = is_interface_named k.interfaces interface
+  is_import_named (CoreImport.func interface f) = is_interface_named k.interfaces interface
   is_import_named (CoreImport.intrinsic interface r what) = is_interface_named k.interfaces interface && is_type_named (slice_get k.types r)
 
   -- ---- exports
 
   abbrev pub is_export_named : CoreExport → Bool
-  is_export_named (CoreExport.func interface own kind) = is_interface_named k.interfaces interface
+  is_export_named (CoreExport.func interface f kind) = is_interface_named k.interfaces interface
   is_export_named (CoreExport.destructor interface r) = is_key_named k.interfaces interface && is_type_named (slice_get k.types r)
   is_export_named CoreExport.memory = true
   is_export_named CoreExport.initialize = true

@@ -47,7 +47,7 @@ module _ (k : Known) where
   -- ---- imports
 
   abbrev pub functions_of : Option WorldKey → Functions → List CoreImport
-  functions_of key functions = map (λ (e : String Global × Function). CoreImport.func key (string_bytes e.1.name)) functions
+  functions_of key functions = map (λ (e : String Global × Function). CoreImport.func key e.1) functions
 
   abbrev pub drops_of : Option WorldKey → List ℕ → List CoreImport
   drops_of key ids = map (λ (r : ℕ). CoreImport.intrinsic key r ImportedDrop) ids
@@ -59,7 +59,7 @@ module _ (k : Known) where
 
   abbrev pub of_import : WorldKey → WorldItem → List CoreImport
   of_import key (item.Interface id stability span) = of_imported_interface key (slice_get k.interfaces id)
-  of_import key (item.Function f) = CoreImport.func None (string_bytes f.name) ∷ []
+  of_import key (item.Function f) = CoreImport.func None f ∷ []
   of_import key (item.TypeItem id span) = drops_of None (filter is_resource (id ∷ []))
 
   -- what is done with a resource of an exported interface
@@ -82,7 +82,7 @@ module _ (k : Known) where
 
   -- a function, and the one that is called when its results are read
   abbrev pub export_functions : Option WorldKey → Function → List CoreExport
-  export_functions key f = CoreExport.func key (string_bytes f.name) Normal ∷ CoreExport.func key (string_bytes f.name) PostReturn ∷ []
+  export_functions key f = CoreExport.func key f Normal ∷ CoreExport.func key f PostReturn ∷ []
 
   abbrev pub of_interface_export : WorldKey → Option Interface → List CoreExport
   of_interface_export key None = []

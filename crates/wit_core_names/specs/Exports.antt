@@ -1,5 +1,5 @@
 -- The names by which core modules export (Component Model, Build Targets).
-use Rattle.std.specs.Prelude.{◌≡◌, ℕ, List, ◌++◌, Option, Some, None, codes}
+use Rattle.std.specs.Prelude.{◌≡◌, ℕ, List, ◌++◌, Option, Some, None, codes, string_bytes}
 use Rattle.wit_types.specs.CoreName.{core_export_name}
 use Rattle.wit_types.specs.declared.mangling.Mangling.{Mangling}
 use Rattle.wit_types.specs.declared.mangling.Mangling.TheVariants.{Standard32, Legacy}
@@ -47,7 +47,7 @@ module _ (m : Mangling) (t : Known) where
 
   -- the name by which it is exported
   abbrev pub IsExportName : CoreExport → List ℕ → Type 0
-  IsExportName (func interface own kind) name = (of_function : List ℕ) × IsFunctionName interface own of_function × (name ≡ kind_name m kind of_function)
+  IsExportName (func interface f kind) name = (of_function : List ℕ) × IsFunctionName interface (string_bytes f.name) of_function × (name ≡ kind_name m kind of_function)
   IsExportName (destructor interface resource) name =
       (key r : List ℕ) × IsKeyText (interface_text_in m) t.packages t.interfaces interface (Some key) × IsNameOf t.types resource r × (name ≡ destructor_name m key r)
   IsExportName memory name = name ≡ memory_name m
@@ -56,7 +56,7 @@ module _ (m : Mangling) (t : Known) where
 
 module _ (t : Known) where
   abbrev pub IsExportNamed : CoreExport → Type 0
-  IsExportNamed (func interface own kind) = IsInterfaceNamed t interface
+  IsExportNamed (func interface f kind) = IsInterfaceNamed t interface
   IsExportNamed (destructor interface resource) = IsKeyNamed t.packages t.interfaces interface × HasName t.types resource
   IsExportNamed memory = Unit {0}
   IsExportNamed initialize = Unit {0}

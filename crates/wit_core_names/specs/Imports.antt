@@ -1,5 +1,5 @@
 -- The names by which core modules import (Component Model, Build Targets).
-use Rattle.std.specs.Prelude.{◌≡◌, ℕ, List, ◌++◌, Option, Some, None, codes}
+use Rattle.std.specs.Prelude.{◌≡◌, ℕ, List, ◌++◌, Option, Some, None, codes, string_bytes}
 use Rattle.wit_types.specs.declared.mangling.Mangling.{Mangling}
 use Rattle.wit_types.specs.declared.mangling.Mangling.TheVariants.{Standard32, Legacy}
 use Rattle.wit_types.specs.declared.world_key.WorldKey.{WorldKey}
@@ -58,7 +58,7 @@ module _ (m : Mangling) (t : Known) where
 
   -- the module and the name by which it is imported
   abbrev pub IsImportName : CoreImport → List ℕ → List ℕ → Type 0
-  IsImportName (func interface own) module_text name = IsModuleOf (interface_module m) interface module_text × (name ≡ own)
+  IsImportName (func interface f) module_text name = IsModuleOf (interface_module m) interface module_text × (name ≡ string_bytes f.name)
   IsImportName (intrinsic interface resource what) module_text name =
       IsModuleOf (side_module m what) interface module_text × ((r : List ℕ) × IsNameOf t.types resource r × (name ≡ intrinsic_name m what r))
 
@@ -77,5 +77,5 @@ module _ (t : Known) where
   IsInterfaceNamed (Some key) = IsKeyNamed t.packages t.interfaces key
 
   abbrev pub IsImportNamed : CoreImport → Type 0
-  IsImportNamed (func interface own) = IsInterfaceNamed interface
+  IsImportNamed (func interface f) = IsInterfaceNamed interface
   IsImportNamed (intrinsic interface resource what) = IsInterfaceNamed interface × IsOnSide what interface × HasName t.types resource

@@ -1,6 +1,7 @@
 -- What core modules import and export (Component Model, Build Targets).
-use Rattle.std.specs.Prelude.{ℕ, List, Option, option_map, string_bytes}
+use Rattle.std.specs.Prelude.{ℕ, Option, option_map}
 use Rattle.std.specs.Borrow.{Bor}
+use Rattle.wit_types.specs.declared.function.Function.{Function}
 use Rattle.wit_types.specs.declared.world_key.WorldKey.{WorldKey}
 use Rattle.wit_core_names.specs.declared.items.ResourceIntrinsic.{ResourceIntrinsic}
 use Rattle.wit_core_names.specs.declared.items.WasmImport.{WasmImport}
@@ -9,14 +10,14 @@ use Rattle.wit_core_names.specs.declared.items.WasmExport.{WasmExport}
 use Rattle.wit_core_names.specs.declared.items.WasmExport.TheVariants as lent_export
 use Rattle.wit_core_names.specs.declared.items.WasmExportKind.{WasmExportKind}
 
--- a function by its name, or what is done with a resource by its id: of the interface of that key, or of the world itself
+-- a function, or what is done with a resource by its id: of the interface of that key, or of the world itself
 pub data CoreImport : Type 0 where
-  func : Option WorldKey → List ℕ → CoreImport
+  func : Option WorldKey → Function → CoreImport
   intrinsic : Option WorldKey → ℕ → ResourceIntrinsic → CoreImport
 
--- one of the functions of an exported one, by its name, or the destructor of a resource of an interface; or what a module has once
+-- one of the functions of an exported one, or the destructor of a resource of an interface; or what a module has once
 pub data CoreExport : Type 0 where
-  func : Option WorldKey → List ℕ → WasmExportKind → CoreExport
+  func : Option WorldKey → Function → WasmExportKind → CoreExport
   destructor : WorldKey → ℕ → CoreExport
   memory : CoreExport
   initialize : CoreExport
@@ -28,11 +29,11 @@ abbrev pub key_of : Option (Bor WorldKey) → Option WorldKey
 key_of key = option_map (λ k. k.now) key
 
 abbrev pub import_of : WasmImport → CoreImport
-import_of (lent_import.Func interface f) = CoreImport.func (key_of interface) (string_bytes f.now.name)
+import_of (lent_import.Func interface f) = CoreImport.func (key_of interface) f.now
 import_of (lent_import.ResourceIntrinsic interface resource what) = CoreImport.intrinsic (key_of interface) resource what
 
 abbrev pub export_of : WasmExport → CoreExport
-export_of (lent_export.Func interface f kind) = CoreExport.func (key_of interface) (string_bytes f.now.name) kind
+export_of (lent_export.Func interface f kind) = CoreExport.func (key_of interface) f.now kind
 export_of (lent_export.ResourceDtor interface resource) = CoreExport.destructor interface.now resource
 export_of lent_export.Memory = CoreExport.memory
 export_of lent_export.Initialize = CoreExport.initialize

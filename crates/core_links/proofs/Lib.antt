@@ -1,0 +1,3 @@
+pub mod Paired
+pub mod Meanings
+pub mod Found

@@ -1,0 +1,5 @@
+pub mod Names
+pub mod Pairs
+pub mod Imports
+pub mod Exports
+pub mod View

@@ -1,0 +1,4 @@
+pub mod Parts
+mod Unfolding
+mod Unfolded
+mod Written

@@ -1,0 +1,3 @@
+pub mod Flat
+pub mod Held
+pub mod Law
