@@ -1,13 +1,13 @@
 -- Pairs, seen through the keys of a set.
 use Rattle.std.proofs.Common.{◌≡◌, ℕ, zero, suc, ◌+◌, ◌<◌, ◌≤◌, Bool, true, false, not, cond, ◌&&◌, ◌||◌, ◌⊎◌, List, [], ◌∷◌, ◌++◌, map, take, length, Some, Bor, inl, inr, refl, sym, subst, ap, ◌∙◌, arith}
 use Rattle.std.proofs.lemmas.List.{map-append, take_more}
-use Rattle.std.proofs.lemmas.Bool.Decides.{leb_tells}
 use Rattle.std.proofs.lemmas.Slice.Eq.{bytes_eq-Decides}
 use Rattle.std.proofs.lemmas.Option.{same_Some, slice_get-map, slice_get-get_or, slice_get_within, get_or_from_slice_get}
 use Rattle.std.specs.Prelude.{bytes_eq, slice_get, get_or, option_map}
 use Rattle.std.specs.List.{list_any}
 use Rattle.wasm_types.specs.declared.entries.Import.{Import}
 use Rattle.wasm_types.specs.Entries.{ImportValue, import_value}
+use Rattle.wit_core_items.proofs.Growing.{below_or_at}
 use Rattle.core_links.specs.Imports.{RepeatsPair}
 use Rattle.core_links.specs.Pairs.{Pair, pair, pair_of, same_pair, is_new}
 
@@ -126,14 +126,8 @@ pair_repeats is n i at old =
     mapped_at g (x ∷ xs) zero y at = (x, refl, same_Some (g x) y at)
     mapped_at g (x ∷ xs) (suc k) y at = mapped_at g xs k y at
 
-before_or_last : (n k : ℕ) → k < n + 1 → (k < n) ⊎ (k ≡ n)
-before_or_last n k h = elim (leb_tells (k + 1) n) as (λ _. (k < n) ⊎ (k ≡ n)) [
-  | inl p ↦ inl (let l = p.1 in omega (arith, l))
-  | inr p ↦ inr (let l = p.1 in omega (arith, l, h))
-]
-
 pub new_more : (is : List ImportValue) (n : ℕ) (i : ImportValue) → slice_get is n ≡ Some i → is_new (pairs_before is n) (pair_of i) ≡ true → AreNew is n → AreNew is (n + 1)
-new_more is n i at fresh new k j lt there = elim (before_or_last n k lt) as (λ _. is_new (pairs_before is k) (pair_of j) ≡ true) [
+new_more is n i at fresh new k j lt there = elim (below_or_at k n lt) as (λ _. is_new (pairs_before is k) (pair_of j) ≡ true) [
   | inl less ↦ new k j less there
   | inr e ↦
       let same : i ≡ j = same_Some i j (sym at ∙ ap (slice_get is) (sym e) ∙ there) in

@@ -18,6 +18,7 @@ use Rattle.wit_reach.specs.Ids.{ref_ids, part_ids, kind_ids, function_ids, resou
 use Rattle.wit_reach.specs.Paths.{Reaches}
 use Rattle.wit_reach.specs.Types.{IsMadeOf, AreTypesBackward}
 use Rattle.wit_reach.proofs.Lists.{has_append, has_parts}
+use Rattle.flat_types.proofs.Signing.{any_of_map}
 use Rattle.type_meaning.specs.Tree.{Kind, Parts, of, none, gap, part}
 use Rattle.type_meaning.specs.Tree as trees
 use Rattle.type_meaning.specs.Syntax.{plain, labelled}
@@ -43,10 +44,6 @@ or_left false b h = refl
 or_right : (a b : Bool) → (a || b) ≡ false → b ≡ false
 or_right true b h = absurd cc
 or_right false b h = h
-
-any_map : {X Y : Type 0} (test : Y → Bool) (f : X → Y) (xs : List X) → list_any test (map f xs) ≡ list_any (λ x. test (f x)) xs
-any_map test f [] = refl
-any_map test f (x ∷ xs) = ap (λ (b : Bool). test (f x) || b) (any_map test f xs)
 
 not_empty : (n : ℕ) (b : Bool) → unless_empty n b ≡ None → b ≡ false
 not_empty n b h = by (n == 0) h
@@ -99,16 +96,16 @@ module _ (types : List TypeDef) where
   kind_unfolds : (k : TypeDefKind) → kind_fault k ≡ None → ((j : ℕ) → Has (kind_ids k) j → HasTree j) → (t : WitTree) × KindUnfolds types k t
   kind_unfolds (kind.Record r) ok has =
       of_form (kind.Record r) (record { form = labelled trees.record_kind (map (λ f. string_bytes f.name) r.fields.items); parts = map (λ f. Some f.ty) r.fields.items }) refl
-      (any_map part_is (λ (f : Field). Some f.ty) r.fields.items ∙ not_empty (length r.fields.items) (list_any (λ (f : Field). is_error_context f.ty) r.fields.items) ok) has
+      (any_of_map part_is (λ (f : Field). Some f.ty) r.fields.items ∙ not_empty (length r.fields.items) (list_any (λ (f : Field). is_error_context f.ty) r.fields.items) ok) has
   kind_unfolds kind.Resource ok has = absurd cc
   kind_unfolds (kind.Handle h) ok has = absurd cc
   kind_unfolds (kind.Flags x) ok has = of_form (kind.Flags x) (record { form = labelled trees.flags_kind (map (λ l. string_bytes l.name) x.flags.items); parts = [] }) refl refl has
   kind_unfolds (kind.Tuple t) ok has =
       of_form (kind.Tuple t) (record { form = plain trees.tuple_kind; parts = map (λ r. Some r) t.types.items }) refl
-      (any_map part_is (λ (r : Ref). Some r) t.types.items ∙ not_empty (length t.types.items) (list_any is_error_context t.types.items) ok) has
+      (any_of_map part_is (λ (r : Ref). Some r) t.types.items ∙ not_empty (length t.types.items) (list_any is_error_context t.types.items) ok) has
   kind_unfolds (kind.Variant v) ok has =
       of_form (kind.Variant v) (record { form = labelled trees.variant_kind (map (λ c. string_bytes c.name) v.cases.items); parts = map (λ c. c.ty) v.cases.items }) refl
-      (any_map part_is (λ (c : Case). c.ty) v.cases.items ∙ not_async (list_any (λ (c : Case). part_is c.ty) v.cases.items) ok) has
+      (any_of_map part_is (λ (c : Case). c.ty) v.cases.items ∙ not_async (list_any (λ (c : Case). part_is c.ty) v.cases.items) ok) has
   kind_unfolds (kind.Enum x) ok has = of_form (kind.Enum x) (record { form = labelled trees.enum_kind (map (λ c. string_bytes c.name) x.cases.items); parts = [] }) refl refl has
   kind_unfolds (kind.Option r) ok has = of_form (kind.Option r) (record { form = plain trees.option_kind; parts = Some r ∷ [] }) refl (one_part r (not_async (is_error_context r) ok)) has
   kind_unfolds (kind.Result r) ok has =
@@ -170,7 +167,7 @@ linked_unfold types fs f backward there linked has =
     let own = not_async (list_any (λ (p : Param). is_error_context p.ty) f.params.items || part_is f.result) (is_freestanding (function_kind_fault f.kind) (if_async (list_any (λ (p : Param). is_error_context p.ty) f.params.items || part_is f.result)) (linked.functions f has)) in
     let params = or_left (list_any (λ (p : Param). is_error_context p.ty) f.params.items) (part_is f.result) own in
     let result = or_right (list_any (λ (p : Param). is_error_context p.ty) f.params.items) (part_is f.result) own in
-    let clean : list_any part_is (function_form f.params.items f.result).parts ≡ false = ap (λ (b : Bool). b || list_any part_is (map (λ (p : Param). Some p.ty) f.params.items)) result ∙ any_map part_is (λ (p : Param). Some p.ty) f.params.items ∙ params in
+    let clean : list_any part_is (function_form f.params.items f.result).parts ≡ false = ap (λ (b : Bool). b || list_any part_is (map (λ (p : Param). Some p.ty) f.params.items)) result ∙ any_of_map part_is (λ (p : Param). Some p.ty) f.params.items ∙ params in
     let signature : (j : ℕ) → Has (signature_ids f) j → HasTree types j =
     λ j h. (
     let asked = has_ids fs f j has (has_append (resource_ids f.kind) (signature_ids f) j h) in

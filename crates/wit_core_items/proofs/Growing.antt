@@ -10,7 +10,7 @@ use Rattle.wit_core_tables.specs.declared.table.Meaning.TheVariants.{One, Ambigu
 use Rattle.wit_core_items.specs.World.{IsReadAs}
 use Rattle.wit_core_items.specs.Growing.{Reads, Grows}
 
-below_or_at : (i n : ℕ) → i < n + 1 → (i < n) ⊎ (i ≡ n)
+pub below_or_at : (i n : ℕ) → i < n + 1 → (i < n) ⊎ (i ≡ n)
 below_or_at i n less = elim (cases_lt i n) as (λ _. (i < n) ⊎ (i ≡ n)) [ inl before ↦ inl before | inr past ↦ inr (omega (arith, less, past)) ]
 
 module _ {K : Type 0} (eq : K → K → Bool) where
