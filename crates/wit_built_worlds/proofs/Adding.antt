@@ -25,6 +25,7 @@ use Rattle.wit_worlds.specs.Making.{MakesWorld}
 use Rattle.wit_worlds.proofs.Entries.{made_worlds_stand}
 use Rattle.wit_built_worlds.specs.Adding.{WorldBreaks, by_own, by_labelled, MayAddWorld, AddsWorld}
 use Rattle.wit_built_worlds.proofs.Declared.{own_declared, labelled_declared}
+use Rattle.wit_built_worlds.proofs.Listing.{world_listed}
 
 module _ (c : Context) (k : KnownTypes) (a : List TypeDef) (interfaces : List Interface) (worlds : List World) (ps : PathsTree) (w : WorldScope) (may : MayAddWorld c k a interfaces worlds ps w) where
   pub may_bring_own : MayBring c (in_world w.name.text) (belongs.World (length worlds)) k a (own_members w.members)
@@ -48,6 +49,7 @@ module _ (c : Context) (k : KnownTypes) (a : List TypeDef) (interfaces : List In
       made = made;
       behind = behind;
       is = made_worlds_stand c ps w d table fs ids (length worlds) made may.leads (scope_grown c b d adds.grows (extends_for c b d adds.grows) (in_world w.name.text) (belongs.World (length worlds)) (own_members w.members) table fs own_in.2) adds.ids_are makes;
+      listed = world_listed k a b d (types_of (own_members w.members)) (own_members w.members) table fs interfaces2 adds.listed worlds worlds2 r made behind ps w ids makes;
     }
 
 -- ---- what it breaks

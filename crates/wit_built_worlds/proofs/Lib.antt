@@ -3,6 +3,7 @@ pub mod Declared
 pub mod Making
 pub mod Growing
 pub mod Ready
+pub mod Listing
 pub mod Adding
 pub mod SoFar
 pub mod Viewing

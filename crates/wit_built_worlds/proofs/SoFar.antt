@@ -18,12 +18,15 @@ use Rattle.wit_package_types.specs.Known.{KnownTypes}
 use Rattle.wit_foreign.specs.Items.{Items, worlds_in}
 use Rattle.wit_resolved_scopes.specs.InArena.{Context, own_owner, IsBuilt}
 use Rattle.wit_resolved_scopes.specs.Texts.{InterfaceText, labelled_texts}
+use Rattle.wit_resolved_scopes.proofs.Listing.{none_new}
 use Rattle.wit_resolved_scopes.proofs.Orders.{at_taken}
 use Rattle.wit_interfaces.specs.Interfaces.{AreInterfacesIn}
 use Rattle.wit_interfaces.specs.Labelled.{IsIdOf}
 use Rattle.wit_interfaces.proofs.Behind.{get_middle, given_around}
 use Rattle.wit_interfaces.proofs.Growing.{grows_for_self, grows_for_through, interfaces_grown, no_interfaces}
 use Rattle.wit_interfaces.proofs.Labelling.{interfaces_behind}
+use Rattle.wit_interfaces.specs.Listed.{IsListed}
+use Rattle.wit_interfaces.proofs.Listing.{listed_through}
 use Rattle.wit_worlds.specs.Paths.{LeadRight}
 use Rattle.wit_worlds.specs.Worlds.{IsWorldIn, AreWorldsIn}
 use Rattle.wit_built_worlds.specs.Adding.{WorldBreaks, paths_of, MayAddWorld, AddsWorld, MayAddWorlds, AddsWorlds}
@@ -51,6 +54,7 @@ module _ (k0 : KnownTypes) (a0 : List TypeDef) (old : List Interface) (items : I
       more = [];
       behind = sym (append-nil first);
       are_in = no_worlds c a0 (length first);
+      listed = none_new (IsListed old first) a0;
     };
     kept = λ c may j x less at. absurd (omega (arith, less));
   }
@@ -126,6 +130,7 @@ module _ (k0 : KnownTypes) (a0 : List TypeDef) (old : List Interface) (items : I
               are_in =
                   subst (λ (vs : List WorldScope). AreWorldsIn c b (length first) vs (x.more ++ y.made ∷ [])) (sym (taken ws n w there))
                   (worlds_more c b (length first) (take n ws) x.more w y.made (worlds_grown c a b y.grows (length first) (take n ws) x.more x.are_in) (subst (λ (m : ℕ). IsWorldIn c b w m y.made) place y.is));
+              listed = listed_through interfaces interfaces2 y.labelled y.interfaces_behind worlds worlds2 (y.made ∷ []) y.behind a0 a b x.listed y.listed;
             }
 
         pub next_so_far : SoFar (n + 1) k2 b interfaces2 names2 worlds2

@@ -26,6 +26,7 @@ use Rattle.wit_resolved_scopes.specs.InArena.{Context, own_owner, GrowsFor, IsBu
 use Rattle.wit_resolved_scopes.specs.Texts.{InterfaceText, labelled_texts, own_members, side_members, plain, key_text}
 use Rattle.wit_resolved_scopes.specs.Fit.{Foreign, KnowsInterfaces, AreWorldsReady}
 use Rattle.wit_interfaces.specs.Interfaces.{AreInterfacesIn}
+use Rattle.wit_interfaces.specs.Listed.{NewTypesAreListed}
 use Rattle.wit_interfaces.specs.Adding.{MembersBreak, IsReadyIn}
 use Rattle.wit_interfaces.specs.Labelled.{TextsBreak, IsIdOf}
 use Rattle.wit_worlds.specs.Paths.{PathsTree, AreSorts, LeadRight, HaveOneOwner}
@@ -72,7 +73,7 @@ pub record MayAddWorld (c : Context) (k : KnownTypes) (a : List TypeDef) (interf
   pub labelled : (n : ℕ) (t : InterfaceText) → slice_get (labelled_texts w) n ≡ Some t → IsIdOf c t (length interfaces + n)
   pub leads : LeadRight c ps
 
--- it goes behind the others, and the interfaces that stand in it behind theirs; all stand in the arena as the text has them, and what stood there stays
+-- it goes behind the others, and the interfaces that stand in it behind theirs; all stand in the arena as the text has them with all types that belong to them, and what stood there stays
 pub record AddsWorld (c : Context) (k : KnownTypes) (a : List TypeDef) (interfaces : List Interface) (worlds : List World) (w : WorldScope) (b : List TypeDef) (interfaces2 : List Interface) (worlds2 : List World) : Type 0 where
   pub grows : GrowsFor c a b
   pub built : IsBuilt c k b
@@ -82,6 +83,7 @@ pub record AddsWorld (c : Context) (k : KnownTypes) (a : List TypeDef) (interfac
   pub made : World
   pub behind : worlds2 ≡ worlds ++ made ∷ []
   pub is : IsWorldIn c b w (length worlds) made
+  pub listed : NewTypesAreListed interfaces2 worlds2 a b
 
 -- ---- many
 
@@ -109,7 +111,7 @@ pub record MayAddWorlds (c : Context) (k : KnownTypes) (a : List TypeDef) (inter
   pub foreign_interfaces : (w : Owner) (j : ℕ) → Has items (w, ids.Interface j) → slice_get c.owners.interfaces j ≡ Some w
   pub foreign_worlds : (w : Owner) (j : ℕ) → Has items (w, ids.World j) → slice_get c.owners.worlds j ≡ Some w
 
--- they go behind the others in their order, stand in the arena as the text has them, and what stood there stays
+-- they go behind the others in their order, stand in the arena as the text has them with all types that belong to them, and what stood there stays
 pub record AddsWorlds (c : Context) (k : KnownTypes) (a : List TypeDef) (interfaces : List Interface) (worlds : List World) (ws : List WorldScope) (b : List TypeDef) (interfaces2 : List Interface) (worlds2 : List World) : Type 0 where
   pub grows : GrowsFor c a b
   pub built : IsBuilt c k b
@@ -119,3 +121,4 @@ pub record AddsWorlds (c : Context) (k : KnownTypes) (a : List TypeDef) (interfa
   pub more : List World
   pub behind : worlds2 ≡ worlds ++ more
   pub are_in : AreWorldsIn c b (length worlds) ws more
+  pub listed : NewTypesAreListed interfaces2 worlds2 a b

@@ -1,6 +1,7 @@
 pub mod Bringing
 pub mod Knowing
 pub mod Growing
+pub mod Listing
 pub mod SoFar
 pub mod Pairs
 pub mod Viewing

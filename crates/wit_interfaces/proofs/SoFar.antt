@@ -22,10 +22,13 @@ use Rattle.wit_resolved_scopes.specs.Fit.{Foreign, AreInterfacesReady, KnowsInte
 use Rattle.wit_resolved_scopes.proofs.Declaring.{type_among}
 use Rattle.wit_resolved_scopes.proofs.Fitting.{fit_ready}
 use Rattle.wit_resolved_scopes.proofs.Readying.{type_there}
+use Rattle.wit_resolved_scopes.proofs.Listing.{none_new}
 use Rattle.wit_resolved_scopes.proofs.Placing.{resolved_scopes_are_in, built_more}
 use Rattle.wit_resolved_scopes.specs.Texts.{InterfaceText}
 use Rattle.wit_interfaces.specs.Interfaces.{IsInterfaceIn, AreInterfacesIn}
 use Rattle.wit_interfaces.specs.Adding.{MembersBreak, MayBring, IsReadyIn, AddsInterface, MayAdd, AddsInterfaces}
+use Rattle.wit_interfaces.specs.Listed.{IsListed}
+use Rattle.wit_interfaces.proofs.Listing.{listed_through, interface_listed}
 use Rattle.wit_interfaces.proofs.Growing.{grows_for_self, grows_for_through, standing_in, interfaces_grown, no_interfaces, interfaces_more}
 use Rattle.wit_interfaces.proofs.Knowing.{knows_more}
 
@@ -44,7 +47,7 @@ module _ (k0 : KnownTypes) (a0 : List TypeDef) (old : List Interface) (is : List
     knows = record { names = names; types = λ i has. absurd (has_none i has) };
     foreign = refl;
     count = omega arith;
-    adds = λ c may. record { grows = grows_for_self c k0 a0 may.built; built = may.built; more = []; behind = sym (append-nil old); are_in = no_interfaces c a0 (length old) };
+    adds = λ c may. record { grows = grows_for_self c k0 a0 may.built; built = may.built; more = []; behind = sym (append-nil old); are_in = no_interfaces c a0 (length old); listed = none_new (IsListed old []) a0 };
     kept = λ c may j x less at. absurd (omega (arith, less));
   }
 
@@ -90,6 +93,7 @@ module _ (k0 : KnownTypes) (a0 : List TypeDef) (old : List Interface) (is : List
                 subst (λ (ts : List InterfaceText). AreInterfacesIn c b (length old) ts (adds.more ++ one.made ∷ [])) (sym (ap (map interface_text) (taken is n i there) ∙ map_push interface_text (take n is) i))
                 (interfaces_more c b (length old) (map interface_text (take n is)) adds.more t one.made (interfaces_grown c a b law.0 (length old) (map interface_text (take n is)) adds.more adds.are_in)
                 (subst (λ (m : ℕ). IsInterfaceIn c b t m one.made) at (record { table = one.table; functions = one.makes.functions; is = one.makes.is; scope = law.2 })));
+            listed = listed_through new new2 (one.made ∷ []) one.behind [] [] [] refl a0 a b adds.listed (interface_listed k a b t new new2 [] one.table one.made one.makes one.behind);
           }
 
       pub next_so_far : ((c : Context) → MayBring c (in_interface i.name.text) (belongs.Interface (length new)) k a i.members → IsKept (MembersBreak c (in_interface i.name.text) i.members)) → SoFar (n + 1) k2 b new2

@@ -23,6 +23,7 @@ use Rattle.wit_resolved_scopes.specs.Faults.{ScopeBreaks}
 use Rattle.wit_resolved_scopes.specs.InArena.{Context, own_owner, GrowsFor, IsBuilt}
 use Rattle.wit_resolved_scopes.specs.Texts.{InterfaceText, interface_text}
 use Rattle.wit_interfaces.specs.Interfaces.{IsInterfaceOf, AreInterfacesIn}
+use Rattle.wit_interfaces.specs.Listed.{NewTypesAreListed}
 
 -- ---- one scope
 
@@ -68,10 +69,11 @@ pub record MayAdd (c : Context) (k : KnownTypes) (a : List TypeDef) (first : ℕ
   pub there : (i : InterfaceScope) → Has is i → Has c.scopes (scope.ItemScope.interface i)
   pub owners : (n : ℕ) (i : InterfaceScope) → slice_get is n ≡ Some i → slice_get c.owners.interfaces (first + n) ≡ Some (own_owner c (in_interface i.name.text))
 
--- they go behind the others in their order, stand in the arena as the text has them, and what stood there stays
+-- they go behind the others in their order, stand in the arena as the text has them with all types that belong to them, and what stood there stays
 pub record AddsInterfaces (c : Context) (a : List TypeDef) (old : List Interface) (is : List InterfaceScope) (k2 : KnownTypes) (b : List TypeDef) (new : List Interface) : Type 0 where
   pub grows : GrowsFor c a b
   pub built : IsBuilt c k2 b
   pub more : List Interface
   pub behind : new ≡ old ++ more
   pub are_in : AreInterfacesIn c b (length old) (map interface_text is) more
+  pub listed : NewTypesAreListed new [] a b

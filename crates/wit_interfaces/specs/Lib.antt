@@ -1,5 +1,6 @@
 pub mod Interfaces
 pub mod View
+pub mod Listed
 pub mod Adding
 pub mod Labelled
 pub mod Places

@@ -67,7 +67,7 @@ place_world Interface x y h = absurd cc
 place_world World x y h = (refl, ap place_name h)
 
 -- a need is of that item as a world by test where it is by texts
-world_by_texts : (p : PackageNameTree) (i : Slice) (n : NeedTree) → asks_for_world p i n ≡ true → need_owner n ≡ owner_asked p i World
+pub world_by_texts : (p : PackageNameTree) (i : Slice) (n : NeedTree) → asks_for_world p i n ≡ true → need_owner n ≡ owner_asked p i World
 world_by_texts p i n h =
     let a = and_parts (same_package p n.«package») (same_text i n.item && is_world n.asked) h in
     let b = and_parts (same_text i n.item) (is_world n.asked) a.1 in
@@ -76,7 +76,7 @@ world_by_texts p i n h =
     let q : package_text n.«package» ≡ package_text p = sym (package_is p n.«package» a.0) in
     rw (q, w, t) refl
 
-world_by_test : (p : PackageNameTree) (i : Slice) (n : NeedTree) → need_owner n ≡ owner_asked p i World → asks_for_world p i n ≡ true
+pub world_by_test : (p : PackageNameTree) (i : Slice) (n : NeedTree) → need_owner n ≡ owner_asked p i World → asks_for_world p i n ≡ true
 world_by_test p i n h =
     let q : package_text p ≡ package_text n.«package» = sym (ap (λ (w : Owner). w.package_text) h) in
     let w = place_world n.asked n.item.text i.text (ap (λ (v : Owner). v.place) h) in
@@ -90,7 +90,7 @@ either false = inr refl
 -- ---- as what it is asked for
 
 module _ (p : PackageNameTree) (i : Slice) where
-  as_world : (ns : List NeedTree) (n : NeedTree) → Has ns n → need_owner n ≡ owner_asked p i World → asked_among p i ns ≡ World
+  pub as_world : (ns : List NeedTree) (n : NeedTree) → Has ns n → need_owner n ≡ owner_asked p i World → asked_among p i ns ≡ World
   as_world [] n has is = absurd (has_none n has)
   as_world (m ∷ ns) n has is =
       elim (either (asks_for_world p i m)) as (λ _. asked_among p i (m ∷ ns) ≡ World) [
@@ -101,7 +101,7 @@ module _ (p : PackageNameTree) (i : Slice) where
         ]
       ]
 
-  as_interface : (ns : List NeedTree) → ((n : NeedTree) → Has ns n → need_owner n ≡ owner_asked p i World → ⊥) → asked_among p i ns ≡ Interface
+  pub as_interface : (ns : List NeedTree) → ((n : NeedTree) → Has ns n → need_owner n ≡ owner_asked p i World → ⊥) → asked_among p i ns ≡ Interface
   as_interface [] h = refl
   as_interface (m ∷ ns) h =
       elim (either (asks_for_world p i m)) as (λ _. asked_among p i (m ∷ ns) ≡ Interface) [

@@ -1,5 +1,5 @@
 -- Interfaces and worlds of a package that are brought in behind what it asks of others.
-use Rattle.std.proofs.Common.{◌≡◌, ℕ, ◌+◌, ◌≤◌, List, ◌++◌, length, length-append, Some, None, Option, map, refl, sym, subst, ap, ◌∙◌, append_assoc, arith}
+use Rattle.std.proofs.Common.{◌≡◌, ℕ, ◌+◌, ◌≤◌, List, [], ◌++◌, length, length-append, Some, None, Option, map, refl, sym, subst, ap, ◌∙◌, append_assoc, arith}
 use Rattle.std.proofs.lemmas.Option.{same_Some, slice_get-map}
 use Rattle.std.proofs.lemmas.List.{length-map}
 use Rattle.std.specs.Prelude.{slice_get, flat_map, option_map}
@@ -25,6 +25,7 @@ use Rattle.wit_interfaces.specs.Labelled.{IsIdOf}
 use Rattle.wit_interfaces.proofs.Behind.{get_right}
 use Rattle.wit_interfaces.proofs.Growing.{grows_for_through, interfaces_grown}
 use Rattle.wit_interfaces.proofs.Labelling.{interfaces_behind}
+use Rattle.wit_interfaces.proofs.Listing.{listed_through}
 use Rattle.wit_built_worlds.specs.Adding.{WorldsBreak, AreReadyBehind, MayAddWorlds, AddsWorlds}
 use Rattle.wit_package.specs.Built.{AreReadyTogether, MayBuild, Builds, ItemsBreak, by_interfaces, by_worlds}
 
@@ -86,6 +87,7 @@ module _ (c : Context) (k : KnownTypes) (a : List TypeDef) (interfaces : List In
           more_worlds = more.more;
           worlds_behind = more.behind;
           worlds_are_in = more.are_in;
+          listed = listed_through interfaces2 interfaces3 more.labelled more.interfaces_behind [] worlds2 worlds2 refl a b d adds.listed more.listed;
         }
 
 -- worlds are ready where these interfaces are known

@@ -9,4 +9,4 @@ pub mod Lawful
 pub mod Sorting
 pub mod Reading
 pub mod Stepping
-mod Among
+pub mod Among

@@ -26,6 +26,7 @@ use Rattle.wit_resolved_scopes.specs.InArena.{own_owner, IsBuilt}
 use Rattle.wit_resolved_scopes.specs.Texts.{InterfaceText, AreItemsSorted, interfaces_of, worlds_of, interface_texts}
 use Rattle.wit_interfaces.specs.Interfaces.{AreInterfacesIn}
 use Rattle.wit_interfaces.specs.Labelled.{IsIdOf}
+use Rattle.wit_interfaces.specs.Listed.{NewTypesAreListed}
 use Rattle.wit_interfaces.proofs.Behind.{get_right}
 use Rattle.wit_interfaces.proofs.Growing.{extends_for}
 use Rattle.wit_worlds.specs.Worlds.{AreWorldsIn}
@@ -121,6 +122,9 @@ module _ (files : List FileTree) (me : PackageNameTree) (declared : IsDeclared f
           own_worlds = builds.more_worlds;
           worlds_are = made.worlds_are ∙ builds.worlds_behind;
           own_worlds_are = subst (λ (ds : List TypeDef). AreWorldsIn (context_of me files items sorted) ds (length worlds) (worlds_of sorted) builds.more_worlds) (sym made.types) builds.worlds_are_in;
+          listed =
+              subst (λ (ds : List TypeDef). NewTypesAreListed p.interfaces p.worlds a ds) (sym made.types)
+              (subst (λ (vs : List World). NewTypesAreListed p.interfaces vs a b) (sym made.worlds_are) (subst (λ (js : List Interface). NewTypesAreListed js worlds2 a b) (sym made.interfaces_are) builds.listed));
           foreign_are = start.placeholders;
           deps_are = made.deps_are;
         }

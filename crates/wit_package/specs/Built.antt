@@ -16,6 +16,7 @@ use Rattle.wit_resolved_scopes.specs.InArena.{Context, own_owner, GrowsFor, IsBu
 use Rattle.wit_resolved_scopes.specs.Texts.{InterfaceText, interface_text, labelled_texts}
 use Rattle.wit_resolved_scopes.specs.Fit.{Foreign, AreInterfacesReady, AreWorldsReady}
 use Rattle.wit_interfaces.specs.Interfaces.{AreInterfacesIn}
+use Rattle.wit_interfaces.specs.Listed.{NewTypesAreListed}
 use Rattle.wit_interfaces.specs.Adding.{InterfacesBreak}
 use Rattle.wit_interfaces.specs.Labelled.{IsIdOf}
 use Rattle.wit_worlds.specs.Worlds.{AreWorldsIn}
@@ -43,7 +44,7 @@ pub record MayBuild (c : Context) (k : KnownTypes) (a : List TypeDef) (interface
   pub foreign_interfaces : (w : Owner) (j : ℕ) → Has items (w, ids.Interface j) → slice_get c.owners.interfaces j ≡ Some w
   pub foreign_worlds : (w : Owner) (j : ℕ) → Has items (w, ids.World j) → slice_get c.owners.worlds j ≡ Some w
 
--- they go behind these in their order, stand in the arena as the text has them, and what stood there stays
+-- they go behind these in their order, stand in the arena as the text has them with all types that belong to them, and what stood there stays
 pub record Builds (c : Context) (a : List TypeDef) (interfaces : List Interface) (worlds : List World) (is : List InterfaceScope) (ws : List WorldScope) (b : List TypeDef) (interfaces2 : List Interface) (worlds2 : List World) : Type 0 where
   pub grows : GrowsFor c a b
   pub more : List Interface
@@ -52,6 +53,7 @@ pub record Builds (c : Context) (a : List TypeDef) (interfaces : List Interface)
   pub more_worlds : List World
   pub worlds_behind : worlds2 ≡ worlds ++ more_worlds
   pub worlds_are_in : AreWorldsIn c b (length worlds) ws more_worlds
+  pub listed : NewTypesAreListed interfaces2 worlds2 a b
 
 -- one of the interfaces breaks a rule, or one of the worlds
 pub data ItemsBreak (c : Context) (is : List InterfaceScope) (ws : List WorldScope) (rule : PackageRule) (at : Span) : Type 0 where

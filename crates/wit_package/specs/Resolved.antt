@@ -25,6 +25,7 @@ use Rattle.wit_package.specs.TopUses.{files_need}
 use Rattle.wit_resolved_scopes.specs.InArena.{Context}
 use Rattle.wit_resolved_scopes.specs.Texts.{AreItemsSorted, worlds_of, interface_texts}
 use Rattle.wit_interfaces.specs.Interfaces.{AreInterfacesIn}
+use Rattle.wit_interfaces.specs.Listed.{NewTypesAreListed}
 use Rattle.wit_worlds.specs.Worlds.{AreWorldsIn}
 use Rattle.wit_placeholders.specs.Placeholders.{ArePlaceholders}
 
@@ -97,6 +98,8 @@ pub record IsResolved (files : List FileTree) (p : UnresolvedPackage) : Type 0 w
   pub own_worlds : List World
   pub worlds_are : p.worlds ≡ foreign_worlds ++ own_worlds
   pub own_worlds_are : AreWorldsIn (context_of me files items sorted) p.types (length foreign_worlds) (worlds_of sorted) own_worlds
+  -- each of its own types belongs nowhere, or to one of these, in which it stands
+  pub listed : NewTypesAreListed p.interfaces p.worlds unknown p.types
   -- of interfaces and worlds of other packages nothing is known but their names and where they are first asked for
   pub foreign_are : ArePlaceholders (files_need me files) items foreign_interfaces foreign_worlds
   pub deps_are : AreDeps items (files_need me files) (package_entries p.foreign_deps.entries) p.foreign_dep_spans.items

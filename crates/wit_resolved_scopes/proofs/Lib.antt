@@ -10,3 +10,4 @@ pub mod Meant
 pub mod Declaring
 pub mod Placing
 pub mod Fitting
+pub mod Listing

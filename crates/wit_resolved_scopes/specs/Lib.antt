@@ -5,3 +5,4 @@ pub mod Meaning
 pub mod InArena
 pub mod Texts
 pub mod Fit
+pub mod Listed

@@ -2,6 +2,7 @@
 
 ghost use Rattle.wit_resolved_scopes.specs.Meaning.{ResolvedScopesStandForTheirMeaning};
 ghost use Rattle.wit_resolved_scopes.specs.InArena.{ResolvedScopesAreIn};
+ghost use Rattle.wit_resolved_scopes.specs.Listed.{ResolvedScopesListTheirTypes};
 
 /// The types and functions of a scope that is brought into an arena stand for what they mean in it, whatever is given for the
 /// names of other packages (WIT, Items, Use): types refer only to those before them, and what stood in the arena stays.
@@ -13,4 +14,10 @@ pub fn law_resolved_scopes_stand_for_their_meaning()
 /// its functions, all standing for what they mean, whatever is given for the names of other packages (WIT, Items, Use).
 pub fn law_resolved_scopes_are_in_the_arena()
     ensures { ResolvedScopesAreIn }
+{}
+
+/// Each type that is brought into an arena with a scope belongs to it, and then its table has it, or belongs nowhere (WIT,
+/// Items).
+pub fn law_resolved_scopes_list_their_types()
+    ensures { ResolvedScopesListTheirTypes }
 {}

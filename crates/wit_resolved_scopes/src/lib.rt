@@ -6,5 +6,8 @@ mod functions;
 mod law;
 mod scope;
 
-pub use law::{law_resolved_scopes_are_in_the_arena, law_resolved_scopes_stand_for_their_meaning};
+pub use law::{
+    law_resolved_scopes_are_in_the_arena, law_resolved_scopes_list_their_types,
+    law_resolved_scopes_stand_for_their_meaning,
+};
 pub use scope::{ResolvedScope, resolve_scope};

@@ -9,3 +9,6 @@ mod Order
 mod Offsets
 pub mod Whole
 mod Parsed
+mod Sorts
+mod Numbers
+mod Belonging

@@ -2,6 +2,7 @@
 #![tactic(auto)]
 
 mod law;
+mod listed;
 
 pub use law::{
     law_asked_items_are_there, law_interfaces_are_in_order, law_keys_are_of_items,
@@ -9,3 +10,4 @@ pub use law::{
     law_parsed_packages_are_well_formed, law_resolved_packages_are_well_formed,
     law_spans_are_counted, law_unknown_types_are_there,
 };
+pub use listed::law_types_are_listed;

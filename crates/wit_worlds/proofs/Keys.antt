@@ -25,7 +25,8 @@ use Rattle.wit_worlds.specs.Listing.{MakesFunctionEntry, ArePaired, IsExternMade
 
 -- ---- paths
 
-foreign_text : (a b a2 b2 : Slice) (v v2 : Option Slice) (n n2 : Slice) → a.text ≡ a2.text → b.text ≡ b2.text → option_map (λ (x : Slice). x.text) v ≡ option_map (λ (x : Slice). x.text) v2 → n.text ≡ n2.text
+-- what names one thing in another package is spelled alike
+pub foreign_text : (a b a2 b2 : Slice) (v v2 : Option Slice) (n n2 : Slice) → a.text ≡ a2.text → b.text ≡ b2.text → option_map (λ (x : Slice). x.text) v ≡ option_map (λ (x : Slice). x.text) v2 → n.text ≡ n2.text
     → target_text (foreign (record { namespace = a; name = b; version = v }) n) ≡ target_text (foreign (record { namespace = a2; name = b2; version = v2 }) n2)
 foreign_text a b a2 b2 None None n n2 e f g h = cc
 foreign_text a b a2 b2 (Some v) (Some v2) n n2 e f g h = (let t : v.text ≡ v2.text = same_Some v.text v2.text g in cc)

@@ -1,0 +1,26 @@
+-- The types that are brought in with a scope stand in it (WIT, Items).
+use Rattle.std.specs.Prelude.{◌≡◌, ◌⊎◌, ℕ, List, Some, slice_get}
+use Rattle.wit_types.specs.declared.function.Function.{Function}
+use Rattle.wit_types.specs.declared.interface.TypeDef.{TypeDef}
+use Rattle.wit_types.specs.declared.interface.TypeOwner.{TypeOwner}
+use Rattle.wit_types.specs.declared.interface.TypeOwner.TheVariants as belongs
+use Rattle.wit_scopes.specs.Members.{MemberTree}
+use Rattle.wit_arena.specs.Tree.{Name}
+use Rattle.wit_arena.specs.Table.{Entries}
+use Rattle.wit_arena.specs.Meaning.{Has}
+use Rattle.wit_package_types.specs.Known.{KnownTypes}
+use Rattle.wit_resolved_scopes.specs.Scope.{ResolvesScope}
+
+-- each type of an arena stood there before, or belongs where a new one at its place may
+abbrev pub NewTypesBelong : (ℕ → TypeOwner → Type 0) → List TypeDef → List TypeDef → Type 0
+NewTypesBelong May a b = (i : ℕ) (d : TypeDef) → slice_get b i ≡ Some d → (slice_get a i ≡ Some d) ⊎ May i d.owner
+
+-- a type of a scope with this table belongs nowhere, or to the scope, and then the table has it
+abbrev pub IsListedIn : TypeOwner → Entries → ℕ → TypeOwner → Type 0
+IsListedIn whose table i o = (o ≡ belongs.None) ⊎ ((x : Name) × Has table (x, i) × (o ≡ whose))
+
+-- so does each that is brought in with the scope
+abbrev pub ResolvedScopesListTheirTypes : Type 0
+ResolvedScopesListTheirTypes =
+    (k : KnownTypes) (whose : TypeOwner) (a b : List TypeDef) (types ms : List MemberTree) (table : Entries) (fs : List Function)
+    → ResolvesScope k whose a types ms b table fs → NewTypesBelong (IsListedIn whose table) a b

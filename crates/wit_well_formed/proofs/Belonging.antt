@@ -1,0 +1,75 @@
+-- Each type that belongs to an interface of a package stands in it.
+use Rattle.std.proofs.Common.{◌≡◌, inl, inr, ℕ, ◌+◌, ◌<◌, ◌≤◌, List, Some, drop, length, sym, subst, ap, ◌∙◌, arith}
+use Rattle.std.proofs.lemmas.Option.{same_Some, slice_get_within}
+use Rattle.std.specs.Prelude.{slice_get, String}
+use Rattle.std.specs.declared.alloc.Global.{Global}
+use Rattle.wit_order.specs.Order as order
+use Rattle.wit_types.specs.declared.interface.Interface.{Interface}
+use Rattle.wit_types.specs.declared.interface.TypeDef.{TypeDef}
+use Rattle.wit_types.specs.declared.interface.TypeOwner.{TypeOwner}
+use Rattle.wit_types.specs.declared.interface.TypeOwner.TheVariants as belongs
+use Rattle.wit_types.specs.declared.«package».UnresolvedPackage.{UnresolvedPackage}
+use Rattle.wit_syntax.specs.Ast.{FileTree}
+use Rattle.wit_scopes.specs.Paths.{file_uses}
+use Rattle.wit_scopes.specs.Scopes.{package_scopes}
+use Rattle.wit_rules.specs.Breaks.{IsKept}
+use Rattle.wit_lookups.specs.Lookups.{LookupsBreak}
+use Rattle.wit_arena.proofs.Lists.{has_map}
+use Rattle.wit_foreign.specs.Items.{interfaces_in}
+use Rattle.wit_foreign.proofs.Numbers.{interface_below}
+use Rattle.wit_resolved_scopes.proofs.Orders.{listed}
+use Rattle.wit_interfaces.specs.Listed.{IsListed}
+use Rattle.wit_reach.specs.Deps.{interface_of}
+use Rattle.wit_reach.specs.Holding.{listed_types}
+use Rattle.wit_package.specs.TopUses.{files_need}
+use Rattle.wit_package.specs.Faults.{by_lookups}
+use Rattle.wit_package.specs.Resolved.{IsResolved}
+use Rattle.wit_package.specs.Steps.{Resolves}
+use Rattle.wit_graph_parts.specs.Own.{asked}
+use Rattle.wit_well_formed.specs.Listed.{TypesAreListed}
+use Rattle.wit_well_formed.proofs.Lists.{got, get_drop}
+use Rattle.wit_well_formed.proofs.Sorts.{one_owner}
+use Rattle.wit_well_formed.proofs.Numbers.{interfaces_counted}
+
+owner_is : (o : TypeOwner) (j : ℕ) → interface_of o ≡ Some j → o ≡ belongs.Interface j
+owner_is belongs.None j e = absurd cc
+owner_is (belongs.World w) j e = absurd cc
+owner_is (belongs.Interface k) j e = ap belongs.Interface (same_Some k j e)
+
+module _ (files : List FileTree) (p : UnresolvedPackage) (r : Resolves files p) where
+  abbrev s : IsResolved files p
+  s = r.resolved
+
+  looked_up : IsKept (LookupsBreak s.me (file_uses files) (package_scopes s.me files))
+  looked_up rule at b = r.kept rule at (by_lookups s.me s.named b)
+
+  -- all interfaces that are asked for are counted
+  counted : interfaces_in s.items ≤ (asked p).interfaces
+  counted = interfaces_counted (files_need s.me files) s.items s.items_are (one_owner s.me (file_uses files) (package_scopes s.me files) looked_up) p.foreign_deps.entries p.foreign_dep_spans.items s.deps_are
+
+  -- types of other packages belong to these
+  other : (i j : ℕ) (d : TypeDef) → slice_get s.unknown i ≡ Some d → d.owner ≡ belongs.Interface j → j < interfaces_in s.items
+  other i j d at of =
+      let within : i < length s.unknown = slice_get_within s.unknown i d at in
+      let so_many = s.unknown_are.so_many_types in
+      let e = got s.names i (omega (arith, within, so_many)) in
+      let known = s.unknown_are.each i e.0 e.1 in
+      let one : known.def ≡ d = same_Some known.def d (sym known.type_at ∙ at) in
+      let same : belongs.Interface known.interface ≡ belongs.Interface j = sym known.is.owner ∙ ap (λ (z : TypeDef). z.owner) one ∙ of in
+      let number : known.interface ≡ j = cc in
+      let below = interface_below (files_need s.me files) s.items s.items_are e.0.0.0 known.interface known.item in
+      omega (arith, below, number)
+
+  stands : (i j : ℕ) (d : Interface) → slice_get p.interfaces j ≡ Some d → IsListed p.interfaces p.worlds i (belongs.Interface j) → order.Has (listed_types d) i
+  stands i j d at (f, at_f, (x, has)) =
+      let one : f ≡ d = same_Some f d (sym at_f ∙ at) in
+      subst (λ (z : Interface). order.Has (listed_types z) i) one (listed (listed_types f) i (has_map (λ (e : String Global × ℕ). e.1) f.types.entries (x, i) has))
+
+  own : (i k : ℕ) (d : Interface) (t : TypeDef) → slice_get (drop (asked p).interfaces p.interfaces) k ≡ Some d → slice_get p.types i ≡ Some t → t.owner ≡ belongs.Interface ((asked p).interfaces + k) → order.Has (listed_types d) i
+  own i k d t at at_t of = elim (s.listed i t at_t) as (λ _. order.Has (listed_types d) i) [
+    | inl unknown ↦ absurd (let below = other i ((asked p).interfaces + k) t unknown of in omega (arith, below, counted))
+    | inr is ↦ stands i ((asked p).interfaces + k) d (get_drop (asked p).interfaces p.interfaces k d at) (subst (IsListed p.interfaces p.worlds i) of is)
+  ]
+
+pub types_are_listed : TypesAreListed
+types_are_listed files p r i k d at (t, at_t, of) = own files p r i k d t at at_t (owner_is t.owner ((asked p).interfaces + k) of)
