@@ -26,7 +26,8 @@ use Rattle.wit_reach.proofs.Ends.{reaches_more}
 use Rattle.type_meaning.specs.Tree.{Parts}
 use Rattle.type_writing.specs.Unfolding.{OwnName, WitTree, FormOf, form_of, under_name, Unfolds, unfolds_primitive, unfolds_type, KindUnfolds, unfolds_form, unfolds_alias, PartsUnfold, no_parts, gap_unfolds, part_unfolds}
 use Rattle.type_sinks.specs.Inside.{is_of, IsApart, AreApart}
-use Rattle.component_imports.specs.Order.{InterfacesRise, RisingAreApart}
+use Rattle.wit_reach.specs.Holding.{IsUpTo, TypesUseEarlier}
+use Rattle.component_imports.specs.Order.{EarlierTypesAreApart}
 
 abbrev ids_in : Option FormOf → List ℕ
 ids_in None = []
@@ -51,7 +52,7 @@ same_parts (kinds.Alias r) f e = absurd cc
 same_parts kinds.Unknown f e = absurd cc
 
 -- what a type is made of is reached from it
-module _ (types : List TypeDef) (own i a : ℕ) (rise : InterfacesRise types) (of : BelongsTo types i a) (low : a < own) where
+module _ (types : List TypeDef) (own i a : ℕ) (earlier : TypesUseEarlier types) (of : BelongsTo types i a) (low : a < own) where
   owner_apart : (k : ℕ) (d : TypeDef) → Reaches (IsMadeOf types) i k → slice_get types k ≡ Some d → is_of own d.owner ≡ false
   owner_apart k d r at = by d.owner refl
     where
@@ -60,7 +61,7 @@ module _ (types : List TypeDef) (own i a : ℕ) (rise : InterfacesRise types) (o
       by belongs.None e = refl
       by (belongs.Interface b) e = elim (cases_Bool (nat_eq b own)) [
         | inl same ↦
-            let below : b ≤ a = rise i k a b r of (d, at, ap interface_of e) in
+            let below : b ≤ a = subst (IsUpTo a) e (earlier i a of k d r at) in
             let is : b ≡ own = eqb-true b own same in
             absurd (omega (arith, below, is, low))
         | inr differ ↦ differ
@@ -89,6 +90,6 @@ module _ (types : List TypeDef) (own i a : ℕ) (rise : InterfacesRise types) (o
       parts_apart qs us (λ j has. reach j (has_append (ref_ids r) (flat_map part_ids qs) j has)) hs,
     )
 
-pub rising_apart : RisingAreApart
-rising_apart types rise own id j d x t at owner low named unfolds =
-    ref_apart types own id j rise (d, at, ap interface_of owner) low (Id id) t (λ k h. elim h as (λ _. Reaches (IsMadeOf types) id k) [ inl e ↦ subst (Reaches (IsMadeOf types) id) (sym e) ([], refl) | inr none ↦ absurd none ]) unfolds
+pub earlier_apart : EarlierTypesAreApart
+earlier_apart types earlier own id j d x t at owner low named unfolds =
+    ref_apart types own id j earlier (d, at, ap interface_of owner) low (Id id) t (λ k h. elim h as (λ _. Reaches (IsMadeOf types) id k) [ inl e ↦ subst (Reaches (IsMadeOf types) id) (sym e) ([], refl) | inr none ↦ absurd none ]) unfolds

@@ -9,5 +9,5 @@ mod Readied
 mod Turns
 mod Ordered
 mod Apart
-mod Homes
+mod Earlier
 mod Distinct

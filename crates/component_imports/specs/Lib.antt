@@ -4,5 +4,4 @@ pub mod Interfaces
 pub mod World
 pub mod Ready
 pub mod Order
-pub mod Homes
 pub mod Distinct

@@ -1,8 +1,7 @@
 //! Laws of what is imported.
 
 ghost use Rattle.component_imports.specs.Distinct.{ApartAreDistinct};
-ghost use Rattle.component_imports.specs.Homes.{HomesAreUsedEarlier, HomesRise};
-ghost use Rattle.component_imports.specs.Order.{RisingAreApart, UsedStandBefore};
+ghost use Rattle.component_imports.specs.Order.{EarlierTypesAreApart, EarlierTypesAreUsed, UsedStandBefore};
 ghost use Rattle.component_imports.specs.Ready.{ReadyFunctionsAreImported, ReadyIsImported};
 
 /// Where each type stands behind those that it is made of, those of other interfaces are there, functions are over these types, no two
@@ -26,20 +25,14 @@ pub fn law_used_stand_before()
 
 /// Where types of interfaces are made of those of the same or of earlier interfaces, a type of an interface doesn't speak of later ones (WIT,
 /// Use).
-pub fn law_rising_are_apart()
-    ensures { RisingAreApart }
+pub fn law_earlier_types_are_apart()
+    ensures { EarlierTypesAreApart }
 {}
 
-/// Where types are at home in their interfaces, given to others by `use` alone, and interfaces use types of earlier ones alone, what a type
-/// of an interface is made of is of that interface or of earlier ones (WIT, Use).
-pub fn law_homes_rise()
-    ensures { HomesRise }
-{}
-
-/// Where besides the functions of each interface are over types at home there, all that an interface takes from others is of earlier ones
-/// (WIT, Use).
-pub fn law_homes_are_used_earlier()
-    ensures { HomesAreUsedEarlier }
+/// Where besides types with names belong somewhere, and so it is of what the functions of each interface take and give, all that an
+/// interface takes from others is of earlier ones (WIT, Use).
+pub fn law_earlier_types_are_used()
+    ensures { EarlierTypesAreUsed }
 {}
 
 /// Where no two types of an interface have one name, no two of its functions, and no type that of a function, no two items that an instance

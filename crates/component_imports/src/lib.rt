@@ -10,8 +10,7 @@ mod world;
 pub use interface::import_interface;
 pub use interfaces::import_interfaces;
 pub use law::{
-    law_apart_are_distinct, law_homes_are_used_earlier, law_homes_rise,
-    law_ready_functions_are_imported, law_ready_is_imported, law_rising_are_apart,
-    law_used_stand_before,
+    law_apart_are_distinct, law_earlier_types_are_apart, law_earlier_types_are_used,
+    law_ready_functions_are_imported, law_ready_is_imported, law_used_stand_before,
 };
 pub use world::import_functions;

@@ -1,4 +1,5 @@
 mod Members
+pub mod Owners
 mod Backward
 mod Renaming
 mod Clones

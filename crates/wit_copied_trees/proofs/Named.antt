@@ -25,7 +25,7 @@ use Rattle.wit_arena.specs.Unfold.{Owners, flat, and_then, kind_tree, named_kind
 use Rattle.wit_arena.proofs.Unfolding.{option_map_some}
 use Rattle.wit_copied_trees.specs.Renamed as renamed
 use Rattle.wit_copied_trees.specs.Renamed.{IsRenamedTree}
-use Rattle.wit_copied_trees.proofs.Backward.{then_some}
+use Rattle.wit_copied_trees.proofs.Owners.{then_some}
 use Rattle.wit_copied_trees.proofs.Renaming.{Gives, gives_map}
 use Rattle.wit_copied_trees.proofs.Definitions.{kind_follows}
 

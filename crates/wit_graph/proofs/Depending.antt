@@ -12,6 +12,7 @@ use Rattle.wit_types.specs.declared.«package».Package.{Package}
 use Rattle.wit_reach.specs.Deps.{AreUsed, IsInterfaceDep}
 use Rattle.wit_reach.specs.Lists.{item_types, item_interfaces, interfaces_of, AreInterfacesThere, AreOwnersThere, IsNamedBy}
 use Rattle.wit_reach.specs.Types.{AreSidesThere}
+use Rattle.wit_reach.proofs.Holding.{held_in_order}
 use Rattle.wit_reach.proofs.Growing.{get_same, used_was}
 use Rattle.wit_reach.proofs.Items.{types_there}
 use Rattle.wit_reach.proofs.Lists.{has_parts}
@@ -53,7 +54,7 @@ module _ (t : Tables) (whole : AreWhole t) (law : ElaboratedWorldsAreThere) wher
       let v : World = get_or t.worlds.listed i w in
       let is : IsElaborationOf t.types t.interfaces.all t.interfaces.uses v w = whole.whole.elaborated i v w (slice_get-get_or t.worlds.listed i w l) at in
       let owners : AreOwnersThere (length t.interfaces.uses) t.types = subst (λ (n : ℕ). AreOwnersThere n t.types) (sym long) whole.whole.sound.owners in
-      let found = law t.types t.interfaces.all t.interfaces.uses is.world w (uses_backward t.types t.interfaces.all t.interfaces.uses whole.whole.rows whole.whole.in_order) owners is.there.sides is.there.interfaces is.there.keys is.is_elaborated in
+      let found = law t.types t.interfaces.all t.interfaces.uses is.world w (uses_backward t.types t.interfaces.all t.interfaces.uses whole.whole.rows (held_in_order 0 t.types t.interfaces.all whole.whole.holds)) owners is.there.sides is.there.interfaces is.there.keys is.is_elaborated in
       (found.0, subst (λ (n : ℕ). AreInterfacesThere n w) long found.1)
 
   pub listed_interface : (w : World) (j : ℕ) → AreInterfacesThere (length t.interfaces.all) w → Has (item_interfaces w) j → j < length t.interfaces.all
@@ -67,7 +68,7 @@ module _ (t : Tables) (whole : AreWhole t) (law : ElaboratedWorldsAreThere) wher
   pub named_within : (p : Package) → Has t.packages p → (j : ℕ) → IsNamedIn t p j → j < length t.interfaces.all
   named_within p has j (in_interface e h (d, at, dep)) =
       let l : e.1 < length t.interfaces.all = (whole.packages_are p has).interfaces_are e h in
-      let m : j < 0 + e.1 = whole.whole.in_order e.1 j d at dep in
+      let m : j < 0 + e.1 = held_in_order 0 t.types t.interfaces.all whole.whole.holds e.1 j d at dep in
       omega (arith, l, m)
   named_within p has j (in_world e h w at (inl listed)) = listed_interface w j (world_there e.1 w at ((whole.packages_are p has).worlds_are e h)).1 listed
   named_within p has j (in_world e h w at (inr used)) = used_within (length t.interfaces.all) t.types (item_types w) j whole.whole.sound.owners used

@@ -17,6 +17,7 @@ use Rattle.wit_types.specs.declared.«package».PackageName.{PackageName}
 use Rattle.wit_types.specs.declared.«package».UnresolvedPackage.{UnresolvedPackage}
 use Rattle.wit_features.specs.Features.{FeatureSet}
 use Rattle.wit_moves.specs.Moved.{Places}
+use Rattle.wit_reach.specs.Holding.{HoldTheirTypes}
 use Rattle.wit_moves.specs.Plan.{OwnerPlaces}
 use Rattle.wit_moves.specs.declared.plan.MoveFault.{MoveFault}
 use Rattle.wit_moves.specs.declared.plan.MoveFault.TheVariants as moved
@@ -26,7 +27,6 @@ use Rattle.wit_plans.specs.Moves.{AreMovedInterfaces, no_interfaces, interface_g
 use Rattle.wit_plans.specs.Plans.{Parts, standing, IsPlanned, IsPlanCause}
 use Rattle.wit_plans.specs.declared.moves.MovedWorld.{MovedWorld}
 use Rattle.wit_placed.specs.Found.{IsPackageThere, ArePackagesThere, FoundAreThere}
-use Rattle.wit_placed.specs.Order.{AreInOrder}
 use Rattle.wit_placed.specs.There.{AreBelow}
 use Rattle.wit_resources.specs.Natures.{kind_nature, natures_from}
 use Rattle.wit_resources.specs.declared.natures.Nature.{Nature}
@@ -71,7 +71,7 @@ nothing_is_graph t names te ne =
         whole = record {
           natures_are = refl;
           rows = no_rows;
-          in_order = λ k j d h dep. absurd cc;
+          holds = record { named = λ i d x at. absurd cc; theirs = λ k d e at. absurd cc; types_use = λ k s d at. absurd cc; functions_use = λ k s d at. absurd cc };
           sound = record {
             backward = λ i j (d, h, has). absurd cc;
             owners = λ i j d h o. absurd cc;
@@ -308,9 +308,9 @@ module _ (eq : PackageName → PackageName → Bool) (features : FeatureSet) (ol
       worlds_below = found_below.1;
       planned = planned;
       nameless = well.nameless;
-      in_order =
-          subst (λ (n : ℕ). AreInOrder n ((own_parts p).unknown ++ (own_parts p).types) (own_parts p).interfaces) (sym found.interfaces_are.all)
-          (subst (λ (ds : List TypeDef). AreInOrder (asked p).interfaces ds (own_parts p).interfaces) (sym (take-append-drop (length p.unknown_type_spans.items) p.types)) well.in_order);
+      holds =
+          subst (λ (n : ℕ). HoldTheirTypes n ((own_parts p).unknown ++ (own_parts p).types) (own_parts p).interfaces) (sym found.interfaces_are.all)
+          (subst (λ (ds : List TypeDef). HoldTheirTypes (asked p).interfaces ds (own_parts p).interfaces) (sym (take-append-drop (length p.unknown_type_spans.items) p.types)) well.holds);
       keys = well.keys;
     }
 

@@ -75,16 +75,6 @@ module _ (ds more : List TypeDef) (back : AreTypesBackward ds) where
   rows_kept _ _ there no_rows = no_rows
   rows_kept _ _ there (rows_and d r is rs row rest) = rows_and d r is rs (row_kept d r (there d (inl refl)).names row) (rows_kept is rs (λ e h. there e (inr h)) rest)
 
-  pub order_kept : (base : ℕ) (is : List Interface) → ((d : Interface) → Has is d → IsInterfaceThere ds d) → AreInOrder base ds is → AreInOrder base (ds ++ more) is
-  order_kept base is there order k j d at dep = order k j d at (dep_was d j (there d (get_has is k d at)).names dep)
-
-pub order_append : (types : List TypeDef) (is more : List Interface) → AreInOrder 0 types is → AreInOrder (length is) types more → AreInOrder 0 types (is ++ more)
-order_append types is more first later k j d at dep =
-    elim (get_parts is more k d at) as (λ _. j < 0 + k) [
-      | inl a ↦ first k j d a dep
-      | inr b ↦ (let l : j < length is + b.0 = later b.0 j d b.2 dep in let e : k ≡ length is + b.0 = b.1 in omega (arith, e, l))
-    ]
-
 -- ---- rows
 
 pub rows_long : (types : List TypeDef) (is : List Interface) (rs : Rows) → AreRows types is rs → length rs ≡ length is

@@ -10,14 +10,17 @@ use Rattle.wit_moves.specs.Breaks.{AnyOf, IsKept}
 use Rattle.wit_moves.specs.Moved.{Places}
 use Rattle.wit_moves.specs.Plan.{OwnerPlaces, AreMovedDefs}
 use Rattle.wit_moved_trees.specs.There.{AreWithin, MovedTypesAreBackward}
+use Rattle.wit_reach.specs.Holding.{AreNamedOwned, HoldTheirTypes}
 use Rattle.wit_reach.specs.Lists.{AreOwnersThere}
+use Rattle.wit_reach.proofs.Holding.{held_in_order, held_more}
+use Rattle.wit_placed.proofs.Holding.{functions_there}
 use Rattle.wit_reach.specs.Paths.{AreBackward}
 use Rattle.wit_reach.specs.Reach.{Uses}
 use Rattle.wit_reach.specs.Types.{AreTypesBackward, AreSidesThere}
 use Rattle.wit_plans.specs.Plans.{Parts, found_of, standing}
 use Rattle.wit_plans.specs.Checks.{InterfaceBreaks}
 use Rattle.wit_placed.specs.Found.{FoundTypesAreThere}
-use Rattle.wit_placed.specs.Order.{AreInOrder, AreBehind, InterfacesTakePlaces, MovedTypesBelong, MovedInterfacesAreInOrder}
+use Rattle.wit_placed.specs.Order.{AreInOrder, AreBehind, InterfacesTakePlaces, MovedTypesBelong, MovedInterfacesHoldTheirTypes}
 use Rattle.wit_placed.specs.There.{AreBelow, IsInterfaceThere, MovedInterfacesAreThere}
 use Rattle.wit_elaborated.specs.Staying.{ElaboratedWorldsStay}
 use Rattle.wit_graph_worlds.specs.Sound.{AreSound, AreElaborated}
@@ -30,7 +33,7 @@ use Rattle.wit_graph.specs.Graph.{Items, items, AreItemsWhole}
 use Rattle.wit_graph_parts.specs.Parts.{AreTypesAdded, AreInterfacesAdded}
 use Rattle.wit_graph.specs.Push.{IsReady}
 use Rattle.wit_graph_parts.proofs.Rows.{rows_append}
-use Rattle.wit_graph.proofs.Keeping.{has_or, interface_kept, sides_kept, among_more, rows_kept, order_kept, order_append, rows_long, uses_backward}
+use Rattle.wit_graph.proofs.Keeping.{has_or, interface_kept, sides_kept, among_more, rows_kept, rows_long, uses_backward}
 
 map_long : {X Y : Type 0} (f : X → Y) (xs : List X) → length (map f xs) ≡ length xs
 map_long f [] = refl
@@ -61,7 +64,7 @@ module _ (features : FeatureSet) (owner : ℕ) (t : Items) (foreign : OwnerPlace
     types_below = subst (λ (ds : List TypeDef). AreWithin ds places) (sym a.types_are) there.1
 
     module _ (i : Interfaces) (names : List (String Global × ℕ)) (b : AreInterfacesAdded features (standing owners places) owner types p.interfaces t.interfaces i names)
-        (take_places : InterfacesTakePlaces) (belong : MovedTypesBelong) (in_order : MovedInterfacesAreInOrder) (are_there : MovedInterfacesAreThere)
+        (take_places : InterfacesTakePlaces) (belong : MovedTypesBelong) (hold : MovedInterfacesHoldTheirTypes) (are_there : MovedInterfacesAreThere)
         (kept : IsKept (AnyOf (InterfaceBreaks features (standing owners places)) p.interfaces))
       where
         behind : AreBehind features owners (standing owners places) owner p.unknown p.types t.types a.defs others p.interfaces b.moved foreign.interfaces (length t.interfaces.all)
@@ -98,13 +101,14 @@ module _ (features : FeatureSet) (owner : ℕ) (t : Items) (foreign : OwnerPlace
             (rows_append types t.interfaces.all b.moved t.interfaces.uses b.added.rows
             (subst (λ (ds : List TypeDef). AreRows ds t.interfaces.all t.interfaces.uses) (sym a.types_are) (rows_kept t.types a.defs r.whole.sound.backward t.interfaces.all t.interfaces.uses r.whole.interfaces_are r.whole.rows)) b.added.are_rows))
 
-        pub order : AreInOrder 0 types i.all
-        order =
-            subst (AreInOrder 0 types) (sym b.added.all_are)
-            (order_append types t.interfaces.all b.moved
-            (subst (λ (ds : List TypeDef). AreInOrder 0 ds t.interfaces.all) (sym a.types_are) (order_kept t.types a.defs r.whole.sound.backward 0 t.interfaces.all r.whole.interfaces_are r.whole.in_order))
-            (subst (λ (ds : List TypeDef). AreInOrder (length t.interfaces.all) ds b.moved) (sym a.types_are)
-            (in_order features owners (standing owners places) owner p.unknown p.types t.types a.defs others p.interfaces b.moved foreign.interfaces (length t.interfaces.all) behind r.in_order)))
+        holds : HoldTheirTypes 0 types i.all
+        holds =
+            subst (HoldTheirTypes 0 types) (sym b.added.all_are)
+            (subst (λ (ds : List TypeDef). HoldTheirTypes 0 ds (t.interfaces.all ++ b.moved)) (sym a.types_are)
+            (hold features owners (standing owners places) owner p.unknown p.types t.types a.defs others p.interfaces b.moved t.interfaces.all foreign.interfaces behind kept refl r.whole.interfaces_are r.whole.holds r.holds))
+
+        order : AreInOrder 0 types i.all
+        order = held_in_order 0 types i.all holds
 
         pub uses_long : length i.uses ≡ length i.all
         uses_long = rows_long types i.all i.uses rows
@@ -137,18 +141,20 @@ module _ (features : FeatureSet) (owner : ℕ) (t : Items) (foreign : OwnerPlace
             let long : length t.interfaces.uses ≡ length t.interfaces.all = rows_long t.types t.interfaces.all t.interfaces.uses r.whole.rows in
             let were : AreSound (length t.interfaces.uses) t.types t.worlds = subst (λ (n : ℕ). AreSound n t.types t.worlds) (sym long) r.whole.sound in
             let more : AreElaborated (t.types ++ a.defs) (t.interfaces.all ++ b.moved) (t.interfaces.uses ++ b.added.rows) t.worlds =
-            elaborated_stay stay t.types a.defs t.interfaces.all b.moved t.interfaces.uses b.added.rows t.worlds were (uses_backward t.types t.interfaces.all t.interfaces.uses r.whole.rows r.whole.in_order) long r.whole.elaborated
+            elaborated_stay stay t.types a.defs t.interfaces.all b.moved t.interfaces.uses b.added.rows t.worlds were (uses_backward t.types t.interfaces.all t.interfaces.uses r.whole.rows (held_in_order 0 t.types t.interfaces.all r.whole.holds)) long r.whole.elaborated
             in
             subst (λ (ds : List TypeDef). AreElaborated ds i.all i.uses t.worlds) (sym a.types_are)
             (subst (λ (is : List Interface). AreElaborated (t.types ++ a.defs) is i.uses t.worlds) (sym b.added.all_are)
             (subst (λ (rs : Rows). AreElaborated (t.types ++ a.defs) (t.interfaces.all ++ b.moved) rs t.worlds) (sym b.added.uses_are) more))
 
         -- with more types, and worlds
-        pub whole : (more : List TypeDef) (ds : List TypeDef) (ns : List Nature) (w : Worlds) → ds ≡ types ++ more → ns ≡ natures ds → AreSound (length i.uses) ds w → AreElaborated ds i.all i.uses w → AreItemsWhole (items ds ns i w)
-        whole more ds ns w grown known s e = record {
+        pub whole : (more : List TypeDef) (ds : List TypeDef) (ns : List Nature) (w : Worlds) → ds ≡ types ++ more → ns ≡ natures ds → AreSound (length i.uses) ds w → AreElaborated ds i.all i.uses w → (AreNamedOwned types → AreNamedOwned ds) → AreItemsWhole (items ds ns i w)
+        whole more ds ns w grown known s e named = record {
           natures_are = known;
           rows = subst (λ (xs : List TypeDef). AreRows xs i.all i.uses) (sym grown) (rows_kept types more types_backward i.all i.uses interfaces_are rows);
-          in_order = subst (λ (xs : List TypeDef). AreInOrder 0 xs i.all) (sym grown) (order_kept types more types_backward 0 i.all interfaces_are order);
+          holds =
+              subst (λ (xs : List TypeDef). HoldTheirTypes 0 xs i.all) (sym grown)
+              (held_more types more types_backward 0 i.all (functions_there types i.all interfaces_are) (subst AreNamedOwned grown (named holds.named)) holds);
           sound = subst (λ (n : ℕ). AreSound n ds w) uses_long s;
           elaborated = e;
           interfaces_are = λ d h. subst (λ (xs : List TypeDef). IsInterfaceThere xs d) (sym grown) (interface_kept types more d (interfaces_are d h));

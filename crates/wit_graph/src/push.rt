@@ -28,8 +28,8 @@ use wit_graph_parts::{
 use wit_graph_worlds::Worlds;
 use wit_moved_trees::law_moved_types_are_backward;
 use wit_placed::{
-    law_found_types_are_there, law_interfaces_take_places, law_moved_interfaces_are_in_order,
-    law_moved_interfaces_are_there, law_moved_types_belong,
+    law_found_types_are_there, law_interfaces_take_places, law_moved_interfaces_are_there,
+    law_moved_interfaces_hold_their_types, law_moved_types_belong,
 };
 use wit_resources::Natures;
 use wit_types::{Arena, Docs, InterfaceId, Package, PackageName, TypeDef, WorldId};
@@ -65,7 +65,7 @@ fn add_parts(
     law_moved_types_are_backward();
     law_interfaces_take_places();
     law_moved_types_belong();
-    law_moved_interfaces_are_in_order();
+    law_moved_interfaces_hold_their_types();
     law_moved_interfaces_are_there();
     law_elaborated_worlds_stay();
     let first = own.unknown.len();

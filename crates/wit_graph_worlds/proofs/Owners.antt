@@ -1,54 +1,89 @@
--- Types that come with an included world belong to interfaces that are there.
+-- Types that come with an included world belong where those do of which they are copies.
 use Rattle.std.proofs.Common.{◌≡◌, ℕ, ◌<◌, Bool, true, false, List, [], ◌∷◌, ◌++◌, zero, suc, Option, Some, None, String, refl, sym, ap, ◌∙◌, subst}
 use Rattle.std.proofs.lemmas.Option.{same_Some}
+use Rattle.std.specs.Prelude.{slice_get}
 use Rattle.std.specs.declared.alloc.Global.{Global}
 use Rattle.wit_types.specs.declared.interface.TypeDef.{TypeDef}
 use Rattle.wit_types.specs.declared.interface.TypeOwner.{TypeOwner}
 use Rattle.wit_types.specs.declared.interface.TypeOwner.TheVariants as belongs
 use Rattle.wit_types.specs.declared.world.IncludeName.{IncludeName}
 use Rattle.wit_reach.specs.Deps.{interface_of}
+use Rattle.wit_reach.specs.Holding.{AreNamedOwned}
 use Rattle.wit_reach.specs.Lists.{AreOwnersThere}
-use Rattle.wit_copies.specs.Copies.{Copies, copied_owner, AreCopied, no_types, one_more}
+use Rattle.wit_copies.specs.Copies.{Copies, copied_owner, IsCopiedDef, AreCopied, no_types, one_more}
+use Rattle.wit_copies.specs.Same.{text_of}
 use Rattle.wit_includes.specs.Included as renamed
-use Rattle.wit_includes.specs.Included.{is_of_world, IsRenamedName, AreRenamedDefs, AreIncludedTypes, copies_behind}
+use Rattle.wit_includes.specs.Included.{is_of_world, IsRenamedName, IsRenamedDef, AreRenamedDefs, AreIncludedTypes, copies_behind}
 
--- one more, and others behind
-one_there : (n : ℕ) (d : TypeDef) (ds : List TypeDef) → ((j : ℕ) → interface_of d.owner ≡ Some j → j < n) → AreOwnersThere n ds → AreOwnersThere n (d ∷ ds)
-one_there n d ds here there zero j e at of = here j (subst (λ (x : TypeDef). interface_of x.owner ≡ Some j) (sym (same_Some d e at)) of)
-one_there n d ds here there (suc i) j e at of = there i j e at of
+-- ---- what holds of each type holds of each copy
 
-pub owners_append : (n : ℕ) (ds es : List TypeDef) → AreOwnersThere n ds → AreOwnersThere n es → AreOwnersThere n (ds ++ es)
-owners_append n [] es a b = b
-owners_append n (d ∷ ds) es a b = one_there n d (ds ++ es) (λ j of. a zero j d refl of) (owners_append n ds es (λ i j e at of. a (suc i) j e at of) b)
+abbrev AreAll : (TypeDef → Type 0) → List TypeDef → Type 0
+AreAll P ds = (i : ℕ) (d : TypeDef) → slice_get ds i ≡ Some d → P d
 
--- ---- copies
+module _ (P : TypeDef → Type 0) (of_copy : (c : Copies) (from into : ℕ) (d e : TypeDef) → IsCopiedDef c from into d e → P d → P e) (of_renamed : (names : List IncludeName) (w : ℕ) (d e : TypeDef) → IsRenamedDef names w d e → P d → P e) where
+  all_with : (d : TypeDef) (ds : List TypeDef) → P d → AreAll P ds → AreAll P (d ∷ ds)
+  all_with d ds here there zero e at = subst P (same_Some d e at) here
+  all_with d ds here there (suc i) e at = there i e at
+
+  all_append : (ds es : List TypeDef) → AreAll P ds → AreAll P es → AreAll P (ds ++ es)
+  all_append [] es a b = b
+  all_append (d ∷ ds) es a b = all_with d (ds ++ es) (a zero d refl) (all_append ds es (λ i e at. a (suc i) e at) b)
+
+  copies_all : (c : Copies) (from into : ℕ) (types : List TypeDef) (ids : List ℕ) (copied : List TypeDef) → AreAll P types → AreCopied c from into types ids copied → AreAll P copied
+  copies_all c from into types _ _ all no_types = λ i d at. absurd cc
+  copies_all c from into types _ _ all (one_more i d e is es at copied more) = all_with e es (of_copy c from into d e copied (all i d at)) (copies_all c from into types is es all more)
+
+  renamed_all : (names : List IncludeName) (w : ℕ) (ds es : List TypeDef) → AreAll P ds → AreRenamedDefs names w ds es → AreAll P es
+  renamed_all names w _ _ all renamed.no_types = all
+  renamed_all names w _ _ all (renamed.one_more d e ds es one more) = all_with e es (of_renamed names w d e one (all zero d refl)) (renamed_all names w ds es (λ i f at. all (suc i) f at) more)
+
+  included_all : (names : List IncludeName) (from into : ℕ) (types : List TypeDef) (own : List ℕ) (new : List TypeDef) → AreAll P types → AreIncludedTypes names from into types own new → AreAll P (types ++ new)
+  included_all names from into types own new all h = all_append types new all (renamed_all names into h.0 new (copies_all (copies_behind types own) from into types own h.0 all h.1) h.2)
+
+-- ---- interfaces that are there
 
 owner_copied : (from into : ℕ) (o : TypeOwner) → interface_of (copied_owner from into o) ≡ interface_of o
 owner_copied from into (belongs.World w) = refl
 owner_copied from into (belongs.Interface i) = refl
 owner_copied from into belongs.None = refl
 
-copies_there : (n : ℕ) (c : Copies) (from into : ℕ) (types : List TypeDef) (ids : List ℕ) (copied : List TypeDef) → AreOwnersThere n types → AreCopied c from into types ids copied → AreOwnersThere n copied
-copies_there n c from into types _ _ there no_types = λ i j d at of. absurd cc
-copies_there n c from into types _ _ there (one_more i d e is es at copied more) =
-    one_there n e es
-    (λ j of. there i j d at (sym (owner_copied from into d.owner) ∙ (ap interface_of (sym copied.2.owner_is) ∙ of)))
-    (copies_there n c from into types is es there more)
-
--- ---- and with changed names
-
 renamed_owner : (names : List IncludeName) (b : Bool) (d : TypeDef) (x : Option (String Global)) (e : TypeDef) → IsRenamedName names b d x e → e.owner ≡ d.owner
 renamed_owner names true d (Some x) e h = ap (λ (t : TypeDef). t.owner) h.2
 renamed_owner names true d None e h = ap (λ (t : TypeDef). t.owner) h
 renamed_owner names false d x e h = ap (λ (t : TypeDef). t.owner) h
 
-renamed_there : (n : ℕ) (names : List IncludeName) (w : ℕ) (ds es : List TypeDef) → AreOwnersThere n ds → AreRenamedDefs names w ds es → AreOwnersThere n es
-renamed_there n names w _ _ there renamed.no_types = there
-renamed_there n names w _ _ there (renamed.one_more d e ds es one more) =
-    one_there n e es
-    (λ j of. there zero j d refl (ap interface_of (sym (renamed_owner names (is_of_world w d.owner) d d.name e one)) ∙ of))
-    (renamed_there n names w ds es (λ i j t at of. there (suc i) j t at of) more)
-
 pub included_owners : (n : ℕ) (names : List IncludeName) (from into : ℕ) (types : List TypeDef) (own : List ℕ) (new : List TypeDef) → AreOwnersThere n types → AreIncludedTypes names from into types own new → AreOwnersThere n (types ++ new)
-included_owners n names from into types own new there h =
-    owners_append n types new there (renamed_there n names into h.0 new (copies_there n (copies_behind types own) from into types own h.0 there h.1) h.2)
+included_owners n names from into types own new there h i j d at of =
+    included_all (λ (x : TypeDef). (k : ℕ) → interface_of x.owner ≡ Some k → k < n)
+    (λ c from into x y copied below k is. below k (sym (owner_copied from into x.owner) ∙ (ap interface_of (sym copied.2.owner_is) ∙ is)))
+    (λ names w x y one below k is. below k (ap interface_of (sym (renamed_owner names (is_of_world w x.owner) x x.name y one)) ∙ is))
+    names from into types own new (λ i x at k is. there i k x at is) h i d at j of
+
+-- ---- types with names
+
+-- it has no name, or belongs somewhere
+abbrev IsNamedOwned : TypeDef → Type 0
+IsNamedOwned d = (x : String Global) → d.name ≡ Some x → d.owner ≡ belongs.None → ⊥
+
+copied_none : (from into : ℕ) (o : TypeOwner) → copied_owner from into o ≡ belongs.None → o ≡ belongs.None
+copied_none from into (belongs.World w) e = absurd cc
+copied_none from into (belongs.Interface i) e = absurd cc
+copied_none from into belongs.None e = refl
+
+has_text : (n m : Option (String Global)) (x : String Global) → text_of m ≡ text_of n → m ≡ Some x → (y : String Global) × (n ≡ Some y)
+has_text None m x same e = absurd (let f : text_of (Some x) ≡ text_of None = sym (ap text_of e) ∙ same in cc)
+has_text (Some y) m x same e = (y, refl)
+
+named_copy : (c : Copies) (from into : ℕ) (d e : TypeDef) → IsCopiedDef c from into d e → IsNamedOwned d → IsNamedOwned e
+named_copy c from into d e (clone, same, to) owned x named none =
+    let y = has_text d.name clone.name x same.name (sym to.name ∙ named) in
+    owned y.0 y.1 (copied_none from into d.owner (sym to.owner_is ∙ none))
+
+named_renamed : (names : List IncludeName) (b : Bool) (d e : TypeDef) (n : Option (String Global)) → d.name ≡ n → IsRenamedName names b d n e → IsNamedOwned d → IsNamedOwned e
+named_renamed names true d e (Some y) at h owned x named none = owned y at (sym (renamed_owner names true d (Some y) e h) ∙ none)
+named_renamed names true d e None at h owned x named none = subst IsNamedOwned (sym h) owned x named none
+named_renamed names false d e n at h owned x named none = subst IsNamedOwned (sym h) owned x named none
+
+pub included_named : (names : List IncludeName) (from into : ℕ) (types : List TypeDef) (own : List ℕ) (new : List TypeDef) → AreNamedOwned types → AreIncludedTypes names from into types own new → AreNamedOwned (types ++ new)
+included_named names from into types own new named h i d x at =
+    included_all IsNamedOwned named_copy (λ names w y z one. named_renamed names (is_of_world w y.owner) y z y.name refl one) names from into types own new (λ i y at x. named i y x at) h i d at x

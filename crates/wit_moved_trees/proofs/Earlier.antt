@@ -1,90 +1,33 @@
 -- Types that are moved are made of earlier ones.
-use Rattle.std.proofs.Common.{◌≡◌, ℕ, ◌+◌, ◌<◌, Bool, true, false, List, [], ◌∷◌, ◌++◌, inl, inr, Option, Some, None, refl, sym, subst, ap, ◌∙◌, arith, length, take, length-append, append_assoc, map}
-use Rattle.std.proofs.lemmas.Bool.{and_parts}
+use Rattle.std.proofs.Common.{◌≡◌, ℕ, ◌+◌, ◌<◌, Bool, true, false, List, [], ◌∷◌, ◌++◌, inl, inr, Option, Some, None, refl, sym, subst, ap, ◌∙◌, arith, length, take, length-append, append_assoc}
 use Rattle.std.proofs.lemmas.List.{append-nil}
 use Rattle.std.proofs.lemmas.Option.{same_Some}
-use Rattle.std.specs.List.{list_all}
-use Rattle.std.specs.Prelude.{slice_get, unwrap_or, flat_map}
-use Rattle.wit_types.specs.declared.kind.«Type».{«Type» as Ref}
-use Rattle.wit_types.specs.declared.kind.«Type».TheVariants as ref
-use Rattle.wit_types.specs.declared.kind.Handle.{Handle}
-use Rattle.wit_types.specs.declared.kind.Handle.TheVariants as handle
-use Rattle.wit_types.specs.declared.kind.Field.{Field}
-use Rattle.wit_types.specs.declared.kind.Case.{Case}
+use Rattle.std.specs.Prelude.{slice_get, unwrap_or}
 use Rattle.wit_types.specs.declared.kind.TypeDefKind.{TypeDefKind}
 use Rattle.wit_types.specs.declared.interface.TypeDef.{TypeDef}
 use Rattle.wit_features.specs.Features.{FeatureSet}
-use Rattle.wit_moves.specs.Moved as moved
-use Rattle.wit_moves.specs.Moved.{Places, place_of, is_placed, is_ref_placed, is_part_placed, is_handle_placed, is_kind_placed, to, moved_ref, moved_part, moved_field, moved_case, moved_handle, IsMovedKind, IsMovedDef}
+use Rattle.wit_moves.specs.Moved.{Places, place_of, is_placed, is_kind_placed, to, IsMovedKind, IsMovedDef}
 use Rattle.wit_moves.specs.Plan.{OwnerPlaces, moved_owner, type_stays, Plan, with_place, with_type, with_types, AreTypesPlaced, AreMovedDefs, no_defs, left_out, moved as moved_def}
 use Rattle.wit_order.specs.Order.{Has}
-use Rattle.wit_reach.specs.Ids.{ref_ids, part_ids, handle_ids, kind_ids}
+use Rattle.wit_reach.specs.Ids.{kind_ids}
 use Rattle.wit_reach.specs.Types.{AreTypesBackward}
-use Rattle.wit_reach.proofs.Lists.{has_parts}
 use Rattle.wit_arena.proofs.Lists.{get_more}
 use Rattle.wit_moved_trees.specs.There.{AreWithin, MovedTypesAreBackward}
+use Rattle.wit_moved_trees.proofs.Parts.{IsMovedOf, id_from, kind_from, ArePlaced, id_placed, kind_placed}
 use Rattle.wit_moved_trees.proofs.Moving.{either, placed_some, place_kept, place_more, plan_grows, plan_append, plan_length, take_front, get_here, pushed_is}
 
 -- ---- ids
 
 -- where what has a place is moved below a number, so is all that a definition is made of
 module _ (places : Places) (f : ℕ → ℕ) (n : ℕ) (below : (i : ℕ) → is_placed places i ≡ true → f i < n) where
+  pub moved_below : (ids : List ℕ) → ArePlaced places ids → (j : ℕ) → IsMovedOf f ids j → j < n
+  moved_below ids all j (i, has, is) = subst (λ (k : ℕ). k < n) is (below i (all i has))
+
   pub id_below : (i j : ℕ) → is_placed places i ≡ true → Has (f i ∷ []) j → j < n
-  id_below i j p h = elim h as (λ _. j < n) [ inl same ↦ subst (λ (k : ℕ). k < n) (sym same) (below i p) | inr later ↦ absurd later ]
-
-  pub ref_below : (r : Ref) (j : ℕ) → is_ref_placed places r ≡ true → Has (ref_ids (moved_ref f r)) j → j < n
-  ref_below (ref.Id i) j p h = id_below i j p h
-  ref_below ref.Bool j p h = absurd h
-  ref_below ref.U8 j p h = absurd h
-  ref_below ref.U16 j p h = absurd h
-  ref_below ref.U32 j p h = absurd h
-  ref_below ref.U64 j p h = absurd h
-  ref_below ref.S8 j p h = absurd h
-  ref_below ref.S16 j p h = absurd h
-  ref_below ref.S32 j p h = absurd h
-  ref_below ref.S64 j p h = absurd h
-  ref_below ref.F32 j p h = absurd h
-  ref_below ref.F64 j p h = absurd h
-  ref_below ref.Char j p h = absurd h
-  ref_below ref.String j p h = absurd h
-  ref_below ref.ErrorContext j p h = absurd h
-
-  pub part_below : (r : Option Ref) (j : ℕ) → is_part_placed places r ≡ true → Has (part_ids (moved_part f r)) j → j < n
-  part_below None j p h = absurd h
-  part_below (Some r) j p h = ref_below r j p h
-
-  handle_below : (x : Handle) (j : ℕ) → is_handle_placed places x ≡ true → Has (handle_ids (moved_handle f x)) j → j < n
-  handle_below (handle.Own i) j p h = id_below i j p h
-  handle_below (handle.Borrow i) j p h = id_below i j p h
-
-  -- so it is for rows, where it is for each of them
-  pub row_below : {X : Type 0} (ids : X → List ℕ) (is_there : X → Bool) (move : X → X) (each : (x : X) (j : ℕ) → is_there x ≡ true → Has (ids (move x)) j → j < n) (xs : List X) (j : ℕ)
-      → list_all is_there xs ≡ true → Has (flat_map ids (map move xs)) j → j < n
-  row_below ids is_there move each [] j p h = absurd h
-  row_below ids is_there move each (x ∷ xs) j p h =
-      let q = and_parts (is_there x) (list_all is_there xs) p in
-      elim (has_parts (ids (move x)) (flat_map ids (map move xs)) j h) as (λ _. j < n) [ inl a ↦ each x j q.0 a | inr b ↦ row_below ids is_there move each xs j q.1 b ]
+  id_below i j p h = moved_below (i ∷ []) (id_placed places i p) j (id_from f i j h)
 
   kind_below : (k l : TypeDefKind) (j : ℕ) → is_kind_placed places k ≡ true → IsMovedKind f k l → Has (kind_ids l) j → j < n
-  kind_below _ _ j p (moved.moved_record r s e) h =
-      row_below (λ (x : Field). ref_ids x.ty) (λ (x : Field). is_ref_placed places x.ty) (moved_field f) (λ x. ref_below x.ty) r.fields.items j p (subst (λ (xs : List Field). Has (flat_map (λ (x : Field). ref_ids x.ty) xs) j) e h)
-  kind_below _ _ j p moved.moved_resource h = absurd h
-  kind_below _ _ j p (moved.moved_handle_kind x) h = handle_below x j p h
-  kind_below _ _ j p (moved.moved_flags x) h = absurd h
-  kind_below _ _ j p (moved.moved_tuple t u e) h = row_below ref_ids (is_ref_placed places) (moved_ref f) ref_below t.types.items j p (subst (λ (xs : List Ref). Has (flat_map ref_ids xs) j) e h)
-  kind_below _ _ j p (moved.moved_variant v w e) h =
-      row_below (λ (x : Case). part_ids x.ty) (λ (x : Case). is_part_placed places x.ty) (moved_case f) (λ x. part_below x.ty) v.cases.items j p (subst (λ (xs : List Case). Has (flat_map (λ (x : Case). part_ids x.ty) xs) j) e h)
-  kind_below _ _ j p (moved.moved_enum x) h = absurd h
-  kind_below _ _ j p (moved.moved_option r) h = ref_below r j p h
-  kind_below _ _ j p (moved.moved_result r) h =
-      let q = and_parts (is_part_placed places r.ok) (is_part_placed places r.err) p in
-      elim (has_parts (part_ids (moved_part f r.ok)) (part_ids (moved_part f r.err)) j h) as (λ _. j < n) [ inl a ↦ part_below r.ok j q.0 a | inr b ↦ part_below r.err j q.1 b ]
-  kind_below _ _ j p (moved.moved_list r) h = ref_below r j p h
-  kind_below _ _ j p (moved.moved_fixed_length_list r m) h = ref_below r j p h
-  kind_below _ _ j p (moved.moved_future r) h = part_below r j p h
-  kind_below _ _ j p (moved.moved_stream r) h = part_below r j p h
-  kind_below _ _ j p (moved.moved_alias r) h = ref_below r j p h
-  kind_below _ _ j p moved.moved_unknown h = absurd h
+  kind_below k l j p m h = moved_below (kind_ids k) (kind_placed places k p) j (kind_from f k l j m h)
 
 -- one more that is made of types before it
 backward_more : (types : List TypeDef) (e : TypeDef) → AreTypesBackward types → ((j : ℕ) → Has (kind_ids e.kind) j → j < length types) → AreTypesBackward (types ++ e ∷ [])

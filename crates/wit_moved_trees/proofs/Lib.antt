@@ -1,3 +1,4 @@
+pub mod Parts
 pub mod Earlier
 mod Following
 pub mod Moving

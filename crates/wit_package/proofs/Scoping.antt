@@ -31,10 +31,10 @@ module _ (scopes sorted : List ItemScope) (are : AreItemsSorted scopes sorted) w
       let r = in_flat world_of sorted w has in
       item_among scopes sorted are (scope.world w) (subst (Has sorted) (world_given r.0 w r.2) r.1)
 
-  interface_in_order : (i : InterfaceScope) → Has scopes (scope.ItemScope.interface i) → Has (interfaces_of sorted) i
+  pub interface_in_order : (i : InterfaceScope) → Has scopes (scope.ItemScope.interface i) → Has (interfaces_of sorted) i
   interface_in_order i has = flat_has interface_of sorted (scope.ItemScope.interface i) i (item_sorted scopes sorted are (scope.ItemScope.interface i) has) (has_here i [])
 
-  world_in_order : (w : WorldScope) → Has scopes (scope.world w) → Has (worlds_of sorted) w
+  pub world_in_order : (w : WorldScope) → Has scopes (scope.world w) → Has (worlds_of sorted) w
   world_in_order w has = flat_has world_of sorted (scope.world w) w (item_sorted scopes sorted are (scope.world w) has) (has_here w [])
 
   module _ (c : Context) (scopes_are : c.scopes ≡ scopes) where

@@ -17,6 +17,7 @@ use Rattle.wit_moves.specs.Moved.{Places, place_of}
 use Rattle.wit_finding.specs.Asks.{Ask, ItemEntry, asks_at, asks_in, is_kept, item_in, finds, pair_of, found_by, items_of, interface_in, world_in}
 use Rattle.wit_finding.specs.Places.{interface_pair, world_pair}
 use Rattle.wit_finding.specs.Types.{type_in, interface_at, interface_of, type_found}
+use Rattle.wit_reach.proofs.Holding.{mapped_has}
 use Rattle.wit_placed.proofs.Members.{has_get}
 use Rattle.wit_reach.specs.Types.{AreTypesThere}
 use Rattle.wit_placed.specs.There.{AreBelow}
@@ -50,7 +51,7 @@ map_has {X} {Y} f (x ∷ xs) y h =
     ]
 
 -- what is looked up is of the table
-lookup_has : {K V : Type 0} (test : K → Bool) (es : List (K × V)) (v : V) → lookup test es ≡ Some v → (k : K) × Has es (k, v)
+pub lookup_has : {K V : Type 0} (test : K → Bool) (es : List (K × V)) (v : V) → lookup test es ≡ Some v → (k : K) × Has es (k, v)
 lookup_has {K} {V} test [] v h = absurd cc
 lookup_has {K} {V} test (e ∷ es) v h = by_cases (test e.0) h (λ k. lookup_has test es v k)
   where
@@ -136,16 +137,12 @@ found_there eq features names packages p interfaces worlds n m there found =
 module _ (interfaces : List Interface) (places : Places) (types : List TypeDef)
     (there : (d : Interface) → Has interfaces d → AreTypesThere types (map (λ (e : String Global × ℕ). e.1) d.types.entries))
   where
-    second_has : (es : List (String Global × ℕ)) (x : String Global) (i : ℕ) → Has es (x, i) → Has (map (λ (e : String Global × ℕ). e.1) es) i
-    second_has [] x i h = absurd h
-    second_has (e ∷ es) x i h = elim h as (λ _. Has (map (λ (e : String Global × ℕ). e.1) (e ∷ es)) i) [ inl here ↦ inl (ap (λ (q : String Global × ℕ). q.1) here) | inr later ↦ inr (second_has es x i later) ]
-
     in_below : (o : Option Interface) (name : Option (String Global)) (j : ℕ) → ((d : Interface) → o ≡ Some d → Has interfaces d) → type_in o name ≡ Some j → j < length types
     in_below None name j is h = absurd cc
     in_below (Some d) None j is h = absurd cc
     in_below (Some d) (Some x) j is h =
         let r = lookup_has (λ (n : String Global). bytes_eq (string_bytes x) (string_bytes n)) d.types.entries j h in
-        there d (is d refl) j (second_has d.types.entries r.0 j r.1)
+        there d (is d refl) j (mapped_has (λ (e : String Global × ℕ). e.1) d.types.entries (r.0, j) r.1)
 
     at_has : (o : Option ℕ) (d : Interface) → interface_at interfaces o ≡ Some d → Has interfaces d
     at_has None d h = absurd cc

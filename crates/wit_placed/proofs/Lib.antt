@@ -4,4 +4,5 @@ mod Standing
 mod Sources
 mod Own
 mod Order
+pub mod Holding
 mod Finding

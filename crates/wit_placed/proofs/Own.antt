@@ -33,7 +33,7 @@ below_place true p below i j h =
     ]
 below_place false p below i j h = elim (place_more p.places None i j h) as (λ _. j < p.next) [ inl was ↦ below i j was | inr last ↦ absurd (let e : None ≡ Some j = last.1 in cc) ]
 
-place_within : (ps : Places) (k n : ℕ) → place_of ps k ≡ Some n → k < length ps
+pub place_within : (ps : Places) (k n : ℕ) → place_of ps k ≡ Some n → k < length ps
 place_within [] k n h = absurd cc
 place_within (q ∷ ps) zero n h = omega arith
 place_within (q ∷ ps) (suc k) n h = (let l : k < length ps = place_within ps k n h in omega arith)
@@ -90,6 +90,7 @@ module _ (features : FeatureSet) (s : Standing) (owner : ℕ) where
     pub place : ℕ
     pub old : Interface
     pub was : slice_get ds place ≡ Some old
+    pub kept : stays features old.stability ≡ true
     pub moved : IsMovedInterface features s.types owner old e
     pub stands : place_of places (c + place) ≡ Some (base + k)
 
@@ -98,6 +99,7 @@ module _ (features : FeatureSet) (s : Standing) (owner : ℕ) where
     place = suc f.place;
     old = f.old;
     was = f.was;
+    kept = f.kept;
     moved = f.moved;
     stands =
         subst (λ (i : ℕ). place_of places i ≡ Some (base + l)) (let q : d + f.place ≡ c + suc f.place = omega (arith, de) in q)
@@ -118,6 +120,7 @@ module _ (features : FeatureSet) (s : Standing) (owner : ℕ) where
         place = zero;
         old = d;
         was = refl;
+        kept = st;
         moved = subst (IsMovedInterface features s.types owner d) (same_Some one e h) m;
         stands =
             subst (λ (i : ℕ). place_of (with_own features (with_place true p) (gates ds)).places i ≡ Some (p.next + 0)) (let q : length p.places ≡ length p.places + 0 = omega arith in q)

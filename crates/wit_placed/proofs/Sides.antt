@@ -1,32 +1,28 @@
 -- What interfaces and worlds hold, moved.
 use Rattle.std.proofs.Common.{◌≡◌, ℕ, ◌<◌, Bool, true, false, List, [], ◌∷◌, inl, inr, Option, String, refl, sym, subst, ap, ◌∙◌, length, map}
 use Rattle.std.proofs.lemmas.Bool.{and_parts}
-use Rattle.std.specs.List.{list_all}
-use Rattle.std.specs.Prelude.{flat_map, unwrap_or}
+use Rattle.std.specs.Prelude.{unwrap_or}
 use Rattle.std.specs.declared.alloc.Global.{Global}
 use Rattle.wit_order.specs.Order.{Has}
 use Rattle.wit_types.specs.declared.interface.TypeDef.{TypeDef}
-use Rattle.wit_types.specs.declared.kind.«Type».{«Type» as Ref}
 use Rattle.wit_types.specs.declared.function.Function.{Function}
-use Rattle.wit_types.specs.declared.function.FunctionKind.{FunctionKind}
-use Rattle.wit_types.specs.declared.function.FunctionKind.TheVariants as of
-use Rattle.wit_types.specs.declared.function.Param.{Param}
 use Rattle.wit_types.specs.declared.world.WorldItem.{WorldItem}
 use Rattle.wit_types.specs.declared.world_key.WorldKey.{WorldKey}
 use Rattle.wit_types.specs.declared.world_key.WorldKey.TheVariants as key
 use Rattle.wit_types.specs.World.{span_of}
 use Rattle.wit_features.specs.Features.{FeatureSet, stays as gate_stays}
 use Rattle.wit_moves.specs.Breaks.{IsKept}
-use Rattle.wit_moves.specs.Moved.{Places, place_of, is_placed, is_ref_placed, is_part_placed, to, resource_of, is_resource_placed, is_signature_placed, moved_param, moved_function_kind, IsMovedFunction}
+use Rattle.wit_moves.specs.Moved.{Places, place_of, is_placed, to, resource_of, is_resource_placed, is_signature_placed, IsMovedFunction}
 use Rattle.wit_moves.specs.Interfaces.{no_entries, one_goes, one_stays, AreMovedNames, AreMovedFunctions, function_stays, FunctionsBreak}
 use Rattle.wit_moves.specs.Worlds.{item_stays, is_item_placed, IsMovedItem, moved_interface, moved_function, moved_type, moved_entry, AreMovedItems, IsMovedSide, SideBreaks}
-use Rattle.wit_reach.specs.Ids.{ref_ids, part_ids, resource_ids, signature_ids, function_ids, item_ids, side_ids}
+use Rattle.wit_reach.specs.Ids.{function_ids, item_ids, side_ids}
 use Rattle.wit_reach.specs.Types.{AreTypesThere}
 use Rattle.wit_reach.specs.Lists.{item_interface, interfaces_of}
 use Rattle.wit_reach.proofs.Lists.{has_parts}
 use Rattle.wit_elaborated.specs.Worlds.{IsKeyOfItem, AreKeysOfItems}
 use Rattle.wit_moved_trees.proofs.Moving.{either, placed_some}
-use Rattle.wit_moved_trees.proofs.Earlier.{id_below, ref_below, part_below, row_below}
+use Rattle.wit_moved_trees.proofs.Parts.{function_from, function_placed}
+use Rattle.wit_moved_trees.proofs.Earlier.{moved_below, id_below}
 use Rattle.wit_placed.specs.There.{AreBelow, IsSideThere}
 use Rattle.wit_placed.proofs.Members.{has_at}
 
@@ -40,37 +36,22 @@ to_below n places within i p =
 holds : (b : Bool) → (b ≡ false → ⊥) → b ≡ true
 holds b never = elim (either b) as (λ _. b ≡ true) [ inl is ↦ is | inr isnt ↦ absurd (never isnt) ]
 
+-- a function that stays takes and gives what stands somewhere
+pub signature_placed : (features : FeatureSet) (places : Places) (old : List (String Global × Function)) → IsKept (FunctionsBreak features places old) → (e : String Global × Function) → Has old e → function_stays features places e.1 ≡ true
+    → is_signature_placed places e.1.params.items e.1.result ≡ true
+signature_placed features places old kept e h s = holds (is_signature_placed places e.1.params.items e.1.result)
+    (λ u. let r = has_at old e h in kept e.1.span (record { place = r.0; one = e; there = r.1; stays = s; unplaced = u; stands = refl }))
+
 module _ (features : FeatureSet) (places : Places) (types : List TypeDef) (within : AreBelow (length types) places) where
   below : (i : ℕ) → is_placed places i ≡ true → to places i < length types
   below = to_below (length types) places within
 
   -- ---- functions
 
-  resource_below : (k : FunctionKind) (j : ℕ) → is_resource_placed places (resource_of k) ≡ true → Has (resource_ids (moved_function_kind (to places) k)) j → j < length types
-  resource_below of.Freestanding j p h = absurd h
-  resource_below of.AsyncFreestanding j p h = absurd h
-  resource_below (of.Method r) j p h = id_below places (to places) (length types) below r j p h
-  resource_below (of.AsyncMethod r) j p h = id_below places (to places) (length types) below r j p h
-  resource_below (of.Static r) j p h = id_below places (to places) (length types) below r j p h
-  resource_below (of.AsyncStatic r) j p h = id_below places (to places) (length types) below r j p h
-  resource_below (of.Constructor r) j p h = id_below places (to places) (length types) below r j p h
-
-  signature_below : (f g : Function) (j : ℕ) → is_signature_placed places f.params.items f.result ≡ true → IsMovedFunction (to places) f g → Has (signature_ids g) j → j < length types
-  signature_below f g j p m h =
-      let q = and_parts (list_all (λ (x : Param). is_ref_placed places x.ty) f.params.items) (is_part_placed places f.result) p in
-      elim (has_parts (flat_map (λ (x : Param). ref_ids x.ty) g.params.items) (part_ids g.result) j h) as (λ _. j < length types) [
-        | inl a ↦ row_below places (to places) (length types) below (λ (x : Param). ref_ids x.ty) (λ (x : Param). is_ref_placed places x.ty) (moved_param (to places))
-            (λ x. ref_below places (to places) (length types) below x.ty) f.params.items j q.0 (subst (λ (xs : List Param). Has (flat_map (λ (x : Param). ref_ids x.ty) xs) j) m.params a)
-        | inr b ↦ part_below places (to places) (length types) below f.result j q.1 (subst (λ (r : Option Ref). Has (part_ids r) j) m.result b)
-      ]
-
   function_below : (f g : Function) → function_stays features places f ≡ true → is_signature_placed places f.params.items f.result ≡ true → IsMovedFunction (to places) f g → AreTypesThere types (function_ids g)
   function_below f g s p m = λ j h.
       let q = and_parts (gate_stays features f.stability) (is_resource_placed places (resource_of f.kind)) s in
-      elim (has_parts (resource_ids g.kind) (signature_ids g) j h) as (λ _. j < length types) [
-        | inl a ↦ resource_below f.kind j q.1 (subst (λ (k : FunctionKind). Has (resource_ids k) j) m.kind a)
-        | inr b ↦ signature_below f g j p m b
-      ]
+      moved_below places (to places) (length types) below (function_ids f) (function_placed places f q.1 p) j (function_from (to places) f g j m h)
 
   -- those of an interface
   functions_below : (old new : List (String Global × Function))
@@ -86,8 +67,7 @@ module _ (features : FeatureSet) (places : Places) (types : List TypeDef) (withi
 
   pub kept_functions : (old new : List (String Global × Function)) → IsKept (FunctionsBreak features places old)
       → AreMovedFunctions features places old new → (f : Function) → Has (map (λ (e : String Global × Function). e.1) new) f → AreTypesThere types (function_ids f)
-  kept_functions old new kept moved = functions_below old new (λ e h s. holds (is_signature_placed places e.1.params.items e.1.result)
-      (λ u. let r = has_at old e h in kept e.1.span (record { place = r.0; one = e; there = r.1; stays = s; unplaced = u; stands = refl }))) moved
+  kept_functions old new kept moved = functions_below old new (signature_placed features places old kept) moved
 
   pub names_below : (old new : List (String Global × ℕ)) → AreMovedNames places old new → AreTypesThere types (map (λ (e : String Global × ℕ). e.1) new)
   names_below _ _ no_entries = λ j h. absurd h

@@ -1,35 +1,23 @@
 -- Where the types come from that stand in a graph.
-use Rattle.std.proofs.Common.{◌≡◌, ℕ, ◌+◌, ◌<◌, Bool, true, false, ◌&&◌, List, [], ◌∷◌, ◌++◌, ◌⊎◌, inl, inr, Option, Some, None, String, refl, sym, subst, ap, ◌∙◌, arith, length, take, length-append, append_assoc}
+use Rattle.std.proofs.Common.{◌≡◌, ℕ, ◌+◌, Bool, true, false, ◌&&◌, List, [], ◌∷◌, ◌++◌, ◌⊎◌, inl, inr, Option, Some, None, String, refl, sym, subst, ap, ◌∙◌, arith, length, take, length-append, append_assoc}
 use Rattle.std.proofs.lemmas.Bool.{and_parts}
 use Rattle.std.proofs.lemmas.List.{append-nil}
 use Rattle.std.proofs.lemmas.Option.{same_Some}
 use Rattle.std.specs.Prelude.{slice_get, is_some}
 use Rattle.std.specs.declared.alloc.Global.{Global}
-use Rattle.wit_types.specs.declared.kind.«Type».{«Type» as Ref}
-use Rattle.wit_types.specs.declared.kind.«Type».TheVariants as ref
-use Rattle.wit_types.specs.declared.kind.TypeDefKind.{TypeDefKind}
-use Rattle.wit_types.specs.declared.kind.TypeDefKind.TheVariants as kind
 use Rattle.wit_types.specs.declared.interface.TypeDef.{TypeDef}
 use Rattle.wit_types.specs.declared.interface.TypeOwner.{TypeOwner}
 use Rattle.wit_types.specs.declared.interface.TypeOwner.TheVariants as belongs
 use Rattle.wit_features.specs.Features.{FeatureSet, stays as gate_stays}
-use Rattle.wit_moves.specs.Moved.{Places, place_of, is_placed, is_ref_placed, is_kind_placed, to, IsMovedDef}
+use Rattle.wit_moves.specs.Moved.{Places, place_of, is_placed, is_kind_placed, to, IsMovedDef}
 use Rattle.wit_moves.specs.Plan.{OwnerPlaces, is_owner_placed, moved_owner, named_stays, type_stays, Plan, with_place, with_types, AreTypesPlaced, AreMovedDefs, no_defs, left_out, moved as moved_def}
-use Rattle.wit_reach.specs.Deps.{alias_target, ref_id, interface_of}
+use Rattle.wit_reach.specs.Deps.{interface_of}
+use Rattle.wit_reach.specs.Ids.{kind_ids}
+use Rattle.wit_moved_trees.proofs.Parts.{ArePlaced, kind_placed}
 use Rattle.wit_arena.proofs.Lists.{get_kept, get_last, get_more}
-use Rattle.wit_moved_trees.specs.There.{AreWithin}
 use Rattle.wit_moved_trees.proofs.Moving.{either, placed_some, place_kept, place_more, plan_grows, plan_append, plan_length, take_front, get_here}
 use Rattle.wit_moved_trees.proofs.Earlier.{placed_where_stays}
 use Rattle.wit_placed.specs.Order.{AreNamelessFree}
-
--- what another name is of stands somewhere where the definition does
-target_placed : (places : Places) (k : TypeDefKind) (u : ℕ) → is_kind_placed places k ≡ true → alias_target k ≡ Some u → is_placed places u ≡ true
-target_placed places (kind.Alias r) u p t = of_ref r p t
-  where
-    of_ref : (r : Ref) → is_ref_placed places r ≡ true → ref_id r ≡ Some u → is_placed places u ≡ true
-    of_ref (ref.Id i) p t = subst (λ (j : ℕ). is_placed places j ≡ true) (same_Some i u t) p
-    of_ref _ p t = absurd cc
-target_placed places _ u p t = absurd cc
 
 -- what belongs to an interface belongs to one that stands somewhere
 pub owner_stands : (owners : OwnerPlaces) (o : TypeOwner) (j : ℕ) → is_owner_placed owners o ≡ true → interface_of (moved_owner owners o) ≡ Some j → (i : ℕ) × (o ≡ belongs.Interface i) × (place_of owners.interfaces i ≡ Some j)
@@ -40,7 +28,7 @@ owner_stands owners (belongs.Interface i) j p e =
 owner_stands owners (belongs.World w) j p e = absurd cc
 owner_stands owners belongs.None j p e = absurd cc
 
-module _ (features : FeatureSet) (owners : OwnerPlaces) (others places : Places) (graph own : List TypeDef) (others_within : AreWithin graph others) (nameless : AreNamelessFree own)
+module _ (features : FeatureSet) (owners : OwnerPlaces) (others places : Places) (graph own : List TypeDef) (nameless : AreNamelessFree own)
     (placed : AreTypesPlaced features owners others (length graph) own places)
   where
     abbrev begun : Plan
@@ -59,12 +47,19 @@ module _ (features : FeatureSet) (owners : OwnerPlaces) (others places : Places)
       pub is : slice_get (graph ++ fs) j ≡ Some new
       pub moved : IsMovedDef (to places) (moved_owner owners old.owner) old new
       pub owned : is_owner_placed owners old.owner ≡ true
-      pub target : (u : ℕ) → alias_target old.kind ≡ Some u → is_placed places u ≡ true
+      pub parts : ArePlaced places (kind_ids old.kind)
+
+    -- what it was
+    pub record IsWas (xs : List TypeDef) (new : TypeDef) : Type 0 where
+      pub place : ℕ
+      pub old : TypeDef
+      pub was : slice_get xs place ≡ Some old
+      pub moved : IsMovedDef (to places) (moved_owner owners old.owner) old new
+      pub owned : is_owner_placed owners old.owner ≡ true
 
     pub record AreSources (xs fs : List TypeDef) (stands : Places) : Type 0 where
-      pub sources : (i j : ℕ) → place_of stands i ≡ Some j → (j < length graph) ⊎ IsFrom xs fs i j
-      -- each that belongs to an interface belongs to one that stands somewhere
-      pub owned : (i j : ℕ) (d : TypeDef) → slice_get fs i ≡ Some d → interface_of d.owner ≡ Some j → (k : ℕ) × (place_of owners.interfaces k ≡ Some j)
+      pub sources : (i j : ℕ) → place_of stands i ≡ Some j → (place_of others i ≡ Some j) ⊎ IsFrom xs fs i j
+      pub were : (i : ℕ) (d : TypeDef) → slice_get fs i ≡ Some d → IsWas xs d
 
     record SoFar (xs fs : List TypeDef) : Type 0 where
       next : (plan xs).next ≡ length graph + length fs
@@ -73,13 +68,13 @@ module _ (features : FeatureSet) (owners : OwnerPlaces) (others places : Places)
     none_yet : SoFar [] []
     none_yet = record {
       next = omega arith;
-      are = record { sources = λ i j p. inl (others_within i j p); owned = λ i j d g e. absurd cc };
+      are = record { sources = λ i j p. inl p; were = λ i d g. absurd cc };
     }
 
     -- one more of the package's own, whether it stays or not
-    more_from : (xs fs es : List TypeDef) (d : TypeDef) (i j : ℕ) → (j < length graph) ⊎ IsFrom xs fs i j → (j < length graph) ⊎ IsFrom (xs ++ d ∷ []) (fs ++ es) i j
+    more_from : (xs fs es : List TypeDef) (d : TypeDef) (i j : ℕ) → (place_of others i ≡ Some j) ⊎ IsFrom xs fs i j → (place_of others i ≡ Some j) ⊎ IsFrom (xs ++ d ∷ []) (fs ++ es) i j
     more_from xs fs es d i j s =
-        elim s as (λ _. (j < length graph) ⊎ IsFrom (xs ++ d ∷ []) (fs ++ es) i j) [
+        elim s as (λ _. (place_of others i ≡ Some j) ⊎ IsFrom (xs ++ d ∷ []) (fs ++ es) i j) [
           | inl l ↦ inl l
           | inr f ↦ inr (record {
             place = f.place;
@@ -90,9 +85,12 @@ module _ (features : FeatureSet) (owners : OwnerPlaces) (others places : Places)
             is = subst (λ (b : List TypeDef). slice_get b j ≡ Some f.new) (append_assoc graph fs es) (get_kept (graph ++ fs) es j f.new f.is);
             moved = f.moved;
             owned = f.owned;
-            target = f.target;
+            parts = f.parts;
           })
         ]
+
+    more_was : (xs : List TypeDef) (d e : TypeDef) → IsWas xs e → IsWas (xs ++ d ∷ []) e
+    more_was xs d e w = record { place = w.place; old = w.old; was = get_kept xs (d ∷ []) w.place w.old w.was; moved = w.moved; owned = w.owned }
 
     module _ (xs ys fs : List TypeDef) (d : TypeDef) (split : xs ++ d ∷ ys ≡ own) (so_far : SoFar xs fs) where
       abbrev stays : Bool
@@ -121,11 +119,11 @@ module _ (features : FeatureSet) (owners : OwnerPlaces) (others places : Places)
           record {
             next = ap (λ (p : Plan). p.next) now ∙ so_far.next;
             are = record {
-              sources = λ i j p. elim (place_more (plan xs).places None i j (subst (λ (q : Plan). place_of q.places i ≡ Some j) now p)) as (λ _. (j < length graph) ⊎ IsFrom (xs ++ d ∷ []) fs i j) [
-                | inl was ↦ subst (λ (gs : List TypeDef). (j < length graph) ⊎ IsFrom (xs ++ d ∷ []) gs i j) (append-nil fs) (more_from xs fs [] d i j (so_far.are.sources i j was))
+              sources = λ i j p. elim (place_more (plan xs).places None i j (subst (λ (q : Plan). place_of q.places i ≡ Some j) now p)) as (λ _. (place_of others i ≡ Some j) ⊎ IsFrom (xs ++ d ∷ []) fs i j) [
+                | inl was ↦ subst (λ (gs : List TypeDef). (place_of others i ≡ Some j) ⊎ IsFrom (xs ++ d ∷ []) gs i j) (append-nil fs) (more_from xs fs [] d i j (so_far.are.sources i j was))
                 | inr last ↦ absurd (let e : None ≡ Some j = last.1 in cc)
               ];
-              owned = so_far.are.owned;
+              were = λ i e at. more_was xs d e (so_far.are.were i e at);
             };
           }
 
@@ -149,9 +147,9 @@ module _ (features : FeatureSet) (owners : OwnerPlaces) (others places : Places)
               }))
             ]
 
-        target : (u : ℕ) → alias_target d.kind ≡ Some u → is_placed places u ≡ true
-        target u t =
-            let s = placed_some (place_of (plan xs).places u) (target_placed (plan xs).places d.kind u kind_there t) in
+        parts : ArePlaced places (kind_ids d.kind)
+        parts u h =
+            let s = placed_some (place_of (plan xs).places u) (kind_placed (plan xs).places d.kind kind_there u h) in
             let k : place_of places u ≡ Some s.0 = subst (λ (ps : Places). place_of ps u ≡ Some s.0) (sym first_places.1) (place_kept (plan xs).places first_places.0 u s.0 s.1) in
             ap is_some k
 
@@ -176,7 +174,7 @@ module _ (features : FeatureSet) (owners : OwnerPlaces) (others places : Places)
               (subst (λ (k : ℕ). slice_get ((graph ++ fs) ++ e ∷ []) k ≡ Some e) (length-append graph fs ∙ sym so_far.next ∙ is_next) (get_last (graph ++ fs) e));
           moved = is;
           owned = owner_there;
-          target = target;
+          parts = parts;
         }
 
         moves : length (plan xs).places ≡ length others + length xs → SoFar (xs ++ d ∷ []) (fs ++ e ∷ [])
@@ -187,13 +185,13 @@ module _ (features : FeatureSet) (owners : OwnerPlaces) (others places : Places)
             record {
               next = ap (λ (p : Plan). p.next) now ∙ (let r : (plan xs).next + 1 ≡ length graph + length (fs ++ e ∷ []) = omega (arith, last_length, before) in r);
               are = record {
-                sources = λ i j p. elim (place_more (plan xs).places (Some (plan xs).next) i j (subst (λ (q : Plan). place_of q.places i ≡ Some j) now p)) as (λ _. (j < length graph) ⊎ IsFrom (xs ++ d ∷ []) (fs ++ e ∷ []) i j) [
+                sources = λ i j p. elim (place_more (plan xs).places (Some (plan xs).next) i j (subst (λ (q : Plan). place_of q.places i ≡ Some j) now p)) as (λ _. (place_of others i ≡ Some j) ⊎ IsFrom (xs ++ d ∷ []) (fs ++ e ∷ []) i j) [
                   | inl was ↦ more_from xs fs (e ∷ []) d i j (so_far.are.sources i j was)
                   | inr last ↦ inr (last_from i j last.0 (same_Some (plan xs).next j last.1) long)
                 ];
-                owned = λ i j f at o. elim (get_more fs e f i at) as (λ _. (k : ℕ) × (place_of owners.interfaces k ≡ Some j)) [
-                  | inl was ↦ so_far.are.owned i j f was o
-                  | inr last ↦ (let r = owner_stands owners d.owner j owner_there (sym (ap interface_of is.owner_is) ∙ subst (λ (x : TypeDef). interface_of x.owner ≡ Some j) last.1 o) in (r.0, r.2))
+                were = λ i g at. elim (get_more fs e g i at) as (λ _. IsWas (xs ++ d ∷ []) g) [
+                  | inl was ↦ more_was xs d g (so_far.are.were i g was)
+                  | inr last ↦ record { place = length xs; old = d; was = get_last xs d; moved = subst (IsMovedDef (to places) (moved_owner owners d.owner) d) (sym last.1) is; owned = owner_there }
                 ];
               };
             }
@@ -208,4 +206,4 @@ module _ (features : FeatureSet) (owners : OwnerPlaces) (others places : Places)
     pub all_sources : (fs : List TypeDef) → AreMovedDefs owners places (length others) own fs → AreSources own fs places
     all_sources fs m =
         let s = (all_so_far own fs m [] (append-nil own)).are in
-        record { sources = λ i j p. s.sources i j (subst (λ (ps : Places). place_of ps i ≡ Some j) placed.are p); owned = s.owned }
+        record { sources = λ i j p. s.sources i j (subst (λ (ps : Places). place_of ps i ≡ Some j) placed.are p); were = s.were }

@@ -7,13 +7,17 @@ use Rattle.wit_features.specs.Features.{FeatureSet}
 use Rattle.wit_moves.specs.Moved.{Places}
 use Rattle.wit_moves.specs.Plan.{OwnerPlaces, AreTypesPlaced, AreMovedDefs}
 use Rattle.wit_finding.specs.Own.{placed}
-use Rattle.wit_plans.specs.Checks.{Standing}
+use Rattle.wit_moves.specs.Breaks.{AnyOf, IsKept}
+use Rattle.wit_finding.specs.Types.{type_found}
+use Rattle.wit_plans.specs.Checks.{Standing, InterfaceBreaks}
 use Rattle.wit_plans.specs.Moves.{AreMovedInterfaces}
 use Rattle.wit_reach.specs.Deps.{IsInterfaceDep}
+use Rattle.wit_reach.specs.Holding.{HoldTheirTypes}
 use Rattle.wit_reach.specs.Lists.{AreOwnersThere}
 use Rattle.wit_reach.specs.Types.{AreTypesBackward}
 use Rattle.wit_moved_trees.specs.There.{AreWithin}
-use Rattle.wit_placed.specs.There.{AreBelow}
+use Rattle.wit_placed.specs.There.{AreBelow, IsInterfaceThere}
+use Rattle.wit_order.specs.Order.{Has}
 
 -- types without a name belong nowhere
 abbrev pub AreNamelessFree : List TypeDef → Type 0
@@ -52,10 +56,14 @@ MovedTypesBelong =
     → AreBehind features owners s owner foreign own graph moved others own_interfaces new_interfaces others_interfaces base
     → AreOwnersThere (base + length new_interfaces) (graph ++ moved)
 
--- and, where the package's interfaces are in order, each uses types of interfaces before it alone
-abbrev pub MovedInterfacesAreInOrder : Type 0
-MovedInterfacesAreInOrder =
-    (features : FeatureSet) (owners : OwnerPlaces) (s : Standing) (owner : ℕ) (foreign own graph moved : List TypeDef) (others : Places) (own_interfaces new_interfaces : List Interface) (others_interfaces : Places) (base : ℕ)
-    → AreBehind features owners s owner foreign own graph moved others own_interfaces new_interfaces others_interfaces base
-    → AreInOrder (length others_interfaces) (foreign ++ own) own_interfaces
-    → AreInOrder base (graph ++ moved) new_interfaces
+-- and, where the package's interfaces hold their types and so do those of the graph, among which types of other packages are found, so do
+-- all of them
+abbrev pub MovedInterfacesHoldTheirTypes : Type 0
+MovedInterfacesHoldTheirTypes =
+    (features : FeatureSet) (owners : OwnerPlaces) (s : Standing) (owner : ℕ) (foreign own graph moved : List TypeDef) (others : Places) (own_interfaces new_interfaces interfaces : List Interface) (others_interfaces : Places)
+    → AreBehind features owners s owner foreign own graph moved others own_interfaces new_interfaces others_interfaces (length interfaces)
+    → IsKept (AnyOf (InterfaceBreaks features s) own_interfaces)
+    → others ≡ map (type_found interfaces others_interfaces) foreign
+    → ((d : Interface) → Has interfaces d → IsInterfaceThere graph d) → HoldTheirTypes 0 graph interfaces
+    → HoldTheirTypes (length others_interfaces) (foreign ++ own) own_interfaces
+    → HoldTheirTypes 0 (graph ++ moved) (interfaces ++ new_interfaces)

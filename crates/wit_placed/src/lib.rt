@@ -7,6 +7,6 @@ mod there;
 
 pub use found::{law_found_are_there, law_found_types_are_there};
 pub use places::{
-    law_interfaces_take_places, law_moved_interfaces_are_in_order, law_moved_types_belong,
+    law_interfaces_take_places, law_moved_interfaces_hold_their_types, law_moved_types_belong,
 };
 pub use there::{law_moved_interfaces_are_there, law_moved_worlds_are_there};

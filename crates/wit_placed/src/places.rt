@@ -1,6 +1,6 @@
 //! Laws of the places that a package takes in a graph.
 
-ghost use Rattle.wit_placed.specs.Order.{InterfacesTakePlaces, MovedInterfacesAreInOrder, MovedTypesBelong};
+ghost use Rattle.wit_placed.specs.Order.{InterfacesTakePlaces, MovedInterfacesHoldTheirTypes, MovedTypesBelong};
 
 /// Interfaces that stay take so many places behind those of a graph as they are.
 pub fn law_interfaces_take_places()
@@ -12,7 +12,8 @@ pub fn law_moved_types_belong()
     ensures { MovedTypesBelong }
 {}
 
-/// Where the interfaces of a package use types of those before them alone, so they do in a graph.
-pub fn law_moved_interfaces_are_in_order()
-    ensures { MovedInterfacesAreInOrder }
+/// Where the interfaces of a package hold their types, and those of a graph theirs, among which types of other packages are found, so do
+/// all of them.
+pub fn law_moved_interfaces_hold_their_types()
+    ensures { MovedInterfacesHoldTheirTypes }
 {}

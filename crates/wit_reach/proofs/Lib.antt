@@ -7,3 +7,4 @@ pub mod Items
 pub mod Growing
 pub mod Seen
 pub mod Sorting
+pub mod Holding

@@ -1,6 +1,6 @@
 -- What interfaces hold: types that belong to them, and functions, made of what is theirs or of earlier interfaces (WIT, Item: `interface`,
 -- Use).
-use Rattle.std.specs.Prelude.{◌≡◌, ℕ, ◌+◌, ◌≤◌, List, Some, String, map, flat_map, slice_get, string_bytes}
+use Rattle.std.specs.Prelude.{◌≡◌, ℕ, ◌+◌, ◌<◌, ◌≤◌, List, Some, String, length, map, flat_map, slice_get, string_bytes}
 use Rattle.std.specs.declared.alloc.Global.{Global}
 use Rattle.wit_types.specs.declared.function.Function.{Function}
 use Rattle.wit_types.specs.declared.interface.Interface.{Interface}
@@ -11,6 +11,8 @@ use Rattle.wit_order.specs.Order.{Has}
 use Rattle.wit_reach.specs.Paths.{Reaches}
 use Rattle.wit_reach.specs.Ids.{function_ids}
 use Rattle.wit_reach.specs.Types.{IsMadeOf}
+use Rattle.wit_reach.specs.Deps.{IsInterfaceDep}
+use Rattle.wit_reach.specs.Lists.{AreOwnersThere}
 use Rattle.wit_reach.specs.Needed.{BelongsTo}
 
 -- the ids of its types, and those of which its functions are made
@@ -36,7 +38,11 @@ IsMadeUpTo types a s = (k : ℕ) (d : TypeDef) → Reaches (IsMadeOf types) s k 
 abbrev pub TypesUseEarlier : List TypeDef → Type 0
 TypesUseEarlier types = (i a : ℕ) → BelongsTo types i a → IsMadeUpTo types a i
 
--- so are functions of interfaces that stand behind so many others
+-- so are those that stand in interfaces behind so many others
+abbrev pub ListedUseEarlier : ℕ → List TypeDef → List Interface → Type 0
+ListedUseEarlier others types own = (k s : ℕ) (d : Interface) → slice_get own k ≡ Some d → Has (listed_types d) s → IsMadeUpTo types (others + k) s
+
+-- and functions of these interfaces
 abbrev pub FunctionsUseEarlier : ℕ → List TypeDef → List Interface → Type 0
 FunctionsUseEarlier others types own = (k s : ℕ) (d : Interface) → slice_get own k ≡ Some d → Has (functions_ids d) s → IsMadeUpTo types (others + k) s
 
@@ -63,9 +69,18 @@ AreTheirs others types own = (k : ℕ) (d : Interface) (e : String Global × ℕ
 abbrev pub AreListed : ℕ → List TypeDef → List Interface → Type 0
 AreListed others types own = (i k : ℕ) (d : Interface) → slice_get own k ≡ Some d → BelongsTo types i (others + k) → Has (listed_types d) i
 
--- interfaces that stand behind so many others, whose types and functions are made of theirs and of those of earlier ones
+-- interfaces that stand behind so many others, whose types and functions are made of what is theirs or of earlier ones
 pub record HoldTheirTypes (others : ℕ) (types : List TypeDef) (own : List Interface) : Type 0 where
   pub named : AreNamedOwned types
   pub theirs : AreTheirs others types own
-  pub types_use : TypesUseEarlier types
+  pub types_use : ListedUseEarlier others types own
   pub functions_use : FunctionsUseEarlier others types own
+
+-- where all types of interfaces stand in them, all are made of types of these and of earlier ones
+abbrev pub ListedTypesAreAll : Type 0
+ListedTypesAreAll = (types : List TypeDef) (interfaces : List Interface) → AreOwnersThere (length interfaces) types → AreListed 0 types interfaces → ListedUseEarlier 0 types interfaces → TypesUseEarlier types
+
+-- and each uses types of interfaces before it alone
+abbrev pub HeldAreInOrder : Type 0
+HeldAreInOrder = (others : ℕ) (types : List TypeDef) (own : List Interface) → HoldTheirTypes others types own
+    → (k j : ℕ) (d : Interface) → slice_get own k ≡ Some d → IsInterfaceDep types d j → j < others + k

@@ -3,6 +3,7 @@
 #![tactic(auto)]
 
 mod deps;
+mod held;
 mod ids;
 mod made;
 mod needed;
@@ -11,6 +12,7 @@ mod types;
 mod world;
 
 pub use deps::{interface_deps, type_interface_dep};
+pub use held::{law_held_are_in_order, law_listed_types_are_all};
 pub use ids::{add_function, add_kind};
 pub use made::{law_seen_is_made, made_of, made_of_within};
 pub use needed::NeededTypes;

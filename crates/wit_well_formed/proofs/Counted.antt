@@ -24,7 +24,7 @@ use Rattle.wit_foreign.specs.Deps.{AreEntries, IsItemDep, AreItemDeps, IsPackage
 use Rattle.wit_foreign.proofs.Numbers.{interface_number, world_number, interface_below}
 use Rattle.wit_resolved_scopes.proofs.Orders.{placed}
 use Rattle.wit_finding.specs.Asks.{IsItemThere, AreItemsThere, AreDepsThere, items_of}
-use Rattle.wit_well_formed.proofs.Lists.{got}
+use Rattle.wit_reach.proofs.Holding.{got}
 
 -- ---- spans
 

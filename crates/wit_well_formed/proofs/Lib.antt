@@ -1,11 +1,12 @@
 mod Lists
 mod Nameless
-mod Aliases
 mod Others
 mod Counted
 mod Keys
 mod Apart
 mod Order
+mod Earlier
+mod Holding
 mod Offsets
 pub mod Whole
 mod Parsed

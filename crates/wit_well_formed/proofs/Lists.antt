@@ -11,11 +11,6 @@ use Rattle.wit_resolved_scopes.specs.Each.{AreApartBy}
 use Rattle.wit_readiness.proofs.Flat.{in_flat}
 
 module _ {X : Type 0} where
-  pub got : (xs : List X) (k : ℕ) → k < length xs → (x : X) × (slice_get xs k ≡ Some x)
-  got [] k less = absurd (omega (arith, less))
-  got (x ∷ xs) zero less = (x, refl)
-  got (x ∷ xs) (suc k) less = got xs k (omega (arith, less))
-
   pub get_drop : (n : ℕ) (xs : List X) (k : ℕ) (x : X) → slice_get (drop n xs) k ≡ Some x → slice_get xs (n + k) ≡ Some x
   get_drop zero xs k x h = let e : 0 + k ≡ k = omega arith in rw e h
   get_drop (suc n) [] k x h = absurd cc
@@ -37,11 +32,6 @@ module _ {X Y : Type 0} (f : X → Y) where
   -- the same behind the first of them
   pub got_behind : (n : ℕ) (xs : List X) (k : ℕ) (y : Y) → slice_get (drop n (map f xs)) k ≡ Some y → (x : X) × (slice_get (drop n xs) k ≡ Some x) × (f x ≡ y)
   got_behind n xs k y h = got_mapped (drop n xs) k y (subst (λ (ys : List Y). slice_get ys k ≡ Some y) (drop-map f n xs) h)
-
-  pub has_mapped : (xs : List X) (y : Y) → order.Has (map f xs) y → (x : X) × order.Has xs x × (f x ≡ y)
-  has_mapped [] y h = absurd h
-  has_mapped (x ∷ xs) y (inl here) = (x, inl refl, sym here)
-  has_mapped (x ∷ xs) y (inr there) = (let r = has_mapped xs y there in (r.0, inr r.1, r.2))
 
 -- ---- apart
 

@@ -1,15 +1,20 @@
 -- What is well formed stays so wherever its places are.
-use Rattle.std.proofs.Common.{◌≡◌, ℕ, zero, suc, List, [], ◌∷◌, Option, Some, None, map, length, drop, refl, sym, subst, ap, ◌∙◌, arith}
-use Rattle.std.proofs.lemmas.List.{drop-map, length-map}
-use Rattle.std.specs.Prelude.{Vec}
+use Rattle.std.proofs.Common.{◌≡◌, ℕ, ◌+◌, List, [], ◌∷◌, ◌++◌, Some, None, map, length, drop, refl, sym, subst, ap, ◌∙◌, arith}
+use Rattle.std.proofs.lemmas.List.{drop-map, length-map, with_items_is}
+use Rattle.std.proofs.lemmas.List.Folds.{flat_map-map}
+use Rattle.std.proofs.lemmas.Option.{slice_get-map}
+use Rattle.std.specs.Prelude.{slice_get, flat_map, option_map, String, Vec}
 use Rattle.std.specs.declared.alloc.Global.{Global}
 use Rattle.wit_order.specs.Order.{Has}
 use Rattle.wit_words.specs.declared.source_map.Span.{Span}
+use Rattle.wit_types.specs.declared.function.Function.{Function}
+use Rattle.wit_types.specs.declared.function.Param.{Param}
+use Rattle.wit_types.specs.declared.kind.Case.{Case}
+use Rattle.wit_types.specs.declared.kind.Field.{Field}
 use Rattle.wit_types.specs.declared.kind.TypeDefKind.{TypeDefKind}
 use Rattle.wit_types.specs.declared.kind.TypeDefKind.TheVariants as kind
 use Rattle.wit_types.specs.declared.interface.Interface.{Interface}
 use Rattle.wit_types.specs.declared.interface.TypeDef.{TypeDef}
-use Rattle.wit_types.specs.declared.interface.TypeOwner.{TypeOwner}
 use Rattle.wit_types.specs.declared.«package».AstItem.TheVariants as asked_item
 use Rattle.wit_types.specs.declared.«package».AstItem.{AstItem}
 use Rattle.wit_types.specs.declared.«package».UnresolvedPackage.{UnresolvedPackage}
@@ -20,52 +25,84 @@ use Rattle.wit_types.specs.declared.world_key.WorldKey.{WorldKey}
 use Rattle.wit_types.specs.declared.world_key.WorldKey.TheVariants as key
 use Rattle.wit_elaborated.specs.Worlds.{IsKeyOfItem, AreKeysOfItems}
 use Rattle.wit_finding.specs.Asks.{IsItemThere}
-use Rattle.wit_reach.specs.Deps.{alias_target, at_target, owned, def_dep, IsDepOf, IsInterfaceDep}
-use Rattle.wit_offsets.specs.Offsets.{items_by, kind_by, type_def_by, interface_by, item_by, world_by, package_by, span_at}
-use Rattle.wit_placed.specs.Order.{AreNamelessFree, AreInOrder}
+use Rattle.wit_reach.specs.Holding.{IsUpTo, IsMadeUpTo, listed_types, functions_ids, IsTypeUnder, HoldTheirTypes}
+use Rattle.wit_reach.specs.Ids.{ref_ids, part_ids, kind_ids, resource_ids, function_ids}
+use Rattle.wit_reach.specs.Types.{IsMadeOf}
+use Rattle.wit_reach.proofs.Seen.{path_over}
+use Rattle.wit_offsets.specs.Offsets.{items_by, param_by, function_by, field_by, case_by, kind_by, type_def_by, interface_by, item_by, world_by, package_by, span_at}
+use Rattle.wit_placed.specs.Order.{AreNamelessFree}
 use Rattle.wit_graph_parts.specs.Own.{asked, asked_types, IsWellFormed}
 use Rattle.wit_well_formed.specs.Law.{MovedPackagesAreWellFormed}
-use Rattle.wit_well_formed.proofs.Lists.{got_mapped, got_behind, has_mapped}
+use Rattle.wit_reach.proofs.Holding.{has_mapped}
+use Rattle.wit_well_formed.proofs.Lists.{got_mapped, got_behind}
 
 same_length : {X : Type 0} (g : X → X) (v : Vec X Global) → length (items_by g v).items ≡ length v.items
 same_length g v = sym (items_by g v).ok.0 ∙ v.ok.0
 
+items_are : {X : Type 0} (g : X → X) (v : Vec X Global) → (items_by g v).items ≡ map g v.items
+items_are g v = with_items_is v (map g v.items) (length-map v.items g ∙ sym v.ok.0)
+
 module _ (f : Span → Span) where
-  -- ---- types, which are other names of the same
+  -- ---- types, which are made of the same
 
-  same_target : (k : TypeDefKind) → alias_target (kind_by f k) ≡ alias_target k
-  same_target (kind.Record r) = refl
-  same_target kind.Resource = refl
-  same_target (kind.Handle h) = refl
-  same_target (kind.Flags x) = refl
-  same_target (kind.Tuple t) = refl
-  same_target (kind.Variant v) = refl
-  same_target (kind.Enum e) = refl
-  same_target (kind.Option r) = refl
-  same_target (kind.Result r) = refl
-  same_target (kind.List r) = refl
-  same_target (kind.FixedLengthList r n) = refl
-  same_target (kind.Future p) = refl
-  same_target (kind.Stream p) = refl
-  same_target (kind.Alias r) = refl
-  same_target kind.Unknown = refl
+  same_ids : (k : TypeDefKind) → kind_ids (kind_by f k) ≡ kind_ids k
+  same_ids (kind.Record r) = ap (flat_map (λ (x : Field). ref_ids x.ty)) (items_are (field_by f) r.fields) ∙ flat_map-map (λ (x : Field). ref_ids x.ty) (field_by f) r.fields.items
+  same_ids kind.Resource = refl
+  same_ids (kind.Handle h) = refl
+  same_ids (kind.Flags x) = refl
+  same_ids (kind.Tuple t) = refl
+  same_ids (kind.Variant v) = ap (flat_map (λ (c : Case). part_ids c.ty)) (items_are (case_by f) v.cases) ∙ flat_map-map (λ (c : Case). part_ids c.ty) (case_by f) v.cases.items
+  same_ids (kind.Enum e) = refl
+  same_ids (kind.Option r) = refl
+  same_ids (kind.Result r) = refl
+  same_ids (kind.List r) = refl
+  same_ids (kind.FixedLengthList r n) = refl
+  same_ids (kind.Future p) = refl
+  same_ids (kind.Stream p) = refl
+  same_ids (kind.Alias r) = refl
+  same_ids kind.Unknown = refl
 
-  same_owned : (ds : List TypeDef) (at : Option ℕ) (by : TypeOwner) → owned (at_target (map (type_def_by f) ds) at) by ≡ owned (at_target ds at) by
-  same_owned ds None by = refl
-  same_owned [] (Some i) by = refl
-  same_owned (d ∷ ds) (Some zero) by = refl
-  same_owned (d ∷ ds) (Some (suc i)) by = same_owned ds (Some i) by
+  made_of : (ds : List TypeDef) (i j : ℕ) → IsMadeOf (map (type_def_by f) ds) i j → IsMadeOf ds i j
+  made_of ds i j (d, at, has) =
+      let o = got_mapped (type_def_by f) ds i d at in
+      (o.0, o.1, subst (λ (is : List ℕ). Has is j) (same_ids o.0.kind) (subst (λ (x : TypeDef). Has (kind_ids x.kind) j) (sym o.2) has))
 
-  same_dep : (ds : List TypeDef) (d : TypeDef) → def_dep (map (type_def_by f) ds) (type_def_by f d) ≡ def_dep ds d
-  same_dep ds d = ap (λ (at : Option ℕ). owned (at_target (map (type_def_by f) ds) at) d.owner) (same_target d.kind) ∙ same_owned ds (alias_target d.kind) d.owner
+  made_up_to : (ds : List TypeDef) (a s : ℕ) → IsMadeUpTo ds a s → IsMadeUpTo (map (type_def_by f) ds) a s
+  made_up_to ds a s up k d reach at =
+      let o = got_mapped (type_def_by f) ds k d at in
+      subst (λ (x : TypeDef). IsUpTo a x.owner) o.2 (up k o.0 (reach.0, path_over (IsMadeOf (map (type_def_by f) ds)) (IsMadeOf ds) (made_of ds) s reach.0 k reach.1) o.1)
 
-  dep_of : (ds : List TypeDef) (i j : ℕ) → IsDepOf (map (type_def_by f) ds) i j → IsDepOf ds i j
-  dep_of ds i j dep =
-      let d = got_mapped (type_def_by f) ds i dep.0 dep.1 in
-      (d.0, d.1, sym (same_dep ds d.0) ∙ ap (def_dep (map (type_def_by f) ds)) d.2 ∙ dep.2)
+  -- ---- interfaces, which hold the same
 
-  interface_dep : (ds : List TypeDef) (i : Interface) (j : ℕ) → IsInterfaceDep (map (type_def_by f) ds) (interface_by f i) j → IsInterfaceDep ds i j
-  interface_dep ds i j dep = (dep.0, dep.1, dep_of ds dep.0 j dep.2)
+  same_function : (x : Function) → function_ids (function_by f x) ≡ function_ids x
+  same_function x =
+      ap (λ (is : List ℕ). resource_ids x.kind ++ (is ++ part_ids x.result))
+      (ap (flat_map (λ (p : Param). ref_ids p.ty)) (items_are (param_by f) x.params) ∙ flat_map-map (λ (p : Param). ref_ids p.ty) (param_by f) x.params.items)
+
+  same_functions : (es : List (String Global × Function)) → flat_map (λ (e : String Global × Function). function_ids e.1) (map (λ (e : String Global × Function). (e.0, function_by f e.1)) es) ≡ flat_map (λ (e : String Global × Function). function_ids e.1) es
+  same_functions [] = refl
+  same_functions (e ∷ es) = (let p = same_function e.1 in let q = same_functions es in λ i. (p i) ++ (q i))
+
+  type_under : (ds : List TypeDef) (n : ℕ) (e : String Global × ℕ) → IsTypeUnder ds n e → IsTypeUnder (map (type_def_by f) ds) n e
+  type_under ds n e u = record {
+    type_def = type_def_by f u.type_def;
+    there = slice_get-map (type_def_by f) ds e.1 ∙ ap (option_map (type_def_by f)) u.there;
+    its = u.its;
+    own_name = u.own_name;
+    named = u.named;
+    is = u.is;
+  }
+
+  module _ (ds : List TypeDef) (others : ℕ) (is : List Interface) (hold : HoldTheirTypes others ds (drop others is)) where
+    same_hold : HoldTheirTypes others (map (type_def_by f) ds) (drop others (map (interface_by f) is))
+    same_hold = record {
+      named = λ i d x at named none. (let o = got_mapped (type_def_by f) ds i d at in hold.named i o.0 x o.1 (ap (λ (y : TypeDef). y.name) o.2 ∙ named) (ap (λ (y : TypeDef). y.owner) o.2 ∙ none));
+      theirs = λ k d e at h. (let o = got_behind (interface_by f) others is k d at in type_under ds (others + k) e (hold.theirs k o.0 e o.1 (subst (λ (x : Interface). Has x.types.entries e) (sym o.2) h)));
+      types_use = λ k s d at h. (let o = got_behind (interface_by f) others is k d at in made_up_to ds (others + k) s (hold.types_use k s o.0 o.1 (subst (λ (x : Interface). Has (listed_types x) s) (sym o.2) h)));
+      functions_use = λ k s d at h.
+          (let o = got_behind (interface_by f) others is k d at in
+          made_up_to ds (others + k) s (hold.functions_use k s o.0 o.1 (subst (λ (ids : List ℕ). Has ids s) (same_functions o.0.functions.entries) (subst (λ (x : Interface). Has (functions_ids x) s) (sym o.2) h))));
+    }
 
   -- ---- what worlds import
 
@@ -94,11 +131,6 @@ module _ (f : Span → Span) where
         let o = got_behind (type_def_by f) (asked_types p) p.types k d at in
         ap (λ (x : TypeDef). x.owner) (sym o.2) ∙ w.nameless k o.0 o.1 (ap (λ (x : TypeDef). x.name) o.2 ∙ none)
 
-    in_order : AreInOrder (asked p).interfaces (map (type_def_by f) p.types) (drop (asked p).interfaces (map (interface_by f) p.interfaces))
-    in_order k j i at dep =
-        let o = got_behind (interface_by f) (asked p).interfaces p.interfaces k i at in
-        w.in_order k j o.0 o.1 (interface_dep p.types o.0 j (subst (λ (x : Interface). IsInterfaceDep (map (type_def_by f) p.types) x j) (sym o.2) dep))
-
     keys : (x : World) → Has (drop (asked p).worlds (map (world_by f) p.worlds)) x → AreKeysOfItems x.imports.entries
     keys x has =
         let o = has_mapped (world_by f) (drop (asked p).worlds p.worlds) x (subst (λ (ws : List World). Has ws x) (drop-map (world_by f) (asked p).worlds p.worlds) has) in
@@ -110,7 +142,7 @@ module _ (f : Span → Span) where
       deps = λ es has e among. item_there p.interfaces p.worlds e.1.0 (w.deps es has e among);
       unknown = (let few = w.unknown in let e = length-map p.types (type_def_by f) in omega (arith, few, e, asked_for));
       nameless = subst (λ (n : ℕ). AreNamelessFree (drop n (map (type_def_by f) p.types))) (sym asked_for) nameless;
-      in_order = in_order;
+      holds = same_hold p.types (asked p).interfaces p.interfaces w.holds;
       keys = keys;
     }
 

@@ -1,10 +1,13 @@
 -- What is resolved is well formed.
-use Rattle.std.proofs.Common.{◌≡◌, ℕ, ◌+◌, ◌<◌, List, inl, inr, length, length-append, Some, map, refl, sym, subst, ap, ◌∙◌, arith}
+use Rattle.std.proofs.Common.{◌≡◌, ℕ, ◌+◌, ◌<◌, List, [], inl, inr, length, length-append, Some, map, take, drop, refl, sym, subst, ap, ◌∙◌, arith}
 use Rattle.std.proofs.lemmas.Option.{slice_get_within}
-use Rattle.std.specs.Prelude.{slice_get}
+use Rattle.std.specs.Prelude.{slice_get, flat_map, String}
+use Rattle.std.specs.declared.alloc.Global.{Global}
 use Rattle.wit_order.specs.Order as order
 use Rattle.wit_types.specs.declared.interface.Interface.{Interface}
+use Rattle.wit_types.specs.declared.function.Function.{Function}
 use Rattle.wit_types.specs.declared.world.World.{World}
+use Rattle.wit_types.specs.declared.«package».AstItem.TheVariants as ids
 use Rattle.wit_types.specs.declared.«package».UnresolvedPackage.{UnresolvedPackage}
 use Rattle.wit_syntax.specs.Ast.{FileTree}
 use Rattle.wit_scopes.specs.Paths.{file_uses}
@@ -13,33 +16,39 @@ use Rattle.wit_rules.specs.Breaks.{IsKept}
 use Rattle.wit_rules.specs.Facts.{IsDeclared, WorldBreaks}
 use Rattle.wit_lookups.specs.Lookups.{LookupsBreak}
 use Rattle.wit_arena.specs.Meaning.{Has, package_text}
-use Rattle.wit_arena.proofs.Lists.{has_right}
+use Rattle.wit_arena.specs.Tree.{Name, Place, in_interface, in_world, in_listed, Owner}
+use Rattle.wit_arena.proofs.Lists.{has_right, map_has}
 use Rattle.wit_package_types.proofs.Functional.{are_functional}
 use Rattle.wit_foreign.specs.Needs.{NeedTree, needs_in}
-use Rattle.wit_foreign.specs.Items.{interfaces_in, worlds_in}
+use Rattle.wit_foreign.specs.Items.{interfaces_in, worlds_in, IsNumbered}
+use Rattle.wit_interfaces.specs.Interfaces.{AreInterfacesIn}
 use Rattle.wit_interfaces.proofs.Behind.{get_either}
-use Rattle.wit_resolved_scopes.specs.Texts.{worlds_of}
+use Rattle.wit_resolved_scopes.specs.Texts.{worlds_of, interface_texts}
 use Rattle.wit_resolved_scopes.proofs.Orders.{placed}
 use Rattle.wit_readiness.specs.Readiness.{AreReadyInOrder}
 use Rattle.wit_readiness.proofs.Ready.{packages_are_ready}
 use Rattle.wit_readiness.proofs.Parts.{declared_kept, world_keeps}
-use Rattle.wit_reach.specs.Deps.{IsInterfaceDep}
+use Rattle.wit_reach.specs.Holding.{IsMadeUpTo, listed_types, functions_ids, IsTypeUnder, HoldTheirTypes}
+use Rattle.wit_reach.specs.Ids.{function_ids}
+use Rattle.wit_reach.proofs.Holding.{held_in_order}
 use Rattle.wit_elaborated.specs.Worlds.{AreKeysOfItems}
 use Rattle.wit_package.specs.TopUses.{files_top_needs, files_need}
 use Rattle.wit_package.specs.Faults.{by_files, by_lookups}
-use Rattle.wit_package.specs.Resolved.{foreign_owners, owners_of, context_of, IsResolved}
+use Rattle.wit_package.specs.Resolved.{foreign_owners, owner_in, owners_of, context_of, IsResolved}
 use Rattle.wit_package.specs.Steps.{Resolves}
 use Rattle.wit_graph_parts.specs.Own.{asked, asked_types}
-use Rattle.wit_package.proofs.Owning.{interface_owners_length}
+use Rattle.wit_package.proofs.Owning.{interface_owners_length, are_owners}
 use Rattle.wit_package.proofs.Finding.{others_of, finds}
 use Rattle.wit_package.proofs.Scoping.{interface_there, world_there}
-use Rattle.wit_well_formed.specs.Law.{SpansAreCounted, UnknownTypesAreThere, AskedItemsAreThere, NamelessTypesAreFree, InterfacesAreInOrder, KeysAreOfItems, ResolvedPackagesAreWellFormed}
-use Rattle.wit_well_formed.proofs.Lists.{got, get_drop, has_drop}
+use Rattle.wit_well_formed.specs.Law.{SpansAreCounted, UnknownTypesAreThere, AskedItemsAreThere, NamelessTypesAreFree, InterfacesHoldTheirTypes, InterfacesAreInOrder, KeysAreOfItems, ResolvedPackagesAreWellFormed}
+use Rattle.wit_reach.proofs.Holding.{got}
+use Rattle.wit_well_formed.proofs.Lists.{get_drop, has_drop}
 use Rattle.wit_well_formed.proofs.Nameless.{by_name, nameless_free}
 use Rattle.wit_well_formed.proofs.Counted.{spans_counted, unknown_counted, interface_item, world_item, asks_there}
 use Rattle.wit_well_formed.proofs.Keys.{world_keys}
 use Rattle.wit_well_formed.proofs.Apart.{texts_apart}
-use Rattle.wit_well_formed.proofs.Order.{own_in_order}
+use Rattle.wit_well_formed.proofs.Earlier.{AreOfWorlds, parts_up_to, name_up_to}
+use Rattle.wit_well_formed.proofs.Holding.{hold_their_types}
 
 pub spans : SpansAreCounted
 spans files p r = (let s = r.resolved in spans_counted s.items (files_need s.me files) p.foreign_deps.entries p.foreign_dep_spans.items s.deps_are)
@@ -83,6 +92,11 @@ keys files p others r w has =
 
 -- ---- interfaces
 
+world_place : (n m : ℕ) (o : Place) (k : ℕ) → IsNumbered n m o (ids.World k) → (x : Name) × (o ≡ in_world x)
+world_place n m (in_interface x) k e = absurd cc
+world_place n m (in_world x) k e = (x, refl)
+world_place n m (in_listed w s x) k e = absurd e
+
 module _ (files : List FileTree) (p : UnresolvedPackage) (r : Resolves files p) where
   declared : IsDeclared files r.resolved.me (package_scopes r.resolved.me files)
   declared = record { named = r.resolved.named; scopes_are = refl; kept = λ rule at b. r.kept rule at (by_files b) }
@@ -104,27 +118,71 @@ module _ (files : List FileTree) (p : UnresolvedPackage) (r : Resolves files p) 
       let s = r.resolved in
       world_keeps (package_scopes s.me files) (declared_kept files s.me (package_scopes s.me files) declared) w (world_there (package_scopes s.me files) s.sorted s.are_sorted w has)
 
-  own_before : (m j : ℕ) (d : Interface) → slice_get r.resolved.own_interfaces m ≡ Some d → IsInterfaceDep p.types d j → j < length r.resolved.foreign_interfaces + m
-  own_before m j d at dep =
+  -- worlds stand at places of worlds
+  of_worlds : AreOfWorlds (owners_of (package_text r.resolved.me) r.resolved.items r.resolved.sorted).worlds
+  of_worlds v w at =
       let s = r.resolved in
-      own_in_order (package_scopes s.me files) s.sorted (others_of s.items s.names) (are_functional (package_scopes s.me files) (declared_kept files s.me (package_scopes s.me files) declared))
-      (interface_there (package_scopes s.me files) s.sorted s.are_sorted) (world_there (package_scopes s.me files) s.sorted s.are_sorted) ready.interfaces ready.worlds s.me files refl (foreign_owners s.items).interfaces (owners_of (package_text s.me) s.items s.sorted).worlds p.types (s.whole by_name)
-      (texts_apart s.sorted world_kept ready.interfaces.apart ready.worlds.apart) (length s.foreign_interfaces) (s.foreign_are.so_many_interfaces ∙ sym (interface_owners_length s.items)) s.own_interfaces s.own_interfaces_are m j d at dep
+      elim (get_either (foreign_owners s.items).worlds (map (λ (x : WorldScope). owner_in (package_text s.me) (in_world x.name.text)) (worlds_of s.sorted)) v w at) as (λ _. (x : Name) × (w.place ≡ in_world x)) [
+        | inl other ↦ (let h = (are_owners s.items).worlds w (v, other) in world_place (interfaces_in (take h.1.0 s.items)) (worlds_in (take h.1.0 s.items)) w.place h.0 (s.items_are.numbered h.1.0 w (ids.World h.0) h.1.1))
+        | inr o ↦
+            let x = map_has (λ (x : WorldScope). owner_in (package_text s.me) (in_world x.name.text)) (worlds_of s.sorted) w (o.0, o.2) in
+            (x.0.name.text, ap (λ (v : Owner). v.place) x.2)
+      ]
 
-  interface_before : (n j : ℕ) (d : Interface) → slice_get p.interfaces n ≡ Some d → IsInterfaceDep p.types d j → j < n
-  interface_before n j d at dep =
+  own_hold : HoldTheirTypes (length r.resolved.foreign_interfaces) p.types r.resolved.own_interfaces
+  own_hold =
       let s = r.resolved in
-      elim (get_either s.foreign_interfaces s.own_interfaces n d (subst (λ (ds : List Interface). slice_get ds n ≡ Some d) s.interfaces_are at)) as (λ _. j < n) [
+      let c = context_of s.me files s.items s.sorted in
+      let others = (foreign_owners s.items).interfaces in
+      let all_worlds = (owners_of (package_text s.me) s.items s.sorted).worlds in
+      let apart = texts_apart s.sorted world_kept ready.interfaces.apart ready.worlds.apart in
+      let so_many : length s.foreign_interfaces ≡ length others = s.foreign_are.so_many_interfaces ∙ sym (interface_owners_length s.items) in
+      subst (λ (n : ℕ). HoldTheirTypes n p.types s.own_interfaces) (sym so_many)
+      (hold_their_types c p.types (s.whole by_name) (length others) (interface_texts s.sorted)
+      (λ m t at x u d w h. name_up_to s.me files s.sorted s.are_sorted (others_of s.items s.names) ready.interfaces ready.worlds apart others all_worlds of_worlds m t at t.place refl x u d w h)
+      (λ m t at es us d w h. parts_up_to s.me files s.sorted s.are_sorted (others_of s.items s.names) ready.interfaces ready.worlds apart others all_worlds of_worlds m t at t.place refl es us d w h)
+      s.own_interfaces (subst (λ (n : ℕ). AreInterfacesIn c p.types n (interface_texts s.sorted) s.own_interfaces) so_many s.own_interfaces_are))
+
+  -- an interface of another package is empty, others are the package's own
+  of_each : (P : ℕ → Interface → Type 0) → ((n : ℕ) (d : Interface) → d.types.entries ≡ [] → d.functions.entries ≡ [] → P n d)
+      → ((k : ℕ) (d : Interface) → slice_get r.resolved.own_interfaces k ≡ Some d → P (length r.resolved.foreign_interfaces + k) d) → (n : ℕ) (d : Interface) → slice_get p.interfaces n ≡ Some d → P n d
+  of_each P empty own n d at =
+      let s = r.resolved in
+      elim (get_either s.foreign_interfaces s.own_interfaces n d (subst (λ (ds : List Interface). slice_get ds n ≡ Some d) s.interfaces_are at)) as (λ _. P n d) [
         | inl other ↦
             let within : n < length s.foreign_interfaces = slice_get_within s.foreign_interfaces n d other in
             let so_many : length s.foreign_interfaces ≡ interfaces_in s.items = s.foreign_are.so_many_interfaces in
             let item = interface_item (files_need s.me files) s.items s.items_are n (omega (arith, within, so_many)) in
-            absurd (subst (λ (es : List _). order.Has (map (λ e. e.1) es) dep.0) (s.foreign_are.interfaces item.0 n d item.1 other).types dep.1)
-        | inr o ↦ (let less = own_before o.0 j d o.2 dep in let place : n ≡ length s.foreign_interfaces + o.0 = o.1 in omega (arith, less, place))
+            let is = s.foreign_are.interfaces item.0 n d item.1 other in
+            empty n d is.types is.functions
+        | inr o ↦ subst (λ (m : ℕ). P m d) (sym o.1) (own o.0 d o.2)
       ]
 
+  types_are_theirs : (n : ℕ) (d : Interface) → slice_get p.interfaces n ≡ Some d → (e : String Global × ℕ) → order.Has d.types.entries e → IsTypeUnder p.types n e
+  types_are_theirs = of_each (λ n d. (e : String Global × ℕ) → order.Has d.types.entries e → IsTypeUnder p.types n e)
+      (λ n d none _ e h. absurd (subst (λ (es : List (String Global × ℕ)). order.Has es e) none h))
+      (λ k d at e h. own_hold.theirs k d e at h)
+
+  types_are_up_to : (n : ℕ) (d : Interface) → slice_get p.interfaces n ≡ Some d → (i : ℕ) → order.Has (listed_types d) i → IsMadeUpTo p.types n i
+  types_are_up_to = of_each (λ n d. (i : ℕ) → order.Has (listed_types d) i → IsMadeUpTo p.types n i)
+      (λ n d none _ i h. absurd (subst (λ (es : List (String Global × ℕ)). order.Has (map (λ (e : String Global × ℕ). e.1) es) i) none h))
+      (λ k d at i h. own_hold.types_use k i d at h)
+
+  functions_are_up_to : (n : ℕ) (d : Interface) → slice_get p.interfaces n ≡ Some d → (i : ℕ) → order.Has (functions_ids d) i → IsMadeUpTo p.types n i
+  functions_are_up_to = of_each (λ n d. (i : ℕ) → order.Has (functions_ids d) i → IsMadeUpTo p.types n i)
+      (λ n d _ none i h. absurd (subst (λ (es : List (String Global × Function)). order.Has (flat_map (λ (e : String Global × Function). function_ids e.1) es) i) none h))
+      (λ k d at i h. own_hold.functions_use k i d at h)
+
+pub held : InterfacesHoldTheirTypes
+held files p others r = record {
+  named = (own_hold files p r).named;
+  theirs = λ k d e at h. types_are_theirs files p r (others + k) d (get_drop others p.interfaces k d at) e h;
+  types_use = λ k i d at h. types_are_up_to files p r (others + k) d (get_drop others p.interfaces k d at) i h;
+  functions_use = λ k i d at h. functions_are_up_to files p r (others + k) d (get_drop others p.interfaces k d at) i h;
+}
+
 pub in_order : InterfacesAreInOrder
-in_order files p others r k j d at dep = interface_before files p r (others + k) j d (get_drop others p.interfaces k d at) dep
+in_order files p others r = held_in_order others p.types (drop others p.interfaces) (held files p others r)
 
 -- ---- the whole
 
@@ -134,6 +192,6 @@ well_formed files p r = record {
   deps = asked_items files p r;
   unknown = unknown_types files p r;
   nameless = nameless_types files p (asked_types p) r;
-  in_order = in_order files p (asked p).interfaces r;
+  holds = held files p (asked p).interfaces r;
   keys = keys files p (asked p).worlds r;
 }

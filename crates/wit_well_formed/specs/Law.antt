@@ -5,6 +5,7 @@ use Rattle.wit_order.specs.Order.{Has}
 use Rattle.wit_types.specs.declared.world.World.{World}
 use Rattle.wit_types.specs.declared.«package».UnresolvedPackage.{UnresolvedPackage}
 use Rattle.wit_syntax.specs.Ast.{FileTree}
+use Rattle.wit_reach.specs.Holding.{HoldTheirTypes}
 use Rattle.wit_elaborated.specs.Worlds.{AreKeysOfItems}
 use Rattle.wit_finding.specs.Asks.{AreDepsThere, items_of}
 use Rattle.wit_placed.specs.Order.{AreNamelessFree, AreInOrder}
@@ -29,7 +30,11 @@ AskedItemsAreThere = (files : List FileTree) (p : UnresolvedPackage) → Resolve
 abbrev pub NamelessTypesAreFree : Type 0
 NamelessTypesAreFree = (files : List FileTree) (p : UnresolvedPackage) (others : ℕ) → Resolves files p → AreNamelessFree (drop others p.types)
 
--- each interface uses types of those in front of it alone
+-- types and functions of each interface are made of types of it and of those in front of it
+abbrev pub InterfacesHoldTheirTypes : Type 0
+InterfacesHoldTheirTypes = (files : List FileTree) (p : UnresolvedPackage) (others : ℕ) → Resolves files p → HoldTheirTypes others p.types (drop others p.interfaces)
+
+-- so each uses types of those in front of it alone
 abbrev pub InterfacesAreInOrder : Type 0
 InterfacesAreInOrder = (files : List FileTree) (p : UnresolvedPackage) (others : ℕ) → Resolves files p → AreInOrder others p.types (drop others p.interfaces)
 

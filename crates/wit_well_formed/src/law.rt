@@ -1,6 +1,6 @@
 //! Laws of packages that are resolved, and of those whose texts stand behind others.
 
-ghost use Rattle.wit_well_formed.specs.Law.{SpansAreCounted, UnknownTypesAreThere, AskedItemsAreThere, NamelessTypesAreFree, InterfacesAreInOrder, KeysAreOfItems, ResolvedPackagesAreWellFormed, ParsedPackagesAreWellFormed, MovedPackagesAreWellFormed};
+ghost use Rattle.wit_well_formed.specs.Law.{SpansAreCounted, UnknownTypesAreThere, AskedItemsAreThere, NamelessTypesAreFree, InterfacesHoldTheirTypes, InterfacesAreInOrder, KeysAreOfItems, ResolvedPackagesAreWellFormed, ParsedPackagesAreWellFormed, MovedPackagesAreWellFormed};
 
 /// Where files are resolved to a package, there is a span for each package of which it asks something.
 pub fn law_spans_are_counted()
@@ -20,6 +20,12 @@ pub fn law_asked_items_are_there()
 /// Where files are resolved to a package, its types without a name belong nowhere.
 pub fn law_nameless_types_are_free()
     ensures { NamelessTypesAreFree }
+{}
+
+/// Where files are resolved to a package, each interface of it holds its types: these, and functions of it, are made of types that are its
+/// own, or of interfaces before it, or belong nowhere.
+pub fn law_interfaces_hold_their_types()
+    ensures { InterfacesHoldTheirTypes }
 {}
 
 /// Where files are resolved to a package, each interface of it uses types of those before it alone.

@@ -4,6 +4,7 @@ use Rattle.wit_moves.specs.View.{owners}
 use Rattle.wit_graph.specs.Graph.{items}
 use Rattle.wit_graph_parts.specs.Own.{parts}
 use Rattle.wit_graph_parts.specs.Parts.{AreTypesAdded}
+use Rattle.wit_graph_worlds.proofs.Belonging.{added_named}
 use Rattle.wit_graph.proofs.Readying.{types_backward, types_below, uses_long, backward_uses, sound, elaborated, among, whole}
 use Rattle.wit_graph.proofs.Refusing.{interfaces_refused, worlds_refused, grown_twice, known_first}
 use Rattle.wit_graph.proofs.push.add_parts.Goals as goal
@@ -23,19 +24,19 @@ returns-in_err-interface_names-clause-cause c =
 
 pub add_own_worlds-requires-clause-rows : goal.add_own_worlds-requires-clause-rows
 add_own_worlds-requires-clause-rows c =
-    uses_long c.args.by.now.features.now c.args.by.now.owner (items c.args.types.now c.args.natures.now c.args.interfaces.now c.args.worlds.now) c.requires.ready.0 (parts c.args.own) (owners c.args.by.now.plan.now.owners) c.args.by.now.plan.now.types c.requires.ready.1 c.add_types.new.types (subst (λ (n : ℕ). AreTypesAdded (owners c.args.by.now.plan.now.owners) c.args.by.now.plan.now.types n c.args.own.types.items c.args.types.now c.add_types.new.types) (c.len-first.ensures ∙ (let o = c.args.own.unknown.ok.0 in let e : c.args.own.unknown.len ≡ length c.args.own.unknown.items = omega (arith, o) in e)) c.in_ok-add_types.ensures.ok) c.law_found_types_are_there.ensures c.law_moved_types_are_backward.ensures c.add_interfaces.new.interfaces c.in_ok-interface_names.interface_names.entries c.in_ok-interface_names.ensures.ok c.law_interfaces_take_places.ensures c.law_moved_types_belong.ensures c.law_moved_interfaces_are_in_order.ensures c.law_moved_interfaces_are_there.ensures (λ at b. c.requires.ready.1.planned.kept at (inl b))
+    uses_long c.args.by.now.features.now c.args.by.now.owner (items c.args.types.now c.args.natures.now c.args.interfaces.now c.args.worlds.now) c.requires.ready.0 (parts c.args.own) (owners c.args.by.now.plan.now.owners) c.args.by.now.plan.now.types c.requires.ready.1 c.add_types.new.types (subst (λ (n : ℕ). AreTypesAdded (owners c.args.by.now.plan.now.owners) c.args.by.now.plan.now.types n c.args.own.types.items c.args.types.now c.add_types.new.types) (c.len-first.ensures ∙ (let o = c.args.own.unknown.ok.0 in let e : c.args.own.unknown.len ≡ length c.args.own.unknown.items = omega (arith, o) in e)) c.in_ok-add_types.ensures.ok) c.law_found_types_are_there.ensures c.law_moved_types_are_backward.ensures c.add_interfaces.new.interfaces c.in_ok-interface_names.interface_names.entries c.in_ok-interface_names.ensures.ok c.law_interfaces_take_places.ensures c.law_moved_types_belong.ensures c.law_moved_interfaces_hold_their_types.ensures c.law_moved_interfaces_are_there.ensures (λ at b. c.requires.ready.1.planned.kept at (inl b))
 
 pub add_own_worlds-requires-clause-uses : goal.add_own_worlds-requires-clause-uses
 add_own_worlds-requires-clause-uses c =
-    backward_uses c.args.by.now.features.now c.args.by.now.owner (items c.args.types.now c.args.natures.now c.args.interfaces.now c.args.worlds.now) c.requires.ready.0 (parts c.args.own) (owners c.args.by.now.plan.now.owners) c.args.by.now.plan.now.types c.requires.ready.1 c.add_types.new.types (subst (λ (n : ℕ). AreTypesAdded (owners c.args.by.now.plan.now.owners) c.args.by.now.plan.now.types n c.args.own.types.items c.args.types.now c.add_types.new.types) (c.len-first.ensures ∙ (let o = c.args.own.unknown.ok.0 in let e : c.args.own.unknown.len ≡ length c.args.own.unknown.items = omega (arith, o) in e)) c.in_ok-add_types.ensures.ok) c.law_found_types_are_there.ensures c.law_moved_types_are_backward.ensures c.add_interfaces.new.interfaces c.in_ok-interface_names.interface_names.entries c.in_ok-interface_names.ensures.ok c.law_interfaces_take_places.ensures c.law_moved_types_belong.ensures c.law_moved_interfaces_are_in_order.ensures c.law_moved_interfaces_are_there.ensures (λ at b. c.requires.ready.1.planned.kept at (inl b))
+    backward_uses c.args.by.now.features.now c.args.by.now.owner (items c.args.types.now c.args.natures.now c.args.interfaces.now c.args.worlds.now) c.requires.ready.0 (parts c.args.own) (owners c.args.by.now.plan.now.owners) c.args.by.now.plan.now.types c.requires.ready.1 c.add_types.new.types (subst (λ (n : ℕ). AreTypesAdded (owners c.args.by.now.plan.now.owners) c.args.by.now.plan.now.types n c.args.own.types.items c.args.types.now c.add_types.new.types) (c.len-first.ensures ∙ (let o = c.args.own.unknown.ok.0 in let e : c.args.own.unknown.len ≡ length c.args.own.unknown.items = omega (arith, o) in e)) c.in_ok-add_types.ensures.ok) c.law_found_types_are_there.ensures c.law_moved_types_are_backward.ensures c.add_interfaces.new.interfaces c.in_ok-interface_names.interface_names.entries c.in_ok-interface_names.ensures.ok c.law_interfaces_take_places.ensures c.law_moved_types_belong.ensures c.law_moved_interfaces_hold_their_types.ensures c.law_moved_interfaces_are_there.ensures (λ at b. c.requires.ready.1.planned.kept at (inl b))
 
 pub add_own_worlds-requires-clause-sound : goal.add_own_worlds-requires-clause-sound
 add_own_worlds-requires-clause-sound c =
-    sound c.args.by.now.features.now c.args.by.now.owner (items c.args.types.now c.args.natures.now c.args.interfaces.now c.args.worlds.now) c.requires.ready.0 (parts c.args.own) (owners c.args.by.now.plan.now.owners) c.args.by.now.plan.now.types c.requires.ready.1 c.add_types.new.types (subst (λ (n : ℕ). AreTypesAdded (owners c.args.by.now.plan.now.owners) c.args.by.now.plan.now.types n c.args.own.types.items c.args.types.now c.add_types.new.types) (c.len-first.ensures ∙ (let o = c.args.own.unknown.ok.0 in let e : c.args.own.unknown.len ≡ length c.args.own.unknown.items = omega (arith, o) in e)) c.in_ok-add_types.ensures.ok) c.law_found_types_are_there.ensures c.law_moved_types_are_backward.ensures c.add_interfaces.new.interfaces c.in_ok-interface_names.interface_names.entries c.in_ok-interface_names.ensures.ok c.law_interfaces_take_places.ensures c.law_moved_types_belong.ensures c.law_moved_interfaces_are_in_order.ensures c.law_moved_interfaces_are_there.ensures (λ at b. c.requires.ready.1.planned.kept at (inl b))
+    sound c.args.by.now.features.now c.args.by.now.owner (items c.args.types.now c.args.natures.now c.args.interfaces.now c.args.worlds.now) c.requires.ready.0 (parts c.args.own) (owners c.args.by.now.plan.now.owners) c.args.by.now.plan.now.types c.requires.ready.1 c.add_types.new.types (subst (λ (n : ℕ). AreTypesAdded (owners c.args.by.now.plan.now.owners) c.args.by.now.plan.now.types n c.args.own.types.items c.args.types.now c.add_types.new.types) (c.len-first.ensures ∙ (let o = c.args.own.unknown.ok.0 in let e : c.args.own.unknown.len ≡ length c.args.own.unknown.items = omega (arith, o) in e)) c.in_ok-add_types.ensures.ok) c.law_found_types_are_there.ensures c.law_moved_types_are_backward.ensures c.add_interfaces.new.interfaces c.in_ok-interface_names.interface_names.entries c.in_ok-interface_names.ensures.ok c.law_interfaces_take_places.ensures c.law_moved_types_belong.ensures c.law_moved_interfaces_hold_their_types.ensures c.law_moved_interfaces_are_there.ensures (λ at b. c.requires.ready.1.planned.kept at (inl b))
 
 pub add_own_worlds-requires-clause-elaborated : goal.add_own_worlds-requires-clause-elaborated
 add_own_worlds-requires-clause-elaborated c =
-    elaborated c.args.by.now.features.now c.args.by.now.owner (items c.args.types.now c.args.natures.now c.args.interfaces.now c.args.worlds.now) c.requires.ready.0 (parts c.args.own) (owners c.args.by.now.plan.now.owners) c.args.by.now.plan.now.types c.requires.ready.1 c.add_types.new.types (subst (λ (n : ℕ). AreTypesAdded (owners c.args.by.now.plan.now.owners) c.args.by.now.plan.now.types n c.args.own.types.items c.args.types.now c.add_types.new.types) (c.len-first.ensures ∙ (let o = c.args.own.unknown.ok.0 in let e : c.args.own.unknown.len ≡ length c.args.own.unknown.items = omega (arith, o) in e)) c.in_ok-add_types.ensures.ok) c.law_found_types_are_there.ensures c.law_moved_types_are_backward.ensures c.add_interfaces.new.interfaces c.in_ok-interface_names.interface_names.entries c.in_ok-interface_names.ensures.ok c.law_interfaces_take_places.ensures c.law_moved_types_belong.ensures c.law_moved_interfaces_are_in_order.ensures c.law_moved_interfaces_are_there.ensures (λ at b. c.requires.ready.1.planned.kept at (inl b)) c.law_elaborated_worlds_stay.ensures
+    elaborated c.args.by.now.features.now c.args.by.now.owner (items c.args.types.now c.args.natures.now c.args.interfaces.now c.args.worlds.now) c.requires.ready.0 (parts c.args.own) (owners c.args.by.now.plan.now.owners) c.args.by.now.plan.now.types c.requires.ready.1 c.add_types.new.types (subst (λ (n : ℕ). AreTypesAdded (owners c.args.by.now.plan.now.owners) c.args.by.now.plan.now.types n c.args.own.types.items c.args.types.now c.add_types.new.types) (c.len-first.ensures ∙ (let o = c.args.own.unknown.ok.0 in let e : c.args.own.unknown.len ≡ length c.args.own.unknown.items = omega (arith, o) in e)) c.in_ok-add_types.ensures.ok) c.law_found_types_are_there.ensures c.law_moved_types_are_backward.ensures c.add_interfaces.new.interfaces c.in_ok-interface_names.interface_names.entries c.in_ok-interface_names.ensures.ok c.law_interfaces_take_places.ensures c.law_moved_types_belong.ensures c.law_moved_interfaces_hold_their_types.ensures c.law_moved_interfaces_are_there.ensures (λ at b. c.requires.ready.1.planned.kept at (inl b)) c.law_elaborated_worlds_stay.ensures
 
 pub add_own_worlds-requires-clause-below : goal.add_own_worlds-requires-clause-below
 add_own_worlds-requires-clause-below c =
@@ -43,7 +44,7 @@ add_own_worlds-requires-clause-below c =
 
 pub add_own_worlds-requires-clause-among : goal.add_own_worlds-requires-clause-among
 add_own_worlds-requires-clause-among c =
-    among c.args.by.now.features.now c.args.by.now.owner (items c.args.types.now c.args.natures.now c.args.interfaces.now c.args.worlds.now) c.requires.ready.0 (parts c.args.own) (owners c.args.by.now.plan.now.owners) c.args.by.now.plan.now.types c.requires.ready.1 c.add_types.new.types (subst (λ (n : ℕ). AreTypesAdded (owners c.args.by.now.plan.now.owners) c.args.by.now.plan.now.types n c.args.own.types.items c.args.types.now c.add_types.new.types) (c.len-first.ensures ∙ (let o = c.args.own.unknown.ok.0 in let e : c.args.own.unknown.len ≡ length c.args.own.unknown.items = omega (arith, o) in e)) c.in_ok-add_types.ensures.ok) c.law_found_types_are_there.ensures c.law_moved_types_are_backward.ensures c.add_interfaces.new.interfaces c.in_ok-interface_names.interface_names.entries c.in_ok-interface_names.ensures.ok c.law_interfaces_take_places.ensures c.law_moved_types_belong.ensures c.law_moved_interfaces_are_in_order.ensures c.law_moved_interfaces_are_there.ensures (λ at b. c.requires.ready.1.planned.kept at (inl b))
+    among c.args.by.now.features.now c.args.by.now.owner (items c.args.types.now c.args.natures.now c.args.interfaces.now c.args.worlds.now) c.requires.ready.0 (parts c.args.own) (owners c.args.by.now.plan.now.owners) c.args.by.now.plan.now.types c.requires.ready.1 c.add_types.new.types (subst (λ (n : ℕ). AreTypesAdded (owners c.args.by.now.plan.now.owners) c.args.by.now.plan.now.types n c.args.own.types.items c.args.types.now c.add_types.new.types) (c.len-first.ensures ∙ (let o = c.args.own.unknown.ok.0 in let e : c.args.own.unknown.len ≡ length c.args.own.unknown.items = omega (arith, o) in e)) c.in_ok-add_types.ensures.ok) c.law_found_types_are_there.ensures c.law_moved_types_are_backward.ensures c.add_interfaces.new.interfaces c.in_ok-interface_names.interface_names.entries c.in_ok-interface_names.ensures.ok c.law_interfaces_take_places.ensures c.law_moved_types_belong.ensures c.law_moved_interfaces_hold_their_types.ensures c.law_moved_interfaces_are_there.ensures (λ at b. c.requires.ready.1.planned.kept at (inl b))
 
 pub returns-in_err-world_names-clause-cause : goal.returns-in_err-world_names-clause-cause
 returns-in_err-world_names-clause-cause c =
@@ -73,4 +74,5 @@ returns-clause-natures_grown c =
 pub returns-clause-whole : goal.returns-clause-whole
 returns-clause-whole c =
     let more = c.add_own_worlds.ensures.types_grown in
-    whole c.args.by.now.features.now c.args.by.now.owner (items c.args.types.now c.args.natures.now c.args.interfaces.now c.args.worlds.now) c.requires.ready.0 (parts c.args.own) (owners c.args.by.now.plan.now.owners) c.args.by.now.plan.now.types c.requires.ready.1 c.add_types.new.types (subst (λ (n : ℕ). AreTypesAdded (owners c.args.by.now.plan.now.owners) c.args.by.now.plan.now.types n c.args.own.types.items c.args.types.now c.add_types.new.types) (c.len-first.ensures ∙ (let o = c.args.own.unknown.ok.0 in let e : c.args.own.unknown.len ≡ length c.args.own.unknown.items = omega (arith, o) in e)) c.in_ok-add_types.ensures.ok) c.law_found_types_are_there.ensures c.law_moved_types_are_backward.ensures c.add_interfaces.new.interfaces c.in_ok-interface_names.interface_names.entries c.in_ok-interface_names.ensures.ok c.law_interfaces_take_places.ensures c.law_moved_types_belong.ensures c.law_moved_interfaces_are_in_order.ensures c.law_moved_interfaces_are_there.ensures (λ at b. c.requires.ready.1.planned.kept at (inl b)) more.0 c.add_own_worlds.new.types c.follow.new.self c.add_own_worlds.new.worlds more.1 c.in_ok-follow.ensures.ok c.in_ok-world_names.ensures.sound c.in_ok-world_names.ensures.elaborated
+    whole c.args.by.now.features.now c.args.by.now.owner (items c.args.types.now c.args.natures.now c.args.interfaces.now c.args.worlds.now) c.requires.ready.0 (parts c.args.own) (owners c.args.by.now.plan.now.owners) c.args.by.now.plan.now.types c.requires.ready.1 c.add_types.new.types (subst (λ (n : ℕ). AreTypesAdded (owners c.args.by.now.plan.now.owners) c.args.by.now.plan.now.types n c.args.own.types.items c.args.types.now c.add_types.new.types) (c.len-first.ensures ∙ (let o = c.args.own.unknown.ok.0 in let e : c.args.own.unknown.len ≡ length c.args.own.unknown.items = omega (arith, o) in e)) c.in_ok-add_types.ensures.ok) c.law_found_types_are_there.ensures c.law_moved_types_are_backward.ensures c.add_interfaces.new.interfaces c.in_ok-interface_names.interface_names.entries c.in_ok-interface_names.ensures.ok c.law_interfaces_take_places.ensures c.law_moved_types_belong.ensures c.law_moved_interfaces_hold_their_types.ensures c.law_moved_interfaces_are_there.ensures (λ at b. c.requires.ready.1.planned.kept at (inl b)) more.0 c.add_own_worlds.new.types c.follow.new.self c.add_own_worlds.new.worlds more.1 c.in_ok-follow.ensures.ok c.in_ok-world_names.ensures.sound c.in_ok-world_names.ensures.elaborated
+    (added_named c.add_interfaces.new.interfaces.all c.add_interfaces.new.interfaces.uses c.args.by.now.owner c.in_ok-world_names.ensures.ok.moved _ _ c.in_ok-world_names.ensures.ok.added)

@@ -1,6 +1,7 @@
 use Rattle.std.proofs.Common.{◌≡◌, ◌++◌, ◌⊎◌, ℕ, List, [], ◌∷◌, inl, inr, Ok, Err, length, sym, subst, ap, ◌∙◌, arith}
 use Rattle.wit_order.specs.Places.{Rows, Needs}
 use Rattle.wit_reach.specs.Paths.{AreBackward}
+use Rattle.wit_reach.proofs.Holding.{held_in_order}
 use Rattle.wit_closures.specs.Closures.{AreReached}
 use Rattle.std.proofs.lemmas.List.{append-nil}
 use Rattle.std.proofs.lemmas.Result.{on_ok_weaker, on_err_weaker, IfErr-weaker}
@@ -19,7 +20,7 @@ use Rattle.wit_graph.proofs.push.added.Goals as goal
 
 pub reach-names-requires-clause-backward : goal.reach-names-requires-clause-backward
 reach-names-requires-clause-backward c = on_ok_weaker c.add_parts-names.result
-    (λ w. subst (λ (rs : Rows). AreBackward (Needs rs)) (sym c.uses.ensures) (uses_backward c.add_parts-names.new.types c.add_parts-names.new.interfaces.all c.add_parts-names.new.interfaces.uses w.rows w.in_order))
+    (λ w. subst (λ (rs : Rows). AreBackward (Needs rs)) (sym c.uses.ensures) (uses_backward c.add_parts-names.new.types c.add_parts-names.new.interfaces.all c.add_parts-names.new.interfaces.uses w.rows (held_in_order 0 c.add_parts-names.new.types c.add_parts-names.new.interfaces.all w.holds)))
     c.add_parts-names.ensures.whole
 
 pub reach-names-requires-clause-reached : goal.reach-names-requires-clause-reached
@@ -29,7 +30,7 @@ reach-names-requires-clause-reached c =
     let grown = c.add_parts-names.ensures.interfaces_grown in
     let many = whole.closures_are in
     let stays : AreReached (old ++ grown.uses) c.args.tables.closures =
-    c.law_reached_stay.ensures old grown.uses c.args.tables.closures (uses_backward c.args.tables.types c.args.tables.interfaces.all old whole.whole.rows whole.whole.in_order) (omega (arith, many)) whole.reached
+    c.law_reached_stay.ensures old grown.uses c.args.tables.closures (uses_backward c.args.tables.types c.args.tables.interfaces.all old whole.whole.rows (held_in_order 0 c.args.tables.types c.args.tables.interfaces.all whole.whole.holds)) (omega (arith, many)) whole.reached
     in
     on_ok_weaker c.add_parts-names.result (λ w. subst (λ (rs : Rows). AreReached rs c.args.tables.closures) (sym (c.uses.ensures ∙ grown.uses_are)) stays) c.add_parts-names.ensures.whole
 
