@@ -27,7 +27,8 @@ use Rattle.wit_package.specs.Resolved.{IsResolved}
 use Rattle.wit_package.specs.Steps.{Resolves}
 use Rattle.wit_graph_parts.specs.Own.{asked}
 use Rattle.wit_well_formed.specs.Listed.{TypesAreListed}
-use Rattle.wit_well_formed.proofs.Lists.{got, get_drop}
+use Rattle.wit_reach.proofs.Holding.{got}
+use Rattle.wit_well_formed.proofs.Lists.{get_drop}
 use Rattle.wit_well_formed.proofs.Sorts.{one_owner}
 use Rattle.wit_well_formed.proofs.Numbers.{interfaces_counted}
 

@@ -21,7 +21,8 @@ use Rattle.wit_readiness.proofs.Flat.{flat_has}
 use Rattle.wit_finding.specs.Asks.{items_of}
 use Rattle.wit_finding.specs.Foreign.{with_items, with_deps, counts_of}
 use Rattle.wit_finding.specs.declared.counts.Counts.{Counts}
-use Rattle.wit_well_formed.proofs.Lists.{got, got_mapped}
+use Rattle.wit_reach.proofs.Holding.{got}
+use Rattle.wit_well_formed.proofs.Lists.{got_mapped}
 use Rattle.wit_well_formed.proofs.Counted.{interface_item}
 use Rattle.wit_well_formed.proofs.Sorts.{AskOfOne}
 
