@@ -1,5 +1,5 @@
 -- Numbers in order rise.
-use Rattle.std.proofs.Common.{◌≡◌, ℕ, zero, suc, ◌<◌, arith, inl, inr, List, [], ◌∷◌, length, get_or, refl, sym, subst, ap, ◌∙◌}
+use Rattle.std.proofs.Common.{◌≡◌, ℕ, suc, ◌<◌, arith, inl, inr, List, [], ◌∷◌, length, get_or, sym, subst}
 use Rattle.wit_order.specs.Order.{Has}
 use Rattle.wit_reach.specs.Paths.{AreRising}
 
