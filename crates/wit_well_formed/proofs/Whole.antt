@@ -30,7 +30,6 @@ use Rattle.wit_readiness.proofs.Ready.{packages_are_ready}
 use Rattle.wit_readiness.proofs.Parts.{declared_kept, world_keeps}
 use Rattle.wit_reach.specs.Holding.{IsMadeUpTo, listed_types, functions_ids, IsTypeUnder, HoldTheirTypes}
 use Rattle.wit_reach.specs.Ids.{function_ids}
-use Rattle.wit_reach.proofs.Holding.{held_in_order}
 use Rattle.wit_elaborated.specs.Worlds.{AreKeysOfItems}
 use Rattle.wit_package.specs.TopUses.{files_top_needs, files_need}
 use Rattle.wit_package.specs.Faults.{by_files, by_lookups}
@@ -40,7 +39,7 @@ use Rattle.wit_graph_parts.specs.Own.{asked, asked_types}
 use Rattle.wit_package.proofs.Owning.{interface_owners_length, are_owners}
 use Rattle.wit_package.proofs.Finding.{others_of, finds}
 use Rattle.wit_package.proofs.Scoping.{interface_there, world_there}
-use Rattle.wit_well_formed.specs.Law.{SpansAreCounted, UnknownTypesAreThere, AskedItemsAreThere, NamelessTypesAreFree, InterfacesHoldTheirTypes, InterfacesAreInOrder, KeysAreOfItems, ResolvedPackagesAreWellFormed}
+use Rattle.wit_well_formed.specs.Law.{SpansAreCounted, UnknownTypesAreThere, AskedItemsAreThere, NamelessTypesAreFree, InterfacesHoldTheirTypes, KeysAreOfItems, ResolvedPackagesAreWellFormed}
 use Rattle.wit_reach.proofs.Holding.{got}
 use Rattle.wit_well_formed.proofs.Lists.{get_drop, has_drop}
 use Rattle.wit_well_formed.proofs.Nameless.{by_name, nameless_free}
@@ -180,9 +179,6 @@ held files p others r = record {
   types_use = λ k i d at h. types_are_up_to files p r (others + k) d (get_drop others p.interfaces k d at) i h;
   functions_use = λ k i d at h. functions_are_up_to files p r (others + k) d (get_drop others p.interfaces k d at) i h;
 }
-
-pub in_order : InterfacesAreInOrder
-in_order files p others r = held_in_order others p.types (drop others p.interfaces) (held files p others r)
 
 -- ---- the whole
 

@@ -8,7 +8,7 @@ use Rattle.wit_syntax.specs.Ast.{FileTree}
 use Rattle.wit_reach.specs.Holding.{HoldTheirTypes}
 use Rattle.wit_elaborated.specs.Worlds.{AreKeysOfItems}
 use Rattle.wit_finding.specs.Asks.{AreDepsThere, items_of}
-use Rattle.wit_placed.specs.Order.{AreNamelessFree, AreInOrder}
+use Rattle.wit_placed.specs.Order.{AreNamelessFree}
 use Rattle.wit_graph_parts.specs.Own.{IsWellFormed}
 use Rattle.wit_package.specs.Group.{AreParsed}
 use Rattle.wit_package.specs.Steps.{Resolves}
@@ -33,10 +33,6 @@ NamelessTypesAreFree = (files : List FileTree) (p : UnresolvedPackage) (others :
 -- types and functions of each interface are made of types of it and of those in front of it
 abbrev pub InterfacesHoldTheirTypes : Type 0
 InterfacesHoldTheirTypes = (files : List FileTree) (p : UnresolvedPackage) (others : ℕ) → Resolves files p → HoldTheirTypes others p.types (drop others p.interfaces)
-
--- so each uses types of those in front of it alone
-abbrev pub InterfacesAreInOrder : Type 0
-InterfacesAreInOrder = (files : List FileTree) (p : UnresolvedPackage) (others : ℕ) → Resolves files p → AreInOrder others p.types (drop others p.interfaces)
 
 -- what a world imports under the key of an interface is that interface
 abbrev pub KeysAreOfItems : Type 0

@@ -1,6 +1,6 @@
 //! Laws of packages that are resolved, and of those whose texts stand behind others.
 
-ghost use Rattle.wit_well_formed.specs.Law.{SpansAreCounted, UnknownTypesAreThere, AskedItemsAreThere, NamelessTypesAreFree, InterfacesHoldTheirTypes, InterfacesAreInOrder, KeysAreOfItems, ResolvedPackagesAreWellFormed, ParsedPackagesAreWellFormed, MovedPackagesAreWellFormed};
+ghost use Rattle.wit_well_formed.specs.Law.{SpansAreCounted, UnknownTypesAreThere, AskedItemsAreThere, NamelessTypesAreFree, InterfacesHoldTheirTypes, KeysAreOfItems, ResolvedPackagesAreWellFormed, ParsedPackagesAreWellFormed, MovedPackagesAreWellFormed};
 
 /// Where files are resolved to a package, there is a span for each package of which it asks something.
 pub fn law_spans_are_counted()
@@ -26,11 +26,6 @@ pub fn law_nameless_types_are_free()
 /// own, or of interfaces before it, or belong nowhere.
 pub fn law_interfaces_hold_their_types()
     ensures { InterfacesHoldTheirTypes }
-{}
-
-/// Where files are resolved to a package, each interface of it uses types of those before it alone.
-pub fn law_interfaces_are_in_order()
-    ensures { InterfacesAreInOrder }
 {}
 
 /// Where files are resolved to a package, what a world of it imports under the key of an interface is that interface.

@@ -5,8 +5,8 @@ mod law;
 mod listed;
 
 pub use law::{
-    law_asked_items_are_there, law_interfaces_are_in_order, law_interfaces_hold_their_types,
-    law_keys_are_of_items, law_moved_packages_are_well_formed, law_nameless_types_are_free,
+    law_asked_items_are_there, law_interfaces_hold_their_types, law_keys_are_of_items,
+    law_moved_packages_are_well_formed, law_nameless_types_are_free,
     law_parsed_packages_are_well_formed, law_resolved_packages_are_well_formed,
     law_spans_are_counted, law_unknown_types_are_there,
 };
