@@ -4,8 +4,8 @@ use Rattle.std.specs.Prelude.{◌≡◌, ℕ, List, ◌++◌, map, Option, Some,
 use Rattle.component_definitions.specs.declared.canonical.CanonicalOption.{CanonicalOption}
 use Rattle.component_definitions.specs.declared.canonical.CanonicalOption.TheVariants as options
 use Rattle.flat_types.specs.Signature.{RequiredValue}
-use Rattle.canonical_options.specs.declared.encoding.StringEncoding.{StringEncoding}
-use Rattle.canonical_options.specs.declared.encoding.StringEncoding.TheVariants as encodings
+use Rattle.link_lines.specs.declared.encoding.StringEncoding.{StringEncoding}
+use Rattle.link_lines.specs.declared.encoding.StringEncoding.TheVariants as encodings
 use Rattle.canonical_options.specs.declared.options.OptionFault.{OptionFault}
 use Rattle.canonical_options.specs.declared.options.OptionFault.TheVariants as faults
 

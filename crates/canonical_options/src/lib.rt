@@ -2,13 +2,12 @@
 #![tactic(auto)]
 
 mod contents;
-mod encoding;
 mod law;
 mod options;
 mod required;
 
 pub use contents::TypeContents;
-pub use encoding::StringEncoding;
 pub use law::law_contents_are_those_of_trees;
+pub use link_lines::StringEncoding;
 pub use options::{Iter, OptionFault};
 pub use required::RequiredOptions;

@@ -1,7 +1,10 @@
 //! The options of a function, one by one.
 
-use crate::encoding::StringEncoding;
+ghost use Rattle.std.specs.Prelude.{◌≡◌};
+ghost use Rattle.canonical_options.specs.Options as spec;
+
 use component_definitions::CanonicalOption;
+use link_lines::StringEncoding;
 use thiserror::Error;
 
 /// Why a function can't have the options that it asks for.
@@ -13,6 +16,17 @@ pub enum OptionFault {
     /// It asks for a function that makes room, and there is none.
     #[error("no realloc")]
     NoRealloc,
+}
+
+/// The option that says how strings are encoded (Component Model Binary, Canonical Definitions).
+fn encoding_option(encoding: StringEncoding) -> CanonicalOption
+    ensures { result ≡ spec.encoding_option encoding }
+{
+    match encoding {
+        StringEncoding::UTF8 => CanonicalOption::Utf8,
+        StringEncoding::UTF16 => CanonicalOption::Utf16,
+        StringEncoding::CompactUTF16 => CanonicalOption::CompactUtf16,
+    }
 }
 
 /// The options of a function that are still to come: the memory, what makes room in it, the encoding of strings.
@@ -41,6 +55,6 @@ impl Iterator for Iter {
             return Some(CanonicalOption::Realloc(realloc));
         }
         let encoding = self.encoding.take()?;
-        Some(encoding.option())
+        Some(encoding_option(encoding))
     }
 }

@@ -7,10 +7,10 @@ ghost use Rattle.flat_types.specs.View as flat;
 ghost use Rattle.canonical_options.specs.Options.{AreOptions, IsOptionCause};
 ghost use Rattle.canonical_options.specs.View.{required_value, left_of};
 
-use crate::encoding::StringEncoding;
 use crate::options::{Iter, OptionFault};
 use bitflags::{Flag, Flags, bitflag_items};
 use flat_types::{FlatTypes, Required};
+use link_lines::StringEncoding;
 use wit_types::{AbiVariant, Function};
 
 /// The options that a function asks for, so that its values can be passed (Component Model, Canonical ABI, canon lift and

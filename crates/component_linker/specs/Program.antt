@@ -19,11 +19,11 @@ use Rattle.component_audit.specs.declared.verdict.Verdict.{Verdict}
 use Rattle.component_audit.specs.declared.verdict.Verdict.TheVariants.{Yes, Finding}
 use Rattle.component_session.specs.Headline.{IsBuilt, IsLinkTable, IsJudged}
 use Rattle.component_session.specs.Input.{Input, ModuleInput, OptionsInput, empty_input}
-use Rattle.wit_component.specs.Line.{link_value}
-use Rattle.wit_component.specs.Texts.{lines_text}
-use Rattle.wit_component.specs.declared.link.Link.{Link}
-use Rattle.wit_component.specs.declared.string_encoding.StringEncoding.{StringEncoding}
-use Rattle.wit_component.specs.declared.string_encoding.StringEncoding.TheVariants.{UTF8, UTF16, CompactUTF16}
+use Rattle.link_lines.specs.Line.{link_value}
+use Rattle.link_lines.specs.Texts.{lines_text}
+use Rattle.link_lines.specs.declared.line.Link.{Link}
+use Rattle.link_lines.specs.declared.encoding.StringEncoding.{StringEncoding}
+use Rattle.link_lines.specs.declared.encoding.StringEncoding.TheVariants.{UTF8, UTF16, CompactUTF16}
 use Rattle.wit_features.specs.Features.{FeatureSet, with_name}
 use Rattle.wit_resolution.specs.Pushes.{Resolved, nothing_resolved, AreTextsPushed}
 use Rattle.wit_resolution.specs.Texts.{files_of}

@@ -11,7 +11,7 @@ use Rattle.component_session.specs.Headline.{IsRight, IsBuilt, IsLinkTable, IsJu
 use Rattle.component_audit.specs.Judged.{Says}
 use Rattle.component_audit.specs.declared.verdict.Verdict.{Verdict}
 use Rattle.component_audit.specs.declared.verdict.Verdict.TheVariants.{Yes, Finding}
-use Rattle.wit_component.specs.Line.{LinkValue}
+use Rattle.link_lines.specs.Line.{LinkValue}
 use Rattle.wit_component.specs.Links.{AreLinks}
 use Rattle.known_definitions.proofs.Laws.{one_list}
 use Rattle.wit_component.specs.Meaning.{Spaces, meaning}

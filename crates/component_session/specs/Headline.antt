@@ -10,7 +10,7 @@ use Rattle.std.specs.Prelude.{◌≡◌, ℕ, ◌≤◌, List, length, map}
 use Rattle.known_definitions.specs.Definition.{DefinitionValue}
 use Rattle.known_definitions.specs.Component.{IsComponent}
 use Rattle.wit_component.specs.Linking.{Linking}
-use Rattle.wit_component.specs.Line.{LinkValue}
+use Rattle.link_lines.specs.Line.{LinkValue}
 use Rattle.wit_component.specs.Links.{AreLinks}
 use Rattle.wit_component.specs.Table.{needed}
 use Rattle.wit_component.specs.Meaning.{meaning}

@@ -3,7 +3,7 @@ use Rattle.std.specs.Prelude.{◌≡◌, ℕ, Bool, true, false, List, [], Optio
 use Rattle.wasm_format.specs.Module.{ModuleValue}
 use Rattle.wasm_format.specs.Grammar.{IsModule}
 use Rattle.wit_component.specs.Linking.{Linking, main_of}
-use Rattle.wit_component.specs.declared.string_encoding.StringEncoding.{StringEncoding}
+use Rattle.link_lines.specs.declared.encoding.StringEncoding.{StringEncoding}
 use Rattle.plain_worlds.specs.World.{WorldMeaning, plain_world}
 use Rattle.wit_resolution.specs.Pushes.{Resolved, nothing_resolved}
 use Rattle.wit_types.specs.declared.world.World.{World}

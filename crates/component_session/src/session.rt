@@ -11,7 +11,7 @@ ghost use Rattle.plain_worlds.specs.World.{WorldMeaning, world_meaning, world_fi
 ghost use Rattle.wasm_format.specs.Grammar.{IsModule};
 ghost use Rattle.wasm_format.specs.Module.{ModuleValue, module_value};
 ghost use Rattle.wasm_types.specs.Entries.{import_value};
-ghost use Rattle.wit_component.specs.Line.{link_value};
+ghost use Rattle.link_lines.specs.Line.{link_value};
 ghost use Rattle.wit_component.specs.View as view;
 ghost use Rattle.wit_features.specs.Features.{with_name};
 ghost use Rattle.wit_package.specs.GroupView.{texts};

@@ -4,13 +4,16 @@ use Rattle.std.specs.Prelude.{false, option_map, IsSorted}
 use Rattle.std.specs.Borrow.{Bor}
 use Rattle.std.specs.List.{AllByRecursion as Each}
 use Rattle.std.specs.Ordering.{is_lt}
-use Rattle.wit_component.specs.declared.link.LinkSide.TheVariants.{Import, Export}
+use Rattle.link_lines.specs.declared.line.LinkSide.TheVariants.{Import, Export}
 use Rattle.std.specs.declared.cmp.Ordering.{Ordering}
 use Rattle.std.proofs.lemmas.Option.{slice_get-map, slice_get_read, slice_get_within, same_Some}
 use Rattle.plain_worlds.specs.World.{FunctionItem}
 use Rattle.wit_component.specs.Linking.{CoreImport, CoreExport, Linking}
-use Rattle.wit_component.specs.Line.{LinkValue, import_line, export_line}
-use Rattle.wit_component.specs.Links.{lines, line_cmp}
+use Rattle.link_lines.specs.Line.{LinkValue}
+use Rattle.link_lines.specs.Order.{line_cmp}
+use Rattle.link_lines.proofs.Sorted.{length_once}
+use Rattle.wit_component.specs.Line.{import_line, export_line}
+use Rattle.wit_component.specs.Links.{lines}
 use Rattle.wit_component.specs.Table.{import_entry, export_entry}
 use Rattle.wit_component.specs.Places.{Placed, Places, ArePlaces, ImportPlace, ExportPlace, target, lines_of_import, lines_of_export, import_text, export_text}
 
@@ -100,10 +103,6 @@ module _ {X Y : Type 0} (g : X → List Y) where
 
 -- ---- lengths of views
 
-pub length_once : {X Y : Type 0} (f : X → Y) (xs : List X) → length (map f xs) ≡ length xs
-length_once f [] = refl
-length_once f (x ∷ xs) = ap suc (length_once f xs)
-
 pub length_twice : {X Y Z : Type 0} (f : Y → Z) (e : X → Y) (xs : List X) → length (map f (map e xs)) ≡ length xs
 length_twice f e xs = length_once f (map e xs) ∙ length_once e xs
 
@@ -128,19 +127,6 @@ export_entry_read l t h k f e is there =
     let g = export_line_at l t h k f is in
     let same = same_Some g.0 e (sym g.1 ∙ there) in
     g.2 ∙ ap (λ (x : CoreExport). export_line f.name x.name ∷ []) same
-
--- ---- a list in order, seen by a view that keeps the order
-
-mapped_at : {X Y : Type 0} (f : X → Y) (xs : List X) (k : ℕ) (d : Y) (x : X) → k < length xs → slice_index_or (map f xs) k d ≡ f (slice_index_or xs k x)
-mapped_at f [] k d x l = absurd (omega arith)
-mapped_at f (y ∷ ys) zero d x l = refl
-mapped_at f (y ∷ ys) (suc k) d x l = mapped_at f ys k d x (omega arith)
-
-pub sorted_map : {X Y : Type 0} (f : X → Y) (cmp : Y → Y → Ordering) (xs : List X) → IsSorted (λ a b. cmp (f a) (f b)) xs → IsSorted cmp (map f xs)
-sorted_map f cmp [] h = λ k d low high. absurd (omega arith)
-sorted_map f cmp (x ∷ xs) h = λ k d low high.
-    let more : k + 1 < length (x ∷ xs) = omega (arith, length_once f (x ∷ xs)) in
-    rw (mapped_at f (x ∷ xs) (k + 1) d x more, mapped_at f (x ∷ xs) k d x (omega arith)) (h k x low more)
 
 -- ---- two lists in order, each item of the second behind each of the first
 

@@ -12,6 +12,5 @@ pub mod Code
 pub mod Findings
 pub mod Meaning
 pub mod Right
-pub mod Texts
 pub mod Candidates
 pub mod Written

@@ -6,7 +6,8 @@ use Rattle.plain_worlds.specs.World.{FunctionItem}
 use Rattle.wit_component.specs.CoreNames.{root, standard, is_memory_name}
 use Rattle.wit_component.specs.Flat.{flat}
 use Rattle.wit_component.specs.Linking.{CoreImport, CoreExport, Linking}
-use Rattle.wit_component.specs.Line.{LinkValue, import_line, export_line}
+use Rattle.link_lines.specs.Line.{LinkValue}
+use Rattle.wit_component.specs.Line.{import_line, export_line}
 use Rattle.wit_component.specs.Table.{imported_by, entries_of_import, exported_by, entries_of_export}
 use Rattle.wit_component.specs.Links.{lines}
 

@@ -7,7 +7,8 @@ use Rattle.plain_worlds.specs.World.{FunctionItem}
 use Rattle.wit_component.specs.Flat.{flat}
 use Rattle.wit_component.specs.CoreNames.{is_import_name, is_export_name, is_memory_name}
 use Rattle.wit_component.specs.Linking.{CoreImport, CoreExport, Linking}
-use Rattle.wit_component.specs.Line.{LinkValue, import_line, export_line}
+use Rattle.link_lines.specs.Line.{LinkValue}
+use Rattle.wit_component.specs.Line.{import_line, export_line}
 
 -- what a line says, with the core type of the function that is linked, and with that of the core import, or of the core export, if it is a
 -- function

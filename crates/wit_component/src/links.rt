@@ -4,16 +4,17 @@ ghost use Rattle.std.specs.Prelude.{◌≡◌, ◌<◌, ◌++◌, ◌∷◌, [],
 ghost use Rattle.wit_component.specs.Cause.{IsLinkable, IsLinkCause};
 ghost use Rattle.wit_component.specs.Linking.{CoreImport};
 ghost use Rattle.plain_worlds.specs.World.{FunctionItem};
-ghost use Rattle.wit_component.specs.Line.{import_line, export_line, link_value};
+ghost use Rattle.link_lines.specs.Line.{link_value};
+ghost use Rattle.wit_component.specs.Line.{import_line, export_line};
 ghost use Rattle.wit_component.specs.Links.{AreLinks};
 ghost use Rattle.wit_component.specs.Places as spec;
 ghost use Rattle.wit_component.specs.Places.{ArePlaces, target};
 ghost use Rattle.wit_component.specs.View as view;
 
 use crate::fault::Fault;
-use crate::link::{Link, LinkKind, LinkSide, Owner};
 use crate::linking::Linking;
 use crate::table::{ROOT, Table, table_of};
+use link_lines::{Link, LinkKind, LinkSide, Owner};
 use plain_worlds::Function;
 use std::alloc::{AllocError, Global};
 use wasm_format::Export;

@@ -1,5 +1,5 @@
 use Rattle.std.proofs.Common.{refl, ap, ◌∙◌}
-use Rattle.wit_component.specs.Texts.{lines_text}
+use Rattle.link_lines.specs.Texts.{lines_text}
 use Rattle.component_linker.specs.Stops.{out_path}
 use Rattle.wit_component.proofs.Results.{moved_up}
 use Rattle.component_linker.proofs.Answering.{cut_off}

@@ -5,7 +5,8 @@ use Rattle.wit_component.specs.Linking.{core_export}
 use Rattle.wit_component.specs.Places.{ExportPlace}
 use Rattle.wit_component.specs.View as view
 use Rattle.plain_worlds.specs.World.{function_item}
-use Rattle.wit_component.proofs.LinkLines.{placed_there, export_place_there, target_read, length_once, length_twice}
+use Rattle.link_lines.proofs.Sorted.{length_once}
+use Rattle.wit_component.proofs.LinkLines.{placed_there, export_place_there, target_read, length_twice}
 use Rattle.wit_component.proofs.links.export_target.Goals as goal
 
 pub index-requires : goal.index-requires

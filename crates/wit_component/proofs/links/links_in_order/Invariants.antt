@@ -1,5 +1,5 @@
 use Rattle.std.proofs.Common.{◌≡◌, ◌++◌, map, take}
-use Rattle.wit_component.specs.Line.{link_value}
+use Rattle.link_lines.specs.Line.{link_value}
 use Rattle.wit_component.specs.Places as spec
 use Rattle.wit_component.proofs.links.links_in_order.Given as goal
 

@@ -1,13 +1,14 @@
 use Rattle.std.proofs.Common.{List, ◌++◌, map, sym, subst, IsPermutation}
 use Rattle.std.specs.Prelude.{IsSorted}
 use Rattle.std.proofs.lemmas.List.Sorted.{IsPermutation-map, IsPermutation-append}
-use Rattle.wit_component.specs.Line.{LinkValue, link_value}
-use Rattle.wit_component.specs.Links.{line_cmp}
+use Rattle.link_lines.specs.Line.{LinkValue, link_value}
+use Rattle.link_lines.specs.Order.{line_cmp}
+use Rattle.link_lines.proofs.Sorted.{sorted_map}
 use Rattle.wit_component.specs.Places as spec
 use Rattle.wit_component.specs.View as view
 use Rattle.wit_component.proofs.Results.{ok_map}
 use Rattle.wit_component.proofs.Entries.{table_lines}
-use Rattle.wit_component.proofs.LinkLines.{sorted_map, lines_sorted}
+use Rattle.wit_component.proofs.LinkLines.{lines_sorted}
 use Rattle.wit_component.proofs.links.sorted_links.Goals as goal
 
 pub returns : goal.returns

@@ -1,5 +1,5 @@
 use Rattle.std.proofs.Common.{map}
-use Rattle.wit_component.specs.Line.{link_value}
+use Rattle.link_lines.specs.Line.{link_value}
 use Rattle.wit_component.specs.View as view
 use Rattle.wit_component.proofs.Results.{moved_up}
 use Rattle.component_session.specs.Refusals.{IsCause}

@@ -1,6 +1,6 @@
 use Rattle.std.proofs.Common.{◌≡◌, string_bytes, take}
-use Rattle.wit_component.specs.Texts.{lines_text}
-use Rattle.wit_component.proofs.link.lines_of.Given as goal
+use Rattle.link_lines.specs.Texts.{lines_text}
+use Rattle.link_lines.proofs.text.lines_of.Given as goal
 
 abbrev pub invariant-loop-link : goal.invariant-loop-link
 invariant-loop-link l = string_bytes l.lines ≡ lines_text (take l.link-index l.links)

@@ -3,15 +3,15 @@ use Rattle.std.specs.Prelude.{ℕ, ◌+◌, ◌/◌, ◌%◌, Bool, ◌||◌, �
 use Rattle.std.specs.List.{flat_map}
 use Rattle.std.specs.Str.{chars}
 use Rattle.std.specs.declared.alloc.Global.{Global}
-use Rattle.wit_component.specs.declared.string_encoding.StringEncoding.{StringEncoding}
-use Rattle.wit_component.specs.declared.string_encoding.StringEncoding.TheVariants.{UTF8, UTF16, CompactUTF16}
-use Rattle.wit_component.specs.declared.link.LinkSide.{LinkSide}
-use Rattle.wit_component.specs.declared.link.LinkSide.TheVariants.{Import, Export, Dtor, Start}
-use Rattle.wit_component.specs.declared.link.LinkKind.{LinkKind}
-use Rattle.wit_component.specs.declared.link.LinkKind.TheVariants.{Lower, Core}
-use Rattle.wit_component.specs.declared.link.Owner.{Owner}
-use Rattle.wit_component.specs.declared.link.Owner.TheVariants.{Main, Adapter}
-use Rattle.wit_component.specs.declared.link.Link.{Link}
+use Rattle.link_lines.specs.declared.encoding.StringEncoding.{StringEncoding}
+use Rattle.link_lines.specs.declared.encoding.StringEncoding.TheVariants.{UTF8, UTF16, CompactUTF16}
+use Rattle.link_lines.specs.declared.line.LinkSide.{LinkSide}
+use Rattle.link_lines.specs.declared.line.LinkSide.TheVariants.{Import, Export, Dtor, Start}
+use Rattle.link_lines.specs.declared.line.LinkKind.{LinkKind}
+use Rattle.link_lines.specs.declared.line.LinkKind.TheVariants.{Lower, Core}
+use Rattle.link_lines.specs.declared.line.Owner.{Owner}
+use Rattle.link_lines.specs.declared.line.Owner.TheVariants.{Main, Adapter}
+use Rattle.link_lines.specs.declared.line.Link.{Link}
 
 -- up to 32, 127 and the backslash
 abbrev pub is_escaped : ℕ → Bool

@@ -3,8 +3,8 @@ use Rattle.std.proofs.lemmas.List.{map-id}
 use Rattle.std.specs.List.{flat_map}
 use Rattle.std.proofs.lemmas.Iterator.{YieldsList-from_chars}
 use Rattle.std.proofs.lemmas.Iterator.Consumers.{YieldsList-end}
-use Rattle.wit_component.specs.Texts.{escaped}
-use Rattle.wit_component.proofs.link.push_characters.Goals as goal
+use Rattle.link_lines.specs.Texts.{escaped}
+use Rattle.link_lines.proofs.text.push_characters.Goals as goal
 
 pub returns : goal.returns
 returns c =
