@@ -17,7 +17,7 @@ use Rattle.wit_types.specs.declared.«package».PackageName.{PackageName}
 use Rattle.wit_types.specs.declared.«package».UnresolvedPackage.{UnresolvedPackage}
 use Rattle.wit_features.specs.Features.{FeatureSet}
 use Rattle.wit_moves.specs.Moved.{Places}
-use Rattle.wit_reach.specs.Holding.{HoldTheirTypes}
+use Rattle.wit_reach.specs.Holding.{AreListed, HoldTheirTypes}
 use Rattle.wit_moves.specs.Plan.{OwnerPlaces}
 use Rattle.wit_moves.specs.declared.plan.MoveFault.{MoveFault}
 use Rattle.wit_moves.specs.declared.plan.MoveFault.TheVariants as moved
@@ -27,6 +27,7 @@ use Rattle.wit_plans.specs.Moves.{AreMovedInterfaces, no_interfaces, interface_g
 use Rattle.wit_plans.specs.Plans.{Parts, standing, IsPlanned, IsPlanCause}
 use Rattle.wit_plans.specs.declared.moves.MovedWorld.{MovedWorld}
 use Rattle.wit_placed.specs.Found.{IsPackageThere, ArePackagesThere, FoundAreThere}
+use Rattle.wit_placed.specs.Listed.{AreOwnersBehind}
 use Rattle.wit_placed.specs.There.{AreBelow}
 use Rattle.wit_resources.specs.Natures.{kind_nature, natures_from}
 use Rattle.wit_resources.specs.declared.natures.Nature.{Nature}
@@ -72,6 +73,8 @@ nothing_is_graph t names te ne =
           natures_are = refl;
           rows = no_rows;
           holds = record { named = λ i d x at. absurd cc; theirs = λ k d e at. absurd cc; types_use = λ k s d at. absurd cc; functions_use = λ k s d at. absurd cc };
+          listed = λ i k d at. absurd cc;
+          names = λ d h. absurd h;
           sound = record {
             backward = λ i j (d, h, has). absurd cc;
             owners = λ i j d h o. absurd cc;
@@ -301,6 +304,12 @@ module _ (eq : PackageName → PackageName → Bool) (features : FeatureSet) (ol
     pub parts_are : (n m : ℕ) (own : Parts) → n ≡ length foreign.interfaces → m ≡ length foreign.worlds → own ≡ parts_behind n m p → own ≡ own_parts p
     parts_are n m own ne me e = e ∙ ap (λ (k : ℕ). parts_behind k m p) (ne ∙ found.interfaces_are.all) ∙ ap (λ (k : ℕ). parts_behind (asked p).interfaces k p) (me ∙ found.worlds_are.all)
 
+    -- what holds of the types and interfaces of the package holds of its parts
+    of_own : (P : ℕ → List TypeDef → List Interface → Type 0) → P (asked p).interfaces p.types (own_parts p).interfaces → P (length foreign.interfaces) ((own_parts p).unknown ++ (own_parts p).types) (own_parts p).interfaces
+    of_own P holds =
+        subst (λ (n : ℕ). P n ((own_parts p).unknown ++ (own_parts p).types) (own_parts p).interfaces) (sym found.interfaces_are.all)
+        (subst (λ (ds : List TypeDef). P (asked p).interfaces ds (own_parts p).interfaces) (sym (take-append-drop (length p.unknown_type_spans.items) p.types)) holds)
+
     own_ready : (owners : OwnerPlaces) (places : Places) → IsPlanned features old.tables.interfaces.all (sizes (items_of old.tables)) foreign (own_parts p) owners places → IsReady features (items_of old.tables) foreign (own_parts p) owners places
     own_ready owners places planned = record {
       whole = whole.whole;
@@ -308,9 +317,10 @@ module _ (eq : PackageName → PackageName → Bool) (features : FeatureSet) (ol
       worlds_below = found_below.1;
       planned = planned;
       nameless = well.nameless;
-      holds =
-          subst (λ (n : ℕ). HoldTheirTypes n ((own_parts p).unknown ++ (own_parts p).types) (own_parts p).interfaces) (sym found.interfaces_are.all)
-          (subst (λ (ds : List TypeDef). HoldTheirTypes (asked p).interfaces ds (own_parts p).interfaces) (sym (take-append-drop (length p.unknown_type_spans.items) p.types)) well.holds);
+      owned = subst (λ (n : ℕ). AreOwnersBehind n (own_parts p).types) (sym found.interfaces_are.all) well.owned;
+      holds = of_own HoldTheirTypes well.holds;
+      listed = of_own AreListed well.listed;
+      names = well.names;
       keys = well.keys;
     }
 

@@ -10,7 +10,7 @@ use Rattle.wit_moves.specs.Breaks.{AnyOf, IsKept}
 use Rattle.wit_moves.specs.Moved.{Places}
 use Rattle.wit_moves.specs.Plan.{OwnerPlaces, AreMovedDefs}
 use Rattle.wit_moved_trees.specs.There.{AreWithin, MovedTypesAreBackward}
-use Rattle.wit_reach.specs.Holding.{AreNamedOwned, HoldTheirTypes}
+use Rattle.wit_reach.specs.Holding.{AreNamedOwned, AreListed, HoldTheirTypes}
 use Rattle.wit_reach.specs.Lists.{AreOwnersThere}
 use Rattle.wit_reach.proofs.Holding.{held_in_order, held_more}
 use Rattle.wit_placed.proofs.Holding.{functions_there}
@@ -21,6 +21,8 @@ use Rattle.wit_plans.specs.Plans.{Parts, found_of, standing}
 use Rattle.wit_plans.specs.Checks.{InterfaceBreaks}
 use Rattle.wit_placed.specs.Found.{FoundTypesAreThere}
 use Rattle.wit_placed.specs.Order.{AreInOrder, AreBehind, InterfacesTakePlaces, MovedTypesBelong, MovedInterfacesHoldTheirTypes}
+use Rattle.wit_placed.specs.Listed.{MovedTypesAreListed}
+use Rattle.wit_placed.specs.Naming.{HasNamesApart, HaveNamesApart, MovedInterfacesHaveNamesApart}
 use Rattle.wit_placed.specs.There.{AreBelow, IsInterfaceThere, MovedInterfacesAreThere}
 use Rattle.wit_elaborated.specs.Staying.{ElaboratedWorldsStay}
 use Rattle.wit_graph_worlds.specs.Sound.{AreSound, AreElaborated}
@@ -107,6 +109,19 @@ module _ (features : FeatureSet) (owner : ℕ) (t : Items) (foreign : OwnerPlace
             (subst (λ (ds : List TypeDef). HoldTheirTypes 0 ds (t.interfaces.all ++ b.moved)) (sym a.types_are)
             (hold features owners (standing owners places) owner p.unknown p.types t.types a.defs others p.interfaces b.moved t.interfaces.all foreign.interfaces behind kept refl r.whole.interfaces_are r.whole.holds r.holds))
 
+        listed : MovedTypesAreListed → AreListed 0 types i.all
+        listed stand =
+            subst (AreListed 0 types) (sym b.added.all_are)
+            (subst (λ (ds : List TypeDef). AreListed 0 ds (t.interfaces.all ++ b.moved)) (sym a.types_are)
+            (stand features owners (standing owners places) owner p.unknown p.types t.types a.defs others p.interfaces b.moved t.interfaces.all foreign.interfaces behind r.whole.listed r.owned r.listed))
+
+        names_are : MovedInterfacesHaveNamesApart → HaveNamesApart i.all
+        names_are apart d h =
+            elim (has_or t.interfaces.all b.moved d (subst (λ (ds : List Interface). Has ds d) b.added.all_are h)) as (λ _. HasNamesApart d) [
+              | inl was ↦ r.whole.names d was
+              | inr new ↦ apart features (standing owners places) owner p.interfaces b.moved b.are_moved r.names d new
+            ]
+
         order : AreInOrder 0 types i.all
         order = held_in_order 0 types i.all holds
 
@@ -148,13 +163,16 @@ module _ (features : FeatureSet) (owner : ℕ) (t : Items) (foreign : OwnerPlace
             (subst (λ (rs : Rows). AreElaborated (t.types ++ a.defs) (t.interfaces.all ++ b.moved) rs t.worlds) (sym b.added.uses_are) more))
 
         -- with more types, and worlds
-        pub whole : (more : List TypeDef) (ds : List TypeDef) (ns : List Nature) (w : Worlds) → ds ≡ types ++ more → ns ≡ natures ds → AreSound (length i.uses) ds w → AreElaborated ds i.all i.uses w → (AreNamedOwned types → AreNamedOwned ds) → AreItemsWhole (items ds ns i w)
-        whole more ds ns w grown known s e named = record {
+        pub whole : (more : List TypeDef) (ds : List TypeDef) (ns : List Nature) (w : Worlds) → ds ≡ types ++ more → ns ≡ natures ds → AreSound (length i.uses) ds w → AreElaborated ds i.all i.uses w → (AreNamedOwned types → AreNamedOwned ds)
+            → MovedTypesAreListed → (AreListed 0 types i.all → AreListed 0 ds i.all) → MovedInterfacesHaveNamesApart → AreItemsWhole (items ds ns i w)
+        whole more ds ns w grown known s e named stand stands apart = record {
           natures_are = known;
           rows = subst (λ (xs : List TypeDef). AreRows xs i.all i.uses) (sym grown) (rows_kept types more types_backward i.all i.uses interfaces_are rows);
           holds =
               subst (λ (xs : List TypeDef). HoldTheirTypes 0 xs i.all) (sym grown)
               (held_more types more types_backward 0 i.all (functions_there types i.all interfaces_are) (subst AreNamedOwned grown (named holds.named)) holds);
+          listed = stands (listed stand);
+          names = names_are apart;
           sound = subst (λ (n : ℕ). AreSound n ds w) uses_long s;
           elaborated = e;
           interfaces_are = λ d h. subst (λ (xs : List TypeDef). IsInterfaceThere xs d) (sym grown) (interface_kept types more d (interfaces_are d h));

@@ -2,7 +2,7 @@
 use Rattle.std.specs.Prelude.{◌≡◌, ◌↔◌, ℕ, ◌<◌, ◌≤◌, List, [], Some, String, length, slice_get}
 use Rattle.std.specs.declared.alloc.Global.{Global}
 use Rattle.wit_reach.specs.Deps.{IsInterfaceDep}
-use Rattle.wit_reach.specs.Holding.{HoldTheirTypes}
+use Rattle.wit_reach.specs.Holding.{AreListed, HoldTheirTypes, TypesUseEarlier}
 use Rattle.wit_reach.specs.Lists.{IsNamedBy}
 use Rattle.wit_reach.specs.Paths.{AreEnds}
 use Rattle.wit_order.specs.Order.{Has}
@@ -15,6 +15,7 @@ use Rattle.wit_types.specs.declared.«package».PackageName.{PackageName}
 use Rattle.wit_names.specs.Names.{ArePackagesKnown}
 use Rattle.wit_plans.specs.declared.plans.Sizes.{Sizes}
 use Rattle.wit_placed.specs.Found.{ArePackagesThere}
+use Rattle.wit_placed.specs.Naming.{HaveNamesApart}
 use Rattle.wit_placed.specs.There.{IsInterfaceThere}
 use Rattle.wit_resources.specs.Natures.{natures}
 use Rattle.wit_resources.specs.declared.natures.Nature.{Nature}
@@ -50,15 +51,21 @@ abbrev pub sizes : Items → Sizes
 sizes t = record { types = length t.types; interfaces = length t.interfaces.all; worlds = length t.worlds.listed }
 
 -- what is known of types is known of all of them; interfaces hold types that are made of theirs and of those of interfaces before them
--- alone, and of which they use types is known; all that interfaces and worlds name is there, and worlds import in the end what they and
--- their exports depend on
+-- alone, all that belong to them, of which they use types is known, and names within each differ; all that interfaces and worlds name is
+-- there, and worlds import in the end what they and their exports depend on
 pub record AreItemsWhole (t : Items) : Type 0 where
   pub natures_are : t.natures ≡ natures t.types
   pub rows : AreRows t.types t.interfaces.all t.interfaces.uses
   pub holds : HoldTheirTypes 0 t.types t.interfaces.all
+  pub listed : AreListed 0 t.types t.interfaces.all
+  pub names : HaveNamesApart t.interfaces.all
   pub sound : AreSound (length t.interfaces.all) t.types t.worlds
   pub elaborated : AreElaborated t.types t.interfaces.all t.interfaces.uses t.worlds
   pub interfaces_are : (d : Interface) → Has t.interfaces.all d → IsInterfaceThere t.types d
+
+-- then each type that belongs to an interface is made of types of that and of earlier ones
+abbrev pub TypesOfItemsUseEarlier : Type 0
+TypesOfItemsUseEarlier = (t : Items) → AreItemsWhole t → TypesUseEarlier t.types
 
 -- the interface with that id uses a type of the other
 abbrev pub UsesTypesOf : Tables → ℕ → ℕ → Type 0

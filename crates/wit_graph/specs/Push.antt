@@ -15,7 +15,7 @@ use Rattle.wit_types.specs.declared.«package».UnresolvedPackage.{UnresolvedPac
 use Rattle.wit_features.specs.Features.{FeatureSet}
 use Rattle.wit_features.specs.Gates.{of_package, AreOnTime, IsLate}
 use Rattle.wit_moves.specs.Moved.{Places}
-use Rattle.wit_reach.specs.Holding.{HoldTheirTypes}
+use Rattle.wit_reach.specs.Holding.{AreListed, HoldTheirTypes}
 use Rattle.wit_moves.specs.Plan.{OwnerPlaces}
 use Rattle.wit_elaborated.specs.Worlds.{AreKeysOfItems}
 use Rattle.wit_finding.specs.Foreign.{AreForeignPlaces, ItemsBreak}
@@ -23,6 +23,8 @@ use Rattle.wit_finding.specs.Packages.{PackagesBreak}
 use Rattle.wit_plans.specs.Plans.{Parts, standing, IsPlanned, PlanBreaks}
 use Rattle.wit_placed.specs.There.{AreBelow}
 use Rattle.wit_placed.specs.Order.{AreNamelessFree}
+use Rattle.wit_placed.specs.Listed.{AreOwnersBehind}
+use Rattle.wit_placed.specs.Naming.{HaveNamesApart}
 use Rattle.wit_resources.specs.Natures.{natures}
 use Rattle.wit_resources.specs.declared.natures.Nature.{Nature}
 use Rattle.wit_plans.specs.declared.plans.Sizes.{Sizes}
@@ -48,7 +50,10 @@ pub record IsReady (features : FeatureSet) (t : Items) (foreign : OwnerPlaces) (
   pub worlds_below : AreBelow (length t.worlds.listed) foreign.worlds
   pub planned : IsPlanned features t.interfaces.all (sizes t) foreign p owners places
   pub nameless : AreNamelessFree p.types
+  pub owned : AreOwnersBehind (length foreign.interfaces) p.types
   pub holds : HoldTheirTypes (length foreign.interfaces) (p.unknown ++ p.types) p.interfaces
+  pub listed : AreListed (length foreign.interfaces) (p.unknown ++ p.types) p.interfaces
+  pub names : HaveNamesApart p.interfaces
   pub keys : (w : World) → Has p.worlds w → AreKeysOfItems w.imports.entries
 
 -- its types, interfaces and worlds that stay are behind those that were there

@@ -1,25 +1,40 @@
--- With worlds more types with names belong somewhere still.
-use Rattle.std.proofs.Common.{List, ℕ, sym, subst}
+-- With worlds more types belong where they do, and are listed there.
+use Rattle.std.proofs.Common.{List, ℕ, ◌++◌, sym, subst}
 use Rattle.wit_order.specs.Places.{Rows}
 use Rattle.wit_types.specs.declared.interface.Interface.{Interface}
+use Rattle.wit_types.specs.declared.interface.TypeDef.{TypeDef}
+use Rattle.wit_types.specs.declared.world.IncludeName.{IncludeName}
 use Rattle.wit_types.specs.declared.world.World.{World}
 use Rattle.wit_types.specs.declared.world.WorldInclude.{WorldInclude}
-use Rattle.wit_reach.specs.Holding.{AreNamedOwned}
+use Rattle.wit_reach.specs.Holding.{AreNamedOwned, AreListed}
+use Rattle.wit_reach.specs.Types.{AreWorldTypes}
+use Rattle.wit_includes.specs.Included.{AreIncludedTypes}
 use Rattle.wit_plans.specs.declared.moves.MovedWorld.{MovedWorld}
 use Rattle.wit_joined.specs.Joined as joined
 use Rattle.wit_joined.specs.Joined.{Includes, includes_none, includes_one}
 use Rattle.wit_graph_worlds.specs.Added.{AreAdded, none_added, one_added}
 use Rattle.wit_graph_worlds.specs.Worlds.{State}
-use Rattle.wit_graph_worlds.proofs.Owners.{included_named}
+use Rattle.wit_graph_worlds.proofs.Owners.{included_named, included_listed}
 
-includes_named : (worlds : List World) (id : ℕ) (ns : List WorldInclude) (s t : joined.State) → Includes worlds id ns s t → AreNamedOwned s.types → AreNamedOwned t.types
-includes_named worlds id _ s _ (includes_none _) named = named
-includes_named worlds id _ s u (includes_one ns n _ t _ before (w, b, at, is, same)) named =
-    subst (λ (v : joined.State). AreNamedOwned v.types) (sym same) (included_named n.names.items n.id id t.types is.own b.types.items (includes_named worlds id ns s t before named) is.brings.types_are)
+module _ (P : List TypeDef → Type 0)
+    (keeps : (names : List IncludeName) (from into : ℕ) (types : List TypeDef) (world : World) (own : List ℕ) (new : List TypeDef) → AreWorldTypes from types world own → AreIncludedTypes names from into types own new → P types → P (types ++ new))
+  where
+    includes_keep : (worlds : List World) (id : ℕ) (ns : List WorldInclude) (s t : joined.State) → Includes worlds id ns s t → P s.types → P t.types
+    includes_keep worlds id _ s _ (includes_none _) there = there
+    includes_keep worlds id _ s u (includes_one ns n _ t _ before (w, b, at, is, same)) there =
+        subst (λ (v : joined.State). P v.types) (sym same) (keeps n.names.items n.id id t.types w is.own b.types.items is.are_own is.brings.types_are (includes_keep worlds id ns s t before there))
 
+    added_keep : (interfaces : List Interface) (uses : Rows) (owner : ℕ) (ms : List MovedWorld) (s t : State) → AreAdded interfaces uses owner ms s t → P s.types → P t.types
+    added_keep interfaces uses owner _ s _ (none_added _) there = there
+    added_keep interfaces uses owner _ s u (one_added ms m _ t _ before one) there =
+        let sides = one.is_joined.sides in
+        subst P (sym sides.types_are)
+        (includes_keep t.worlds.listed _ m.includes.items (joined.own_state t.types m) sides.joined sides.includes (added_keep interfaces uses owner ms s t before there))
+
+-- types with names belong somewhere still
 pub added_named : (interfaces : List Interface) (uses : Rows) (owner : ℕ) (ms : List MovedWorld) (s t : State) → AreAdded interfaces uses owner ms s t → AreNamedOwned s.types → AreNamedOwned t.types
-added_named interfaces uses owner _ s _ (none_added _) named = named
-added_named interfaces uses owner _ s u (one_added ms m _ t _ before one) named =
-    let sides = one.is_joined.sides in
-    subst AreNamedOwned (sym sides.types_are)
-    (includes_named t.worlds.listed _ m.includes.items (joined.own_state t.types m) sides.joined sides.includes (added_named interfaces uses owner ms s t before named))
+added_named = added_keep AreNamedOwned (λ names from into types world own new are h named. included_named names from into types own new named h)
+
+-- each type that belongs to an interface stands there still
+pub added_listed : (all : List Interface) (interfaces : List Interface) (uses : Rows) (owner : ℕ) (ms : List MovedWorld) (s t : State) → AreAdded interfaces uses owner ms s t → AreListed 0 s.types all → AreListed 0 t.types all
+added_listed all = added_keep (λ (types : List TypeDef). AreListed 0 types all) (included_listed all)

@@ -1,15 +1,22 @@
--- Types that come with an included world belong where those do of which they are copies.
-use Rattle.std.proofs.Common.{◌≡◌, ℕ, ◌<◌, Bool, true, false, List, [], ◌∷◌, ◌++◌, zero, suc, Option, Some, None, String, refl, sym, ap, ◌∙◌, subst}
+-- Types that come with an included world belong where those do of which they are copies, and to no interface.
+use Rattle.std.proofs.Common.{◌≡◌, ℕ, ◌<◌, ◌≤◌, Bool, true, false, List, [], ◌∷◌, ◌++◌, zero, suc, inl, inr, Option, Some, None, String, refl, sym, ap, ◌∙◌, subst, arith, length}
+use Rattle.std.proofs.lemmas.Bool.{cases_lt}
 use Rattle.std.proofs.lemmas.Option.{same_Some}
 use Rattle.std.specs.Prelude.{slice_get}
 use Rattle.std.specs.declared.alloc.Global.{Global}
+use Rattle.wit_order.specs.Order.{Has}
+use Rattle.wit_types.specs.declared.interface.Interface.{Interface}
 use Rattle.wit_types.specs.declared.interface.TypeDef.{TypeDef}
 use Rattle.wit_types.specs.declared.interface.TypeOwner.{TypeOwner}
 use Rattle.wit_types.specs.declared.interface.TypeOwner.TheVariants as belongs
 use Rattle.wit_types.specs.declared.world.IncludeName.{IncludeName}
+use Rattle.wit_types.specs.declared.world.World.{World}
 use Rattle.wit_reach.specs.Deps.{interface_of}
-use Rattle.wit_reach.specs.Holding.{AreNamedOwned}
+use Rattle.wit_reach.specs.Holding.{AreNamedOwned, AreListed, listed_types}
 use Rattle.wit_reach.specs.Lists.{AreOwnersThere}
+use Rattle.wit_reach.specs.Types.{AreWorldTypes, is_local}
+use Rattle.wit_reach.proofs.Growing.{get_same}
+use Rattle.wit_reach.proofs.Local.{stays_local}
 use Rattle.wit_copies.specs.Copies.{Copies, copied_owner, IsCopiedDef, AreCopied, no_types, one_more}
 use Rattle.wit_copies.specs.Same.{text_of}
 use Rattle.wit_includes.specs.Included as renamed
@@ -29,16 +36,20 @@ module _ (P : TypeDef → Type 0) (of_copy : (c : Copies) (from into : ℕ) (d e
   all_append [] es a b = b
   all_append (d ∷ ds) es a b = all_with d (ds ++ es) (a zero d refl) (all_append ds es (λ i e at. a (suc i) e at) b)
 
-  copies_all : (c : Copies) (from into : ℕ) (types : List TypeDef) (ids : List ℕ) (copied : List TypeDef) → AreAll P types → AreCopied c from into types ids copied → AreAll P copied
+  -- only what is copied counts
+  copies_all : (c : Copies) (from into : ℕ) (types : List TypeDef) (ids : List ℕ) (copied : List TypeDef) → ((i : ℕ) (d : TypeDef) → Has ids i → slice_get types i ≡ Some d → P d) → AreCopied c from into types ids copied → AreAll P copied
   copies_all c from into types _ _ all no_types = λ i d at. absurd cc
-  copies_all c from into types _ _ all (one_more i d e is es at copied more) = all_with e es (of_copy c from into d e copied (all i d at)) (copies_all c from into types is es all more)
+  copies_all c from into types _ _ all (one_more i d e is es at copied more) = all_with e es (of_copy c from into d e copied (all i d (inl refl) at)) (copies_all c from into types is es (λ j x has at_j. all j x (inr has) at_j) more)
 
   renamed_all : (names : List IncludeName) (w : ℕ) (ds es : List TypeDef) → AreAll P ds → AreRenamedDefs names w ds es → AreAll P es
   renamed_all names w _ _ all renamed.no_types = all
   renamed_all names w _ _ all (renamed.one_more d e ds es one more) = all_with e es (of_renamed names w d e one (all zero d refl)) (renamed_all names w ds es (λ i f at. all (suc i) f at) more)
 
+  included_new : (names : List IncludeName) (from into : ℕ) (types : List TypeDef) (own : List ℕ) (new : List TypeDef) → ((i : ℕ) (d : TypeDef) → Has own i → slice_get types i ≡ Some d → P d) → AreIncludedTypes names from into types own new → AreAll P new
+  included_new names from into types own new all h = renamed_all names into h.0 new (copies_all (copies_behind types own) from into types own h.0 all h.1) h.2
+
   included_all : (names : List IncludeName) (from into : ℕ) (types : List TypeDef) (own : List ℕ) (new : List TypeDef) → AreAll P types → AreIncludedTypes names from into types own new → AreAll P (types ++ new)
-  included_all names from into types own new all h = all_append types new all (renamed_all names into h.0 new (copies_all (copies_behind types own) from into types own h.0 all h.1) h.2)
+  included_all names from into types own new all h = all_append types new all (included_new names from into types own new (λ i d has at. all i d at) h)
 
 -- ---- interfaces that are there
 
@@ -58,6 +69,43 @@ included_owners n names from into types own new there h i j d at of =
     (λ c from into x y copied below k is. below k (sym (owner_copied from into x.owner) ∙ (ap interface_of (sym copied.2.owner_is) ∙ is)))
     (λ names w x y one below k is. below k (ap interface_of (sym (renamed_owner names (is_of_world w x.owner) x x.name y one)) ∙ is))
     names from into types own new (λ i x at k is. there i k x at is) h i d at j of
+
+-- ---- interfaces that have their types
+
+-- what is a world's own belongs to no interface
+local_free : (w : ℕ) (o : TypeOwner) → is_local w o ≡ true → interface_of o ≡ None
+local_free w (belongs.World v) e = refl
+local_free w (belongs.Interface i) e = absurd cc
+local_free w belongs.None e = refl
+
+-- nor does what comes with it
+included_free : (names : List IncludeName) (from into : ℕ) (types : List TypeDef) (world : World) (own : List ℕ) (new : List TypeDef) → AreWorldTypes from types world own → AreIncludedTypes names from into types own new
+    → (i : ℕ) (d : TypeDef) → slice_get new i ≡ Some d → interface_of d.owner ≡ None
+included_free names from into types world own new are h =
+    included_new (λ (x : TypeDef). interface_of x.owner ≡ None)
+    (λ c from into x y copied none. ap interface_of copied.2.owner_is ∙ owner_copied from into x.owner ∙ none)
+    (λ names w x y one none. ap interface_of (renamed_owner names (is_of_world w x.owner) x x.name y one) ∙ none)
+    names from into types own new own_free h
+  where
+    own_free : (i : ℕ) (d : TypeDef) → Has own i → slice_get types i ≡ Some d → interface_of d.owner ≡ None
+    own_free i d has at =
+        let o = are.only i has in
+        let l = stays_local from types o.0 o.2.0 i o.1.1 o.2.1 in
+        let same : l.0 ≡ d = same_Some l.0 d (sym l.1 ∙ at) in
+        local_free from d.owner (subst (λ (x : TypeDef). is_local from x.owner ≡ true) same l.2)
+
+free_behind : (types new : List TypeDef) → ((i : ℕ) (d : TypeDef) → slice_get new i ≡ Some d → interface_of d.owner ≡ None) → (i : ℕ) (d : TypeDef) → length types ≤ i → slice_get (types ++ new) i ≡ Some d → interface_of d.owner ≡ None
+free_behind [] new free i d past at = free i d at
+free_behind (x ∷ types) new free zero d past at = absurd (omega (arith, past))
+free_behind (x ∷ types) new free (suc i) d past at = free_behind types new free i d (omega (arith, past)) at
+
+pub included_listed : (interfaces : List Interface) (names : List IncludeName) (from into : ℕ) (types : List TypeDef) (world : World) (own : List ℕ) (new : List TypeDef) → AreWorldTypes from types world own → AreIncludedTypes names from into types own new
+    → AreListed 0 types interfaces → AreListed 0 (types ++ new) interfaces
+included_listed interfaces names from into types world own new are h listed i k d at (t, at_t, of) =
+    elim (cases_lt i (length types)) as (λ _. Has (listed_types d) i) [
+      | inl less ↦ listed i k d at (t, sym (get_same types new i less) ∙ at_t, of)
+      | inr past ↦ absurd (let free : interface_of t.owner ≡ None = free_behind types new (included_free names from into types world own new are h) i t past at_t in cc)
+    ]
 
 -- ---- types with names
 

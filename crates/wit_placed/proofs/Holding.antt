@@ -13,7 +13,7 @@ use Rattle.wit_types.specs.declared.interface.TypeOwner.TheVariants as belongs
 use Rattle.wit_features.specs.Features.{FeatureSet, stays as gate_stays}
 use Rattle.wit_moves.specs.Breaks.{AnyOf, IsKept}
 use Rattle.wit_moves.specs.Moved.{Places, place_of, is_placed, to, resource_of, is_resource_placed, IsMovedFunction}
-use Rattle.wit_moves.specs.Interfaces.{AreMovedNames, AreMovedFunctions, no_entries, one_goes, one_stays, function_stays, FunctionsBreak}
+use Rattle.wit_moves.specs.Interfaces.{AreMovedNames, AreMovedFunctions, function_stays, FunctionsBreak}
 use Rattle.wit_moves.specs.Plan.{OwnerPlaces, is_owner_placed, moved_owner}
 use Rattle.wit_finding.specs.Types.{type_in, interface_at, interface_of, type_found}
 use Rattle.wit_plans.specs.Checks.{Standing, InterfaceBreaks}
@@ -28,6 +28,7 @@ use Rattle.wit_moved_trees.proofs.Parts.{kind_from, function_from, function_plac
 use Rattle.wit_arena.proofs.Lists.{get_kept}
 use Rattle.wit_placed.specs.There.{IsInterfaceThere}
 use Rattle.wit_placed.specs.Order.{AreBehind, MovedInterfacesHoldTheirTypes, interface_places}
+use Rattle.wit_placed.proofs.Entries.{entry_was}
 use Rattle.wit_placed.proofs.Finding.{lookup_has}
 use Rattle.wit_placed.proofs.Members.{has_get}
 use Rattle.wit_placed.proofs.Order.{get_parts}
@@ -77,31 +78,19 @@ goes_to places i j p is = (let s = placed_some (place_of places i) p in s.1 ∙ 
 
 -- a name that stands there was one
 name_was : (places : Places) (old new : List (String Global × ℕ)) (e : String Global × ℕ) → AreMovedNames places old new → Has new e → (i : ℕ) × Has old (e.0, i) × (place_of places i ≡ Some e.1)
-name_was places _ _ e no_entries h = absurd h
-name_was places _ _ e (one_goes k v es fs s rest) h = (let r = name_was places es fs e rest h in (r.0, inr r.1, r.2))
-name_was places _ _ e (one_stays k v w es fs s m rest) h =
-    elim h as (λ _. (i : ℕ) × Has ((k, v) ∷ es) (e.0, i) × (place_of places i ≡ Some e.1)) [
-      | inl here ↦ (v, inl (ap (λ (z : String Global × ℕ). (z.0, v)) here), goes_to places v e.1 s (sym m ∙ sym (ap (λ (z : String Global × ℕ). z.1) here)))
-      | inr later ↦ (let r = name_was places es fs e rest later in (r.0, inr r.1, r.2))
-    ]
+name_was places old new e kept h = (let r = entry_was (is_placed places) (λ (i j : ℕ). j ≡ to places i) old new kept e h in (r.0, r.1, goes_to places r.0 e.1 r.2 (sym r.3)))
 
 -- so was a function
 function_was : (features : FeatureSet) (places : Places) (old new : List (String Global × Function)) (e : String Global × Function) → AreMovedFunctions features places old new → Has new e
     → (f : String Global × Function) × Has old f × (function_stays features places f.1 ≡ true) × IsMovedFunction (to places) f.1 e.1
-function_was features places _ _ e no_entries h = absurd h
-function_was features places _ _ e (one_goes k v es fs s rest) h = (let r = function_was features places es fs e rest h in (r.0, inr r.1, r.2, r.3))
-function_was features places _ _ e (one_stays k v w es fs s m rest) h =
-    elim h as (λ _. (f : String Global × Function) × Has ((k, v) ∷ es) f × (function_stays features places f.1 ≡ true) × IsMovedFunction (to places) f.1 e.1) [
-      | inl here ↦ ((k, v), inl refl, s, subst (λ (z : String Global × Function). IsMovedFunction (to places) v z.1) (sym here) m)
-      | inr later ↦ (let r = function_was features places es fs e rest later in (r.0, inr r.1, r.2, r.3))
-    ]
+function_was features places old new e kept h = (let r = entry_was (function_stays features places) (IsMovedFunction (to places)) old new kept e h in ((e.0, r.0), r.1, r.2, r.3))
 
 interface_kept : (features : FeatureSet) (s : Standing) (ds : List Interface) → IsKept (AnyOf (InterfaceBreaks features s) ds) → (k : ℕ) (d : Interface) → slice_get ds k ≡ Some d → gate_stays features d.stability ≡ true → IsKept (FunctionsBreak features s.types d.functions.entries)
 interface_kept features s [] kept k d at st = absurd cc
 interface_kept features s (x ∷ ds) kept zero d at st = λ where_ b. kept where_ (inl (subst (λ (y : Interface). InterfaceBreaks features s y where_) (sym (same_Some x d at)) (st, b)))
 interface_kept features s (x ∷ ds) kept (suc k) d at st = interface_kept features s ds (λ where_ b. kept where_ (inr b)) k d at st
 
-get_behind : (us xs : List TypeDef) (k : ℕ) → slice_get (us ++ xs) (length us + k) ≡ slice_get xs k
+pub get_behind : (us xs : List TypeDef) (k : ℕ) → slice_get (us ++ xs) (length us + k) ≡ slice_get xs k
 get_behind [] xs k = ap (slice_get xs) (omega arith)
 get_behind (u ∷ us) xs k = (let e : length (u ∷ us) + k ≡ suc (length us + k) = omega arith in ap (slice_get (u ∷ (us ++ xs))) e ∙ get_behind us xs k)
 

@@ -5,16 +5,16 @@ use Rattle.std.specs.Prelude.{slice_get}
 use Rattle.wit_types.specs.declared.interface.Interface.{Interface}
 use Rattle.wit_types.specs.declared.stability.Stability.{Stability}
 use Rattle.wit_features.specs.Features.{FeatureSet, stays}
-use Rattle.wit_moves.specs.Moved.{Places, place_of, flat}
+use Rattle.wit_moves.specs.Moved.{Places, place_of}
 use Rattle.wit_moves.specs.Plan.{Plan, with_place}
 use Rattle.wit_finding.specs.Own.{with_own}
 use Rattle.wit_plans.specs.Checks.{Standing}
 use Rattle.wit_plans.specs.Moves.{AreMovedInterfaces, no_interfaces, interface_goes, interface_stays}
 use Rattle.wit_moves.specs.Interfaces.{IsMovedInterface}
 use Rattle.wit_moved_trees.proofs.Moving.{place_more, place_kept}
-use Rattle.wit_arena.proofs.Lists.{get_last}
 use Rattle.wit_placed.specs.There.{AreBelow}
 use Rattle.wit_placed.specs.Order.{interface_places, InterfacesTakePlaces}
+use Rattle.wit_placed.proofs.Sources.{put_last}
 
 abbrev gates : List Interface → List Stability
 gates ds = map (λ (d : Interface). d.stability) ds
@@ -59,6 +59,20 @@ rising_place false c p below rising i j a b l m at_i at_j =
       | inr last_j ↦ absurd (let e : None ≡ Some b = last_j.1 in cc)
     ]
 
+-- places of those from a number on are no lower than that
+abbrev AreFrom : ℕ → ℕ → Places → Type 0
+AreFrom c base places = (i j : ℕ) → c ≤ i → place_of places i ≡ Some j → base ≤ j
+
+from_place : (b : Bool) (c base : ℕ) (p : Plan) → base ≤ p.next → AreFrom c base p.places → (base ≤ (with_place b p).next) × AreFrom c base (with_place b p).places
+from_place true c base p least from = (
+  omega (arith, least),
+  λ i j l h. elim (place_more p.places (Some p.next) i j h) as (λ _. base ≤ j) [
+    | inl was ↦ from i j l was
+    | inr last ↦ (let e : p.next ≡ j = same_Some p.next j last.1 in omega (arith, e, least))
+  ],
+)
+from_place false c base p least from = (least, λ i j l h. elim (place_more p.places None i j h) as (λ _. base ≤ j) [ inl was ↦ from i j l was | inr last ↦ absurd (let e : None ≡ Some j = last.1 in cc) ])
+
 kept_place : (b : Bool) (p : Plan) (i j : ℕ) → place_of p.places i ≡ Some j → place_of (with_place b p).places i ≡ Some j
 kept_place true p i j h = place_kept p.places (Some p.next ∷ []) i j h
 kept_place false p i j h = place_kept p.places (None ∷ []) i j h
@@ -73,6 +87,10 @@ module _ (features : FeatureSet) where
   rising_all : (c : ℕ) (p : Plan) (ss : List Stability) → AreBelow p.next p.places → AreRisingFrom c p.places → AreRisingFrom c (with_own features p ss).places
   rising_all c p [] below rising = rising
   rising_all c p (x ∷ ss) below rising = rising_all c (with_place (stays features x) p) ss (below_place (stays features x) p below) (rising_place (stays features x) c p below rising)
+
+  from_all : (c base : ℕ) (p : Plan) (ss : List Stability) → base ≤ p.next → AreFrom c base p.places → AreFrom c base (with_own features p ss).places
+  from_all c base p [] least from = from
+  from_all c base p (x ∷ ss) least from = (let r = from_place (stays features x) c base p least from in from_all c base (with_place (stays features x) p) ss r.0 r.1)
 
   kept_all : (p : Plan) (ss : List Stability) (i j : ℕ) → place_of p.places i ≡ Some j → place_of (with_own features p ss).places i ≡ Some j
   kept_all p [] i j h = h
@@ -106,9 +124,6 @@ module _ (features : FeatureSet) (s : Standing) (owner : ℕ) where
         (subst (λ (n : ℕ). place_of places (d + f.place) ≡ Some n) ne f.stands);
   }
 
-  put_last : (p : Plan) → place_of (with_place true p).places (length p.places) ≡ Some p.next
-  put_last p = ap flat (get_last p.places (Some p.next))
-
   each_from : (p : Plan) (ds es : List Interface) → AreMovedInterfaces features s owner ds es → (k : ℕ) (e : Interface) → slice_get es k ≡ Some e → IsFrom (length p.places) p.next (with_own features p (gates ds)).places ds k e
   each_from p _ _ no_interfaces k e h = absurd cc
   each_from p _ _ (interface_goes d ds es st rest) k e h =
@@ -141,6 +156,11 @@ interfaces_take_places features s owner others base own new below moved =
 pub interfaces_rise : (features : FeatureSet) (others : Places) (base : ℕ) (own : List Interface) → AreBelow base others → AreRisingFrom (length others) (interface_places features others base own)
 interfaces_rise features others base own below =
     rising_all features (length others) (record { places = others; next = base }) (gates own) below (λ i j a b l m at_i at_j. absurd (let k : j < length others = place_within others j b at_j in omega arith))
+
+-- those of the package's own stand behind all that were there
+pub interfaces_from : (features : FeatureSet) (others : Places) (base : ℕ) (own : List Interface) (i j : ℕ) → length others ≤ i → place_of (interface_places features others base own) i ≡ Some j → base ≤ j
+interfaces_from features others base own =
+    from_all features (length others) base (record { places = others; next = base }) (gates own) (omega arith) (λ i j l h. absurd (let k : i < length others = place_within others i j h in omega (arith, k, l)))
 
 pub interface_from : (features : FeatureSet) (s : Standing) (owner : ℕ) (others : Places) (base : ℕ) (own new : List Interface) → AreMovedInterfaces features s owner own new
     → (k : ℕ) (e : Interface) → slice_get new k ≡ Some e → IsFrom features s owner (length others) base (interface_places features others base own) own k e

@@ -9,7 +9,7 @@ use Rattle.wit_types.specs.declared.interface.TypeDef.{TypeDef}
 use Rattle.wit_types.specs.declared.interface.TypeOwner.{TypeOwner}
 use Rattle.wit_types.specs.declared.interface.TypeOwner.TheVariants as belongs
 use Rattle.wit_features.specs.Features.{FeatureSet, stays as gate_stays}
-use Rattle.wit_moves.specs.Moved.{Places, place_of, is_placed, is_kind_placed, to, IsMovedDef}
+use Rattle.wit_moves.specs.Moved.{Places, place_of, flat, is_placed, is_kind_placed, to, IsMovedDef}
 use Rattle.wit_moves.specs.Plan.{OwnerPlaces, is_owner_placed, moved_owner, named_stays, type_stays, Plan, with_place, with_types, AreTypesPlaced, AreMovedDefs, no_defs, left_out, moved as moved_def}
 use Rattle.wit_reach.specs.Deps.{interface_of}
 use Rattle.wit_reach.specs.Ids.{kind_ids}
@@ -27,6 +27,10 @@ owner_stands owners (belongs.Interface i) j p e =
     (i, refl, subst (λ (k : ℕ). place_of owners.interfaces i ≡ Some k) same s.1)
 owner_stands owners (belongs.World w) j p e = absurd cc
 owner_stands owners belongs.None j p e = absurd cc
+
+-- a place that is put last
+pub put_last : (p : Plan) → place_of (with_place true p).places (length p.places) ≡ Some p.next
+put_last p = ap flat (get_last p.places (Some p.next))
 
 module _ (features : FeatureSet) (owners : OwnerPlaces) (others places : Places) (graph own : List TypeDef) (nameless : AreNamelessFree own)
     (placed : AreTypesPlaced features owners others (length graph) own places)
@@ -49,17 +53,18 @@ module _ (features : FeatureSet) (owners : OwnerPlaces) (others places : Places)
       pub owned : is_owner_placed owners old.owner ≡ true
       pub parts : ArePlaced places (kind_ids old.kind)
 
-    -- what it was
-    pub record IsWas (xs : List TypeDef) (new : TypeDef) : Type 0 where
+    -- what the one that goes there was
+    pub record IsWas (xs : List TypeDef) (stands : Places) (i : ℕ) (new : TypeDef) : Type 0 where
       pub place : ℕ
       pub old : TypeDef
       pub was : slice_get xs place ≡ Some old
+      pub goes : place_of stands (length others + place) ≡ Some (length graph + i)
       pub moved : IsMovedDef (to places) (moved_owner owners old.owner) old new
       pub owned : is_owner_placed owners old.owner ≡ true
 
     pub record AreSources (xs fs : List TypeDef) (stands : Places) : Type 0 where
       pub sources : (i j : ℕ) → place_of stands i ≡ Some j → (place_of others i ≡ Some j) ⊎ IsFrom xs fs i j
-      pub were : (i : ℕ) (d : TypeDef) → slice_get fs i ≡ Some d → IsWas xs d
+      pub were : (i : ℕ) (d : TypeDef) → slice_get fs i ≡ Some d → IsWas xs stands i d
 
     record SoFar (xs fs : List TypeDef) : Type 0 where
       next : (plan xs).next ≡ length graph + length fs
@@ -89,8 +94,15 @@ module _ (features : FeatureSet) (owners : OwnerPlaces) (others places : Places)
           })
         ]
 
-    more_was : (xs : List TypeDef) (d e : TypeDef) → IsWas xs e → IsWas (xs ++ d ∷ []) e
-    more_was xs d e w = record { place = w.place; old = w.old; was = get_kept xs (d ∷ []) w.place w.old w.was; moved = w.moved; owned = w.owned }
+    more_was : (xs : List TypeDef) (stands more : Places) (d : TypeDef) (i : ℕ) (e : TypeDef) → IsWas xs stands i e → IsWas (xs ++ d ∷ []) (stands ++ more) i e
+    more_was xs stands more d i e w = record {
+      place = w.place;
+      old = w.old;
+      was = get_kept xs (d ∷ []) w.place w.old w.was;
+      goes = place_kept stands more (length others + w.place) (length graph + i) w.goes;
+      moved = w.moved;
+      owned = w.owned;
+    }
 
     module _ (xs ys fs : List TypeDef) (d : TypeDef) (split : xs ++ d ∷ ys ≡ own) (so_far : SoFar xs fs) where
       abbrev stays : Bool
@@ -123,7 +135,7 @@ module _ (features : FeatureSet) (owners : OwnerPlaces) (others places : Places)
                 | inl was ↦ subst (λ (gs : List TypeDef). (place_of others i ≡ Some j) ⊎ IsFrom (xs ++ d ∷ []) gs i j) (append-nil fs) (more_from xs fs [] d i j (so_far.are.sources i j was))
                 | inr last ↦ absurd (let e : None ≡ Some j = last.1 in cc)
               ];
-              were = λ i e at. more_was xs d e (so_far.are.were i e at);
+              were = λ i e at. subst (λ (q : Plan). IsWas (xs ++ d ∷ []) q.places i e) (sym now) (more_was xs (plan xs).places (None ∷ []) d i e (so_far.are.were i e at));
             };
           }
 
@@ -189,10 +201,18 @@ module _ (features : FeatureSet) (owners : OwnerPlaces) (others places : Places)
                   | inl was ↦ more_from xs fs (e ∷ []) d i j (so_far.are.sources i j was)
                   | inr last ↦ inr (last_from i j last.0 (same_Some (plan xs).next j last.1) long)
                 ];
-                were = λ i g at. elim (get_more fs e g i at) as (λ _. IsWas (xs ++ d ∷ []) g) [
-                  | inl was ↦ more_was xs d g (so_far.are.were i g was)
-                  | inr last ↦ record { place = length xs; old = d; was = get_last xs d; moved = subst (IsMovedDef (to places) (moved_owner owners d.owner) d) (sym last.1) is; owned = owner_there }
-                ];
+                were = λ i g at. subst (λ (q : Plan). IsWas (xs ++ d ∷ []) q.places i g) (sym now) (elim (get_more fs e g i at) as (λ _. IsWas (xs ++ d ∷ []) (with_place true (plan xs)).places i g) [
+                  | inl was ↦ more_was xs (plan xs).places (Some (plan xs).next ∷ []) d i g (so_far.are.were i g was)
+                  | inr last ↦ record {
+                    place = length xs;
+                    old = d;
+                    was = get_last xs d;
+                    goes = subst (λ (k : ℕ). place_of (with_place true (plan xs)).places k ≡ Some (length graph + i)) long
+                        (put_last (plan xs) ∙ ap (λ (k : ℕ). Some k) (so_far.next ∙ ap (λ (k : ℕ). length graph + k) (sym last.0)));
+                    moved = subst (IsMovedDef (to places) (moved_owner owners d.owner) d) (sym last.1) is;
+                    owned = owner_there;
+                  }
+                ]);
               };
             }
 
@@ -206,4 +226,7 @@ module _ (features : FeatureSet) (owners : OwnerPlaces) (others places : Places)
     pub all_sources : (fs : List TypeDef) → AreMovedDefs owners places (length others) own fs → AreSources own fs places
     all_sources fs m =
         let s = (all_so_far own fs m [] (append-nil own)).are in
-        record { sources = λ i j p. s.sources i j (subst (λ (ps : Places). place_of ps i ≡ Some j) placed.are p); were = s.were }
+        record {
+          sources = λ i j p. s.sources i j (subst (λ (ps : Places). place_of ps i ≡ Some j) placed.are p);
+          were = λ i d at. subst (λ (ps : Places). IsWas own ps i d) (sym placed.are) (s.were i d at);
+        }

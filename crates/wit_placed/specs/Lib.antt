@@ -1,3 +1,5 @@
 pub mod There
 pub mod Order
 pub mod Found
+pub mod Listed
+pub mod Naming

@@ -1,5 +1,6 @@
--- Each type that belongs to an interface of a package stands in it.
+-- Each type that belongs to an interface of a package stands in it, and those of others have none of its own.
 use Rattle.std.proofs.Common.{◌≡◌, inl, inr, ℕ, ◌+◌, ◌<◌, ◌≤◌, List, Some, drop, length, sym, subst, ap, ◌∙◌, arith}
+use Rattle.std.proofs.lemmas.Bool.{cases_lt}
 use Rattle.std.proofs.lemmas.Option.{same_Some, slice_get_within}
 use Rattle.std.specs.Prelude.{slice_get, String}
 use Rattle.std.specs.declared.alloc.Global.{Global}
@@ -14,7 +15,8 @@ use Rattle.wit_scopes.specs.Paths.{file_uses}
 use Rattle.wit_scopes.specs.Scopes.{package_scopes}
 use Rattle.wit_rules.specs.Breaks.{IsKept}
 use Rattle.wit_lookups.specs.Lookups.{LookupsBreak}
-use Rattle.wit_arena.proofs.Lists.{has_map}
+use Rattle.wit_arena.specs.Meaning.{Has}
+use Rattle.wit_arena.proofs.Lists.{has_map, has_none}
 use Rattle.wit_foreign.specs.Items.{interfaces_in}
 use Rattle.wit_foreign.proofs.Numbers.{interface_below}
 use Rattle.wit_resolved_scopes.proofs.Orders.{listed}
@@ -25,12 +27,15 @@ use Rattle.wit_package.specs.TopUses.{files_need}
 use Rattle.wit_package.specs.Faults.{by_lookups}
 use Rattle.wit_package.specs.Resolved.{IsResolved}
 use Rattle.wit_package.specs.Steps.{Resolves}
-use Rattle.wit_graph_parts.specs.Own.{asked}
-use Rattle.wit_well_formed.specs.Listed.{TypesAreListed}
+use Rattle.wit_graph_parts.specs.Own.{asked, asked_types}
+use Rattle.wit_well_formed.specs.Listed.{OwnTypesAreOwned, TypesAreListed}
+use Rattle.wit_reach.proofs.Growing.{get_same}
 use Rattle.wit_reach.proofs.Holding.{got}
 use Rattle.wit_well_formed.proofs.Lists.{get_drop}
 use Rattle.wit_well_formed.proofs.Sorts.{one_owner}
+use Rattle.wit_well_formed.proofs.Counted.{interface_item}
 use Rattle.wit_well_formed.proofs.Numbers.{interfaces_counted}
+use Rattle.wit_well_formed.proofs.Few.{interfaces_few}
 
 owner_is : (o : TypeOwner) (j : ℕ) → interface_of o ≡ Some j → o ≡ belongs.Interface j
 owner_is belongs.None j e = absurd cc
@@ -71,6 +76,36 @@ module _ (files : List FileTree) (p : UnresolvedPackage) (r : Resolves files p) 
     | inl unknown ↦ absurd (let below = other i ((asked p).interfaces + k) t unknown of in omega (arith, below, counted))
     | inr is ↦ stands i ((asked p).interfaces + k) d (get_drop (asked p).interfaces p.interfaces k d at) (subst (IsListed p.interfaces p.worlds i) of is)
   ]
+
+  -- no more are counted
+  no_more : (asked p).interfaces ≤ interfaces_in s.items
+  no_more = interfaces_few (files_need s.me files) s.items s.items_are p.foreign_deps.entries p.foreign_dep_spans.items s.deps_are
+
+  -- one of another package has no types
+  none_stand : (j : ℕ) (d : Interface) → slice_get p.interfaces j ≡ Some d → j < (asked p).interfaces → (e : String Global × ℕ) → Has d.types.entries e → ⊥
+  none_stand j d at less e has =
+      let most = no_more in
+      let so_many : length s.foreign_interfaces ≡ interfaces_in s.items = s.foreign_are.so_many_interfaces in
+      let low : j < length s.foreign_interfaces = omega (arith, less, most, so_many) in
+      let item = interface_item (files_need s.me files) s.items s.items_are j (omega (arith, low, so_many)) in
+      let here : slice_get s.foreign_interfaces j ≡ Some d = sym (get_same s.foreign_interfaces s.own_interfaces j low) ∙ subst (λ (ds : List Interface). slice_get ds j ≡ Some d) s.interfaces_are at in
+      has_none e (subst (λ (es : List (String Global × ℕ)). Has es e) (s.foreign_are.interfaces item.0 j d item.1 here).types has)
+
+  own_behind : (k j : ℕ) (t : TypeDef) → slice_get (drop (asked_types p) p.types) k ≡ Some t → t.owner ≡ belongs.Interface j → (asked p).interfaces ≤ j
+  own_behind k j t at of = elim (s.listed (asked_types p + k) t (get_drop (asked_types p) p.types k t at)) as (λ _. (asked p).interfaces ≤ j) [
+    | inl unknown ↦ absurd (
+        let within : asked_types p + k < length s.unknown = slice_get_within s.unknown (asked_types p + k) t unknown in
+        let types : length s.unknown ≡ length s.names = s.unknown_are.so_many_types in
+        let places : asked_types p ≡ length s.names = s.unknown_are.so_many_spans in
+        omega (arith, within, types, places))
+    | inr is ↦ elim (cases_lt j (asked p).interfaces) as (λ _. (asked p).interfaces ≤ j) [
+      | inl less ↦ absurd (let h = subst (IsListed p.interfaces p.worlds (asked_types p + k)) of is in none_stand j h.0 h.1 less (h.2.0, asked_types p + k) h.2.1)
+      | inr past ↦ past
+    ]
+  ]
+
+pub own_types_owned : OwnTypesAreOwned
+own_types_owned files p r k j t at of = own_behind files p r k j t at (owner_is t.owner j of)
 
 pub types_are_listed : TypesAreListed
 types_are_listed files p r i k d at (t, at_t, of) = own files p r i k d t at at_t (owner_is t.owner ((asked p).interfaces + k) of)

@@ -39,6 +39,19 @@ unknown_counted items needs a b all entries spans u is =
     let whole : length all ≡ length a + length b = ap length is ∙ length-append a b in
     omega (arith, types, places, whole)
 
+-- ---- entries
+
+-- each is of a part, which has its place
+pub entry_of : {E : Type 0} (IsEntry : NeedTree → List NeedTree → E → Type 0) (firsts : List NeedTree) (rows : List (List NeedTree)) (es : List E) → AreEntries IsEntry firsts rows es → length rows ≡ length firsts
+    → (k : ℕ) (e : E) → slice_get es k ≡ Some e → (f : NeedTree) × (row : List NeedTree) × (slice_get firsts k ≡ Some f) × (slice_get rows k ≡ Some row) × IsEntry f row e
+entry_of IsEntry firsts rows es a so_many k e at =
+    let within : k < length es = slice_get_within es k e at in
+    let size : length es ≡ length firsts = a.so_many in
+    let f = got firsts k (omega (arith, within, size)) in
+    let row = got rows k (omega (arith, within, size, so_many)) in
+    let r = a.each k f.0 row.0 f.1 row.1 in
+    (f.0, row.0, f.1, row.1, subst (IsEntry f.0 row.0) (same_Some r.0 e (sym r.1 ∙ at)) r.2)
+
 -- ---- ids
 
 module _ (needs : List NeedTree) (items : Items) (are : AreItemsOf needs items) where
@@ -83,21 +96,11 @@ module _ (needs : List NeedTree) (items : Items) (are : AreItemsOf needs items) 
     item_there w (ids.Interface k) has = (let less : k < interfaces_in items = interface_below needs items are w k has in omega (arith, less, interfaces_fit))
     item_there w (ids.World k) has = (let less : k < worlds_in items = world_below w k has in omega (arith, less, worlds_fit))
 
-    entry_of : {E : Type 0} (IsEntry : NeedTree → List NeedTree → E → Type 0) (firsts : List NeedTree) (rows : List (List NeedTree)) (es : List E) → AreEntries IsEntry firsts rows es → length rows ≡ length firsts
-        → (k : ℕ) (e : E) → slice_get es k ≡ Some e → (f : NeedTree) × (row : List NeedTree) × IsEntry f row e
-    entry_of IsEntry firsts rows es a so_many k e at =
-        let within : k < length es = slice_get_within es k e at in
-        let size : length es ≡ length firsts = a.so_many in
-        let f = got firsts k (omega (arith, within, size)) in
-        let row = got rows k (omega (arith, within, size, so_many)) in
-        let r = a.each k f.0 row.0 f.1 row.1 in
-        (f.0, row.0, subst (IsEntry f.0 row.0) (same_Some r.0 e (sym r.1 ∙ at)) r.2)
-
     items_there : (ns : List NeedTree) (es : List ItemEntry) → AreItemDeps items ns es → AreItemsThere interfaces worlds es
     items_there ns es d e has =
         let h = placed es e has in
         let r = entry_of (IsItemDep items) d.firsts d.rows es d.entries d.parts.so_many h.0 e h.1 in
-        item_there _ e.1.0 r.2.item
+        item_there _ e.1.0 r.4.item
 
     pub asks_there : {S : Type 0} (es : List (PackageName × IndexMap (String Global) (AstItem × Vec Stability Global) S)) (spans : List Span) → AreDeps items needs (package_entries es) spans → AreDepsThere interfaces worlds (items_of es)
     asks_there {S} es spans d found has =
@@ -105,4 +108,4 @@ module _ (needs : List NeedTree) (items : Items) (are : AreItemsOf needs items) 
         let m = map_has (λ (e : PackageName × IndexMap (String Global) (AstItem × Vec Stability Global) S). e.1.entries) es found h in
         let at : slice_get (package_entries es) m.1.0 ≡ Some (m.0.0, m.0.1.entries) = slice_get-map (λ e. (e.0, e.1.entries)) es m.1.0 ∙ ap (option_map (λ e. (e.0, e.1.entries))) m.1.1 in
         let r = entry_of (IsPackageDep items) d.firsts d.rows (package_entries es) d.entries d.parts.so_many m.1.0 (m.0.0, m.0.1.entries) at in
-        subst (AreItemsThere interfaces worlds) (sym m.2) (items_there r.1 m.0.1.entries r.2.items_are)
+        subst (AreItemsThere interfaces worlds) (sym m.2) (items_there r.1 m.0.1.entries r.4.items_are)

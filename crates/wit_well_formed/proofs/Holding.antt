@@ -4,10 +4,9 @@ use Rattle.std.proofs.lemmas.Grind.{flat_map-append}
 use Rattle.std.proofs.lemmas.List.Folds.{flat_map-map}
 use Rattle.std.proofs.lemmas.List.{append-nil}
 use Rattle.std.proofs.lemmas.Option.{same_Some, slice_get_within}
-use Rattle.std.specs.Prelude.{slice_get, flat_map, option_map, string_bytes, if◌then◌else◌}
+use Rattle.std.specs.Prelude.{slice_get, flat_map, string_bytes, if◌then◌else◌}
 use Rattle.std.specs.declared.alloc.Global.{Global}
 use Rattle.wit_order.specs.Order as order
-use Rattle.wit_types.specs.declared.kind.«Type».{«Type» as Ref}
 use Rattle.wit_types.specs.declared.kind.TypeDefKind.{TypeDefKind}
 use Rattle.wit_types.specs.declared.kind.TypeDefKind.TheVariants as kind
 use Rattle.wit_types.specs.declared.function.Function.{Function}
@@ -24,15 +23,15 @@ use Rattle.wit_arena.specs.Tree.{Name, Owner, Tree, Trees, resource_leaf, named_
 use Rattle.wit_arena.specs.Table.{Entries}
 use Rattle.wit_arena.specs.Meaning.{Has, MeansParts, MeansName}
 use Rattle.wit_arena.specs.Standing.{HasTree}
-use Rattle.wit_arena.specs.Unfold.{Owners, kind_tree, named_kind_tree, owner_of, nameless_tree, def_tree_of, and_then, part_trees, trees, IsWhole}
+use Rattle.wit_arena.specs.Unfold.{Owners, kind_tree, named_kind_tree, owner_of, def_tree_of, trees, IsWhole}
 use Rattle.wit_arena.proofs.Lists.{has_map}
 use Rattle.wit_arena.proofs.Unfolding.{def_at, option_map_some}
 use Rattle.wit_functions.specs.Signature.{IsKindOf}
-use Rattle.wit_interfaces.specs.Interfaces.{functions_in, IsInterfaceIn, AreInterfacesIn}
+use Rattle.wit_interfaces.specs.Interfaces.{IsInterfaceIn, AreInterfacesIn}
 use Rattle.wit_resolved_scopes.specs.InArena.{Context, IsTypeIn, IsFunctionIn}
 use Rattle.wit_resolved_scopes.specs.Meaning.{function_refs, written_parts}
 use Rattle.wit_resolved_scopes.specs.Scope.{functions_among}
-use Rattle.wit_resolved_scopes.specs.Texts.{InterfaceText, interface_texts}
+use Rattle.wit_resolved_scopes.specs.Texts.{InterfaceText}
 use Rattle.wit_resolved_scopes.proofs.Orders.{placed}
 use Rattle.wit_resolved_scopes.proofs.Eaches.{each_right}
 use Rattle.wit_reach.specs.Holding.{IsUpTo, IsMadeUpTo, listed_types, functions_ids, AreNamedOwned, IsTypeUnder, HoldTheirTypes}
@@ -42,7 +41,7 @@ use Rattle.wit_reach.proofs.Ends.{closed_ends}
 use Rattle.wit_reach.proofs.Holding.{has_mapped, has_flat, got}
 use Rattle.wit_reach.proofs.Lists.{has_parts}
 use Rattle.wit_copied_trees.proofs.Owners.{IsIn, IsInParts, then_some, parts_within, made_within}
-use Rattle.wit_well_formed.proofs.Nameless.{by_name, nameless_free}
+use Rattle.wit_well_formed.proofs.Nameless.{by_name}
 use Rattle.wit_well_formed.proofs.Earlier.{IsOwnerUpTo}
 
 -- ---- whose a type is, and its tree

@@ -12,4 +12,6 @@ pub mod Whole
 mod Parsed
 mod Sorts
 mod Numbers
+mod Few
+mod Names
 mod Belonging

@@ -28,11 +28,11 @@ use Rattle.wit_well_formed.proofs.Sorts.{AskOfOne}
 
 -- ---- counts
 
-abbrev count : List AstItem → ℕ
+abbrev pub count : List AstItem → ℕ
 count [] = 0
 count (i ∷ is) = interface_count i + count is
 
-count_more : (xs ys : List AstItem) → count (xs ++ ys) ≡ count xs + count ys
+pub count_more : (xs ys : List AstItem) → count (xs ++ ys) ≡ count xs + count ys
 count_more [] ys = omega arith
 count_more (x ∷ xs) ys = let h = count_more xs ys in omega (arith, h)
 
@@ -57,7 +57,7 @@ many (suc n) is has =
       ]
     ]
 
-abbrev asked_items : List ItemEntry → List AstItem
+abbrev pub asked_items : List ItemEntry → List AstItem
 asked_items es = map (λ (e : ItemEntry). e.1.0) es
 
 items_counted : (c : Counts) (xs : List (AstItem × Vec Stability Global)) → (with_items c xs).interfaces ≡ c.interfaces + count (map (λ (x : AstItem × Vec Stability Global). x.0) xs)
@@ -65,7 +65,7 @@ items_counted c [] = omega arith
 items_counted c ((ids.Interface k, v) ∷ xs) = let h = items_counted (record c { interfaces = c.interfaces + 1 }) xs in omega (arith, h)
 items_counted c ((ids.World k, v) ∷ xs) = let h = items_counted (record c { worlds = c.worlds + 1 }) xs in omega (arith, h)
 
-deps_counted : (c : Counts) (ds : List (List ItemEntry)) → (with_deps c ds).interfaces ≡ c.interfaces + count (flat_map asked_items ds)
+pub deps_counted : (c : Counts) (ds : List (List ItemEntry)) → (with_deps c ds).interfaces ≡ c.interfaces + count (flat_map asked_items ds)
 deps_counted c [] = omega arith
 deps_counted c (d ∷ ds) =
     let xs = map (λ (e : ItemEntry). e.1) d in
@@ -93,7 +93,7 @@ module _ {K : Type 0} (key : NeedTree → K) (x : K) where
     | inr last ↦ elim (has_cases m [] n last) as (λ _. Has r n) [ inl same ↦ absurd (differs (ap key (sym same) ∙ of)) | inr none ↦ absurd (has_none n none) ]
   ]
 
-  part_of : (ns row : List NeedTree) → IsPart key x ns row → (n : NeedTree) → Has row n → Has ns n × (key n ≡ x)
+  pub part_of : (ns row : List NeedTree) → IsPart key x ns row → (n : NeedTree) → Has row n → Has ns n × (key n ≡ x)
   part_of ns row no_part n has = absurd (has_none n has)
   part_of ns row (of_key ms r m p same) n has = elim (either r (m ∷ []) n has) as (λ _. Has (ms ++ m ∷ []) n × (key n ≡ x)) [
     | inl was ↦ (let h = part_of ms r p n was in (has_left ms (m ∷ []) n h.0, h.1))

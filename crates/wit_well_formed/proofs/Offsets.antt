@@ -1,9 +1,9 @@
 -- What is well formed stays so wherever its places are.
-use Rattle.std.proofs.Common.{◌≡◌, ℕ, ◌+◌, List, [], ◌∷◌, ◌++◌, Some, None, map, length, drop, refl, sym, subst, ap, ◌∙◌, arith}
+use Rattle.std.proofs.Common.{◌≡◌, ℕ, ◌+◌, List, [], ◌∷◌, ◌++◌, map, length, drop, refl, sym, subst, ap, ◌∙◌, arith}
 use Rattle.std.proofs.lemmas.List.{drop-map, length-map, with_items_is}
 use Rattle.std.proofs.lemmas.List.Folds.{flat_map-map}
 use Rattle.std.proofs.lemmas.Option.{slice_get-map}
-use Rattle.std.specs.Prelude.{slice_get, flat_map, option_map, String, Vec}
+use Rattle.std.specs.Prelude.{flat_map, option_map, String, Vec, string_bytes}
 use Rattle.std.specs.declared.alloc.Global.{Global}
 use Rattle.wit_order.specs.Order.{Has}
 use Rattle.wit_words.specs.declared.source_map.Span.{Span}
@@ -25,12 +25,15 @@ use Rattle.wit_types.specs.declared.world_key.WorldKey.{WorldKey}
 use Rattle.wit_types.specs.declared.world_key.WorldKey.TheVariants as key
 use Rattle.wit_elaborated.specs.Worlds.{IsKeyOfItem, AreKeysOfItems}
 use Rattle.wit_finding.specs.Asks.{IsItemThere}
-use Rattle.wit_reach.specs.Holding.{IsUpTo, IsMadeUpTo, listed_types, functions_ids, IsTypeUnder, HoldTheirTypes}
+use Rattle.wit_reach.specs.Deps.{interface_of}
+use Rattle.wit_reach.specs.Holding.{IsUpTo, IsMadeUpTo, listed_types, functions_ids, IsTypeUnder, AreListed, HoldTheirTypes}
 use Rattle.wit_reach.specs.Ids.{ref_ids, part_ids, kind_ids, resource_ids, function_ids}
 use Rattle.wit_reach.specs.Types.{IsMadeOf}
 use Rattle.wit_reach.proofs.Seen.{path_over}
 use Rattle.wit_offsets.specs.Offsets.{items_by, param_by, function_by, field_by, case_by, kind_by, type_def_by, interface_by, item_by, world_by, package_by, span_at}
 use Rattle.wit_placed.specs.Order.{AreNamelessFree}
+use Rattle.wit_placed.specs.Listed.{AreOwnersBehind}
+use Rattle.wit_placed.specs.Naming.{AreNamesApart, HasNamesApart, HaveNamesApart}
 use Rattle.wit_graph_parts.specs.Own.{asked, asked_types, IsWellFormed}
 use Rattle.wit_well_formed.specs.Law.{MovedPackagesAreWellFormed}
 use Rattle.wit_reach.proofs.Holding.{has_mapped}
@@ -104,6 +107,32 @@ module _ (f : Span → Span) where
           made_up_to ds (others + k) s (hold.functions_use k s o.0 o.1 (subst (λ (ids : List ℕ). Has ids s) (same_functions o.0.functions.entries) (subst (λ (x : Interface). Has (functions_ids x) s) (sym o.2) h))));
     }
 
+  -- and the same types belong to them
+  same_listed : (ds : List TypeDef) (others : ℕ) (is : List Interface) → AreListed others ds (drop others is) → AreListed others (map (type_def_by f) ds) (drop others (map (interface_by f) is))
+  same_listed ds others is listed i k d at (t, at_t, of) =
+      let o = got_behind (interface_by f) others is k d at in
+      let u = got_mapped (type_def_by f) ds i t at_t in
+      subst (λ (x : Interface). Has (listed_types x) i) o.2 (listed i k o.0 o.1 (u.0, u.1, ap (λ (x : TypeDef). interface_of x.owner) u.2 ∙ of))
+
+  -- under names that are apart
+  functions_apart : (es : List (String Global × Function)) → AreNamesApart es → AreNamesApart (map (λ (e : String Global × Function). (e.0, function_by f e.1)) es)
+  functions_apart es apart i j x y at_i at_j same =
+      let a = got_mapped (λ (e : String Global × Function). (e.0, function_by f e.1)) es i x at_i in
+      let b = got_mapped (λ (e : String Global × Function). (e.0, function_by f e.1)) es j y at_j in
+      apart i j a.0 b.0 a.1 b.1 (ap (λ (e : String Global × Function). string_bytes e.0) a.2 ∙ same ∙ ap (λ (e : String Global × Function). string_bytes e.0) (sym b.2))
+
+  same_names : (d : Interface) → HasNamesApart d → HasNamesApart (interface_by f d)
+  same_names d names = record {
+    types = names.types;
+    functions = functions_apart d.functions.entries names.functions;
+    named = λ e has.
+        (let o = has_mapped (λ (e : String Global × Function). (e.0, function_by f e.1)) d.functions.entries e has in
+        ap (λ (x : String Global × Function). string_bytes x.1.name) (sym o.2) ∙ names.named o.0 o.1 ∙ ap (λ (x : String Global × Function). string_bytes x.0) o.2);
+    between = λ e g has_e has_g same.
+        (let o = has_mapped (λ (e : String Global × Function). (e.0, function_by f e.1)) d.functions.entries g has_g in
+        names.between e o.0 has_e o.1 (same ∙ ap (λ (x : String Global × Function). string_bytes x.0) (sym o.2)));
+  }
+
   -- ---- what worlds import
 
   key_of : (e : WorldKey × WorldItem) → IsKeyOfItem e → IsKeyOfItem (e.0, item_by f e.1)
@@ -131,6 +160,14 @@ module _ (f : Span → Span) where
         let o = got_behind (type_def_by f) (asked_types p) p.types k d at in
         ap (λ (x : TypeDef). x.owner) (sym o.2) ∙ w.nameless k o.0 o.1 (ap (λ (x : TypeDef). x.name) o.2 ∙ none)
 
+    owned : AreOwnersBehind (asked p).interfaces (drop (asked_types p) (map (type_def_by f) p.types))
+    owned k j d at of = (let o = got_behind (type_def_by f) (asked_types p) p.types k d at in w.owned k j o.0 o.1 (ap (λ (x : TypeDef). interface_of x.owner) o.2 ∙ of))
+
+    names : HaveNamesApart (drop (asked p).interfaces (map (interface_by f) p.interfaces))
+    names d has =
+        let o = has_mapped (interface_by f) (drop (asked p).interfaces p.interfaces) d (subst (λ (ds : List Interface). Has ds d) (drop-map (interface_by f) (asked p).interfaces p.interfaces) has) in
+        subst HasNamesApart o.2 (same_names o.0 (w.names o.0 o.1))
+
     keys : (x : World) → Has (drop (asked p).worlds (map (world_by f) p.worlds)) x → AreKeysOfItems x.imports.entries
     keys x has =
         let o = has_mapped (world_by f) (drop (asked p).worlds p.worlds) x (subst (λ (ws : List World). Has ws x) (drop-map (world_by f) (asked p).worlds p.worlds) has) in
@@ -142,7 +179,10 @@ module _ (f : Span → Span) where
       deps = λ es has e among. item_there p.interfaces p.worlds e.1.0 (w.deps es has e among);
       unknown = (let few = w.unknown in let e = length-map p.types (type_def_by f) in omega (arith, few, e, asked_for));
       nameless = subst (λ (n : ℕ). AreNamelessFree (drop n (map (type_def_by f) p.types))) (sym asked_for) nameless;
+      owned = subst (λ (n : ℕ). AreOwnersBehind (asked p).interfaces (drop n (map (type_def_by f) p.types))) (sym asked_for) owned;
       holds = same_hold p.types (asked p).interfaces p.interfaces w.holds;
+      listed = same_listed p.types (asked p).interfaces p.interfaces w.listed;
+      names = names;
       keys = keys;
     }
 

@@ -1,5 +1,5 @@
 -- What stands in front of an interface of a package.
-use Rattle.std.proofs.Common.{◌≡◌, ℕ, ◌+◌, ◌<◌, List, ◌++◌, inl, inr, length, take, Option, Some, None, map, refl, sym, subst, ap, ◌∙◌, arith, []}
+use Rattle.std.proofs.Common.{◌≡◌, ℕ, ◌+◌, ◌<◌, List, inl, inr, length, take, Option, Some, None, map, refl, sym, subst, ap, ◌∙◌, arith, []}
 use Rattle.std.proofs.lemmas.Option.{same_Some, slice_get-map, slice_get_within}
 use Rattle.std.proofs.lemmas.List.{length-map}
 use Rattle.std.specs.Prelude.{slice_get, flat_map, option_map}

@@ -1,5 +1,5 @@
 -- What is resolved is well formed.
-use Rattle.std.proofs.Common.{◌≡◌, ℕ, ◌+◌, ◌<◌, List, [], inl, inr, length, length-append, Some, map, take, drop, refl, sym, subst, ap, ◌∙◌, arith}
+use Rattle.std.proofs.Common.{◌≡◌, ℕ, ◌+◌, ◌<◌, List, [], inl, inr, length, length-append, Some, map, take, refl, sym, subst, ap, ◌∙◌, arith}
 use Rattle.std.proofs.lemmas.Option.{slice_get_within}
 use Rattle.std.specs.Prelude.{slice_get, flat_map, String}
 use Rattle.std.specs.declared.alloc.Global.{Global}
@@ -18,7 +18,6 @@ use Rattle.wit_lookups.specs.Lookups.{LookupsBreak}
 use Rattle.wit_arena.specs.Meaning.{Has, package_text}
 use Rattle.wit_arena.specs.Tree.{Name, Place, in_interface, in_world, in_listed, Owner}
 use Rattle.wit_arena.proofs.Lists.{has_right, map_has}
-use Rattle.wit_package_types.proofs.Functional.{are_functional}
 use Rattle.wit_foreign.specs.Needs.{NeedTree, needs_in}
 use Rattle.wit_foreign.specs.Items.{interfaces_in, worlds_in, IsNumbered}
 use Rattle.wit_interfaces.specs.Interfaces.{AreInterfacesIn}
@@ -38,7 +37,7 @@ use Rattle.wit_package.specs.Steps.{Resolves}
 use Rattle.wit_graph_parts.specs.Own.{asked, asked_types}
 use Rattle.wit_package.proofs.Owning.{interface_owners_length, are_owners}
 use Rattle.wit_package.proofs.Finding.{others_of, finds}
-use Rattle.wit_package.proofs.Scoping.{interface_there, world_there}
+use Rattle.wit_package.proofs.Scoping.{world_there}
 use Rattle.wit_well_formed.specs.Law.{SpansAreCounted, UnknownTypesAreThere, AskedItemsAreThere, NamelessTypesAreFree, InterfacesHoldTheirTypes, KeysAreOfItems, ResolvedPackagesAreWellFormed}
 use Rattle.wit_reach.proofs.Holding.{got}
 use Rattle.wit_well_formed.proofs.Lists.{get_drop, has_drop}
@@ -48,6 +47,8 @@ use Rattle.wit_well_formed.proofs.Keys.{world_keys}
 use Rattle.wit_well_formed.proofs.Apart.{texts_apart}
 use Rattle.wit_well_formed.proofs.Earlier.{AreOfWorlds, parts_up_to, name_up_to}
 use Rattle.wit_well_formed.proofs.Holding.{hold_their_types}
+use Rattle.wit_well_formed.proofs.Belonging.{own_types_owned, types_are_listed}
+use Rattle.wit_well_formed.proofs.Names.{names_apart}
 
 pub spans : SpansAreCounted
 spans files p r = (let s = r.resolved in spans_counted s.items (files_need s.me files) p.foreign_deps.entries p.foreign_dep_spans.items s.deps_are)
@@ -188,6 +189,9 @@ well_formed files p r = record {
   deps = asked_items files p r;
   unknown = unknown_types files p r;
   nameless = nameless_types files p (asked_types p) r;
+  owned = own_types_owned files p r;
   holds = held files p (asked p).interfaces r;
+  listed = types_are_listed files p r;
+  names = λ d has. names_apart files p r d (has_drop (asked p).interfaces p.interfaces d has);
   keys = keys files p (asked p).worlds r;
 }

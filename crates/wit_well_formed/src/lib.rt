@@ -3,6 +3,7 @@
 
 mod law;
 mod listed;
+mod naming;
 
 pub use law::{
     law_asked_items_are_there, law_interfaces_hold_their_types, law_keys_are_of_items,
@@ -10,4 +11,5 @@ pub use law::{
     law_parsed_packages_are_well_formed, law_resolved_packages_are_well_formed,
     law_spans_are_counted, law_unknown_types_are_there,
 };
-pub use listed::law_types_are_listed;
+pub use listed::{law_own_types_are_owned, law_types_are_listed};
+pub use naming::law_names_are_apart;

@@ -4,7 +4,7 @@ use Rattle.wit_moves.specs.View.{owners}
 use Rattle.wit_graph.specs.Graph.{items}
 use Rattle.wit_graph_parts.specs.Own.{parts}
 use Rattle.wit_graph_parts.specs.Parts.{AreTypesAdded}
-use Rattle.wit_graph_worlds.proofs.Belonging.{added_named}
+use Rattle.wit_graph_worlds.proofs.Belonging.{added_named, added_listed}
 use Rattle.wit_graph.proofs.Readying.{types_backward, types_below, uses_long, backward_uses, sound, elaborated, among, whole}
 use Rattle.wit_graph.proofs.Refusing.{interfaces_refused, worlds_refused, grown_twice, known_first}
 use Rattle.wit_graph.proofs.push.add_parts.Goals as goal
@@ -76,3 +76,6 @@ returns-clause-whole c =
     let more = c.add_own_worlds.ensures.types_grown in
     whole c.args.by.now.features.now c.args.by.now.owner (items c.args.types.now c.args.natures.now c.args.interfaces.now c.args.worlds.now) c.requires.ready.0 (parts c.args.own) (owners c.args.by.now.plan.now.owners) c.args.by.now.plan.now.types c.requires.ready.1 c.add_types.new.types (subst (λ (n : ℕ). AreTypesAdded (owners c.args.by.now.plan.now.owners) c.args.by.now.plan.now.types n c.args.own.types.items c.args.types.now c.add_types.new.types) (c.len-first.ensures ∙ (let o = c.args.own.unknown.ok.0 in let e : c.args.own.unknown.len ≡ length c.args.own.unknown.items = omega (arith, o) in e)) c.in_ok-add_types.ensures.ok) c.law_found_types_are_there.ensures c.law_moved_types_are_backward.ensures c.add_interfaces.new.interfaces c.in_ok-interface_names.interface_names.entries c.in_ok-interface_names.ensures.ok c.law_interfaces_take_places.ensures c.law_moved_types_belong.ensures c.law_moved_interfaces_hold_their_types.ensures c.law_moved_interfaces_are_there.ensures (λ at b. c.requires.ready.1.planned.kept at (inl b)) more.0 c.add_own_worlds.new.types c.follow.new.self c.add_own_worlds.new.worlds more.1 c.in_ok-follow.ensures.ok c.in_ok-world_names.ensures.sound c.in_ok-world_names.ensures.elaborated
     (added_named c.add_interfaces.new.interfaces.all c.add_interfaces.new.interfaces.uses c.args.by.now.owner c.in_ok-world_names.ensures.ok.moved _ _ c.in_ok-world_names.ensures.ok.added)
+    c.law_moved_types_are_listed.ensures
+    (added_listed c.add_interfaces.new.interfaces.all c.add_interfaces.new.interfaces.all c.add_interfaces.new.interfaces.uses c.args.by.now.owner c.in_ok-world_names.ensures.ok.moved _ _ c.in_ok-world_names.ensures.ok.added)
+    c.law_moved_interfaces_have_names_apart.ensures
