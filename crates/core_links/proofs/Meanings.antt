@@ -17,8 +17,8 @@ use Rattle.core_links.specs.declared.fault.LinkFault.TheVariants as faults
 use Rattle.core_links.proofs.Paired.{pairs_before, AreNew, pair_repeats, import_at, take_next, pairs_next, new_more}
 
 module _ (n : Names) (i : ImportValue) (found : Option Meaning) (read : IsReadAs (IsImport n i.place i.name) found) where
-  pub one_means : (place : ℕ) → found ≡ Some (One place) → IsMeaning n i place
-  one_means place one = record { stands = (read.one place one).0; only = (read.one place one).1 }
+  pub one_means : (place : ℕ) → is_outer_memory i ≡ false → found ≡ Some (One place) → IsMeaning n i place
+  one_means place inner one = record { stands = (read.one place one).0; only = (read.one place one).1; inner = inner }
 
   pub several_mean : found ≡ Some Ambiguous → IsAmbiguous n i
   several_mean several = read.several several
@@ -46,7 +46,7 @@ stands_for n i place x m at = record { place = place; means = m; is = at }
 
 -- ---- all of them
 
-get_more : {X : Type 0} (xs : List X) (y x : X) (k : ℕ) → slice_get (xs ++ y ∷ []) k ≡ Some x → (slice_get xs k ≡ Some x) ⊎ ((k ≡ length xs) × (y ≡ x))
+pub get_more : {X : Type 0} (xs : List X) (y x : X) (k : ℕ) → slice_get (xs ++ y ∷ []) k ≡ Some x → (slice_get xs k ≡ Some x) ⊎ ((k ≡ length xs) × (y ≡ x))
 get_more [] y x zero h = inr (refl, same_Some y x h)
 get_more [] y x (suc k) h = absurd cc
 get_more (z ∷ xs) y x zero h = inl h

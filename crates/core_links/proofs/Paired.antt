@@ -68,13 +68,13 @@ found_any test [] k x at h = absurd cc
 found_any test (y ∷ xs) zero x at h = ap (λ b. b || list_any test xs) (ap test (same_Some y x at) ∙ h)
 found_any test (y ∷ xs) (suc k) x at h = or_right (test y) (list_any test xs) (found_any test xs k x at h)
 
-taken : {X : Type 0} (xs : List X) (n k : ℕ) (x : X) → k < n → slice_get xs k ≡ Some x → slice_get (take n xs) k ≡ Some x
+pub taken : {X : Type 0} (xs : List X) (n k : ℕ) (x : X) → k < n → slice_get xs k ≡ Some x → slice_get (take n xs) k ≡ Some x
 taken [] n k x lt at = absurd cc
 taken (y ∷ xs) zero k x lt at = absurd (omega (arith, lt))
 taken (y ∷ xs) (suc n) zero x lt at = at
 taken (y ∷ xs) (suc n) (suc k) x lt at = taken xs n k x (omega (arith, lt)) at
 
-of_taken : {X : Type 0} (xs : List X) (n k : ℕ) (x : X) → slice_get (take n xs) k ≡ Some x → (k < n) × (slice_get xs k ≡ Some x)
+pub of_taken : {X : Type 0} (xs : List X) (n k : ℕ) (x : X) → slice_get (take n xs) k ≡ Some x → (k < n) × (slice_get xs k ≡ Some x)
 of_taken xs zero k x at = absurd cc
 of_taken [] (suc n) k x at = absurd cc
 of_taken (y ∷ xs) (suc n) zero x at = (omega arith, at)

@@ -9,10 +9,15 @@ use Rattle.core_links.specs.declared.fault.LinkFault.TheVariants as faults
 
 -- ---- what one stands for
 
--- it stands for what is there, and for nothing else
+-- the memory of the surroundings, which is to come
+abbrev pub is_outer_memory : ImportValue → Bool
+is_outer_memory i = bytes_eq i.place (codes "env") && bytes_eq i.name (codes "memory")
+
+-- it stands for what is there, and for nothing else, nor for the memory of the surroundings
 pub record IsMeaning (n : Names) (i : ImportValue) (place : ℕ) : Type 0 where
   pub stands : IsImport n i.place i.name place
   pub only : (j : ℕ) → IsImport n i.place i.name j → j ≡ place
+  pub inner : is_outer_memory i ≡ false
 
 -- it stands for that, and for nothing else
 pub record StandsFor (n : Names) (i : ImportValue) (x : CoreImport) : Type 0 where
@@ -26,10 +31,6 @@ pub record AreMeanings (n : Names) (is : List ImportValue) (places : List ℕ) :
   pub each : (k : ℕ) (i : ImportValue) (place : ℕ) → slice_get is k ≡ Some i → slice_get places k ≡ Some place → IsMeaning n i place
 
 -- ---- why it isn't so
-
--- the memory of the surroundings, which is to come
-abbrev pub is_outer_memory : ImportValue → Bool
-is_outer_memory i = bytes_eq i.place (codes "env") && bytes_eq i.name (codes "memory")
 
 -- it stands for nothing, in whatever spelling
 abbrev pub IsUnknown : Names → ImportValue → Type 0

@@ -57,8 +57,9 @@ impl<'a> ExportNames<'a> {
         Ok(ExportNames { reader, places })
     }
 
-    /// The place of the core export of that name, if there is one.
-    fn named(&self, name: &str) -> Result<Option<usize>, LinkFault>
+    /// The place of the one core export of that name, if there is one (WebAssembly Core, Modules, Exports). Answers `Ambiguous` where two
+    /// have it, and where it stands for two things, and `OutOfMemory` where memory is wanting.
+    pub fn named(&self, name: &str) -> Result<Option<usize>, LinkFault>
         ensures found { (n : Names) (es : List ExportValue) → AreNamesOf n es self.now → IfOk result (spec.IsFoundAs n es (λ text. text ≡ name.now)) }
         ensures cause { (n : Names) (es : List ExportValue) → AreNamesOf n es self.now → IfErr result (spec.IsUnclearCause n es (λ text. text ≡ name.now)) }
     {

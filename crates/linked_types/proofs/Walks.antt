@@ -17,13 +17,13 @@ use Rattle.linked_types.specs.declared.fault.TypeFault.{TypeFault}
 
 -- ---- functions
 
-has_one_more : {X : Type 0} (xs : List X) (y x : X) → Has (xs ++ y ∷ []) x → (x ≡ y) ⊎ Has xs x
+pub has_one_more : {X : Type 0} (xs : List X) (y x : X) → Has (xs ++ y ∷ []) x → (x ≡ y) ⊎ Has xs x
 has_one_more [] y x (inl e) = inl e
 has_one_more [] y x (inr h) = inr h
 has_one_more (z ∷ xs) y x (inl e) = inr (inl e)
 has_one_more (z ∷ xs) y x (inr h) = elim (has_one_more xs y x h) as (λ _. (x ≡ y) ⊎ Has (z ∷ xs) x) [ inl last ↦ inl last | inr was ↦ inr (inr was) ]
 
-has_at : {X : Type 0} (xs : List X) (k : ℕ) (x : X) → slice_get xs k ≡ Some x → Has xs x
+pub has_at : {X : Type 0} (xs : List X) (k : ℕ) (x : X) → slice_get xs k ≡ Some x → Has xs x
 has_at [] k x h = absurd cc
 has_at (y ∷ xs) zero x h = inl (sym (same_Some y x h))
 has_at (y ∷ xs) (suc k) x h = inr (has_at xs k x h)

@@ -15,7 +15,7 @@ returns-in-Some-One-clause-means c =
     let n = names_in c.args.names.now in
     let i = import_value c.args.«import».now in
     subst (IsMeaning n i) (sym c.in-Some-One.place-is)
-    (one_means n i c.read.result (c.read.ensures n.known n.world (counts_legacy n) c.requires.reader) c.in-Some-One.place (c.in-Some-One.is ∙ ap Some c.in-Some-One.field-0-is))
+    (one_means n i c.read.result (c.read.ensures n.known n.world (counts_legacy n) c.requires.reader) c.in-Some-One.place (sym c.is_outer_memory.ensures ∙ c.if-is_outer_memory.false) (c.in-Some-One.is ∙ ap Some c.in-Some-One.field-0-is))
 
 pub returns-in-Some-Ambiguous-clause-cause : goal.returns-in-Some-Ambiguous-clause-cause
 returns-in-Some-Ambiguous-clause-cause c =
