@@ -1,0 +1,11 @@
+mod Causes
+mod Found
+mod Here
+mod Pairwise
+mod Parts
+mod Rows
+mod Standing
+mod There
+mod Typed
+mod Walks
+mod Whole

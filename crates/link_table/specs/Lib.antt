@@ -1,0 +1,14 @@
+pub mod Pairwise
+pub mod Linking
+pub mod Types
+pub mod Options
+pub mod Coming
+pub mod Table
+pub mod Cause
+pub mod Imports
+pub mod Exports
+pub mod Apart
+pub mod View
+pub mod Walks
+pub mod Lookups
+pub mod Lines

@@ -1,0 +1,18 @@
+//! The link table of a core module and a world: what its core imports, and the functions that the world exports, end at.
+#![tactic(auto)]
+
+mod apart;
+mod exports;
+mod fault;
+mod imports;
+mod lines;
+mod linking;
+mod lookup;
+mod options;
+mod table;
+
+pub use exports::ExportLink;
+pub use fault::TableFault;
+pub use linking::Linking;
+pub use options::LinkOptions;
+pub use table::{LinkTable, table_of};
