@@ -1,0 +1,4 @@
+pub mod Main
+pub mod Outside
+pub mod Ends
+pub mod Right
