@@ -1,0 +1,8 @@
+//! Laws: interfaces of a graph, of whose functions some are linked, are as the writer of imports asks.
+#![tactic(auto)]
+
+mod law;
+
+pub use law::{
+    law_linked_functions_are_up_to, law_linked_interfaces_are_writable, law_linked_names_are_apart,
+};
