@@ -19,7 +19,9 @@ use wit_types::{AbiVariant, Function, World, WorldItem, WorldKey};
 /// The core export at which a function that a world exports ends, by its place, and the options of the lift.
 #[derive(Clone, Copy)]
 pub struct ExportLink {
+    /// The place of the core export, from 0.
     pub export: usize,
+    /// What its lift has.
     pub options: LinkOptions,
 }
 

@@ -21,8 +21,11 @@ use wit_types::{AbiVariant, Function, WorldKey};
 /// The options of a link, with the place of the core export that makes room.
 #[derive(Clone, Copy)]
 pub struct LinkOptions {
+    /// Whether it has the memory of the module.
     pub memory: bool,
+    /// What makes room in that, by its place among the core exports, from 0.
     pub realloc: Option<usize>,
+    /// How strings are encoded.
     pub encoding: Option<StringEncoding>,
 }
 

@@ -168,8 +168,8 @@ impl Graph {
         &self.names
     }
 
-    /// What holds of each graph: all that it names is there, types are made of earlier ones, and interfaces use types of those before
-    /// them alone.
+    /// What holds of each graph: all that it names is there, types are made of earlier ones, interfaces use types of those before them
+    /// alone and list all types that belong to them, and names within an interface differ.
     pub fn law_is_graph(&self)
         ensures { IsGraph self.now }
     {
