@@ -75,6 +75,7 @@ nothing_is_graph t names te ne =
           holds = record { named = λ i d x at. absurd cc; theirs = λ k d e at. absurd cc; types_use = λ k s d at. absurd cc; functions_use = λ k s d at. absurd cc };
           listed = λ i k d at. absurd cc;
           names = λ d h. absurd h;
+          nameless = λ k d at. absurd cc;
           sound = record {
             backward = λ i j (d, h, has). absurd cc;
             owners = λ i j d h o. absurd cc;

@@ -20,7 +20,7 @@ use Rattle.wit_reach.specs.Types.{AreTypesBackward, AreSidesThere}
 use Rattle.wit_plans.specs.Plans.{Parts, found_of, standing}
 use Rattle.wit_plans.specs.Checks.{InterfaceBreaks}
 use Rattle.wit_placed.specs.Found.{FoundTypesAreThere}
-use Rattle.wit_placed.specs.Order.{AreInOrder, AreBehind, InterfacesTakePlaces, MovedTypesBelong, MovedInterfacesHoldTheirTypes}
+use Rattle.wit_placed.specs.Order.{AreInOrder, AreBehind, AreNamelessFree, InterfacesTakePlaces, MovedTypesBelong, MovedInterfacesHoldTheirTypes, MovedNamelessAreFree}
 use Rattle.wit_placed.specs.Listed.{MovedTypesAreListed}
 use Rattle.wit_placed.specs.Naming.{HasNamesApart, HaveNamesApart, MovedInterfacesHaveNamesApart}
 use Rattle.wit_placed.specs.There.{AreBelow, IsInterfaceThere, MovedInterfacesAreThere}
@@ -61,6 +61,9 @@ module _ (features : FeatureSet) (owner : ℕ) (t : Items) (foreign : OwnerPlace
 
     pub types_backward : AreTypesBackward types
     types_backward = subst AreTypesBackward (sym a.types_are) there.0
+
+    nameless : MovedNamelessAreFree → AreNamelessFree types
+    nameless moved_free = subst AreNamelessFree (sym a.types_are) (moved_free owners places (length others) p.types t.types a.defs defs_moved r.nameless r.whole.nameless)
 
     pub types_below : AreBelow (length types) places
     types_below = subst (λ (ds : List TypeDef). AreWithin ds places) (sym a.types_are) there.1
@@ -164,8 +167,8 @@ module _ (features : FeatureSet) (owner : ℕ) (t : Items) (foreign : OwnerPlace
 
         -- with more types, and worlds
         pub whole : (more : List TypeDef) (ds : List TypeDef) (ns : List Nature) (w : Worlds) → ds ≡ types ++ more → ns ≡ natures ds → AreSound (length i.uses) ds w → AreElaborated ds i.all i.uses w → (AreNamedOwned types → AreNamedOwned ds)
-            → MovedTypesAreListed → (AreListed 0 types i.all → AreListed 0 ds i.all) → MovedInterfacesHaveNamesApart → AreItemsWhole (items ds ns i w)
-        whole more ds ns w grown known s e named stand stands apart = record {
+            → MovedTypesAreListed → (AreListed 0 types i.all → AreListed 0 ds i.all) → MovedInterfacesHaveNamesApart → MovedNamelessAreFree → (AreNamelessFree types → AreNamelessFree ds) → AreItemsWhole (items ds ns i w)
+        whole more ds ns w grown known s e named stand stands apart free frees = record {
           natures_are = known;
           rows = subst (λ (xs : List TypeDef). AreRows xs i.all i.uses) (sym grown) (rows_kept types more types_backward i.all i.uses interfaces_are rows);
           holds =
@@ -173,6 +176,7 @@ module _ (features : FeatureSet) (owner : ℕ) (t : Items) (foreign : OwnerPlace
               (held_more types more types_backward 0 i.all (functions_there types i.all interfaces_are) (subst AreNamedOwned grown (named holds.named)) holds);
           listed = stands (listed stand);
           names = names_are apart;
+          nameless = frees (nameless free);
           sound = subst (λ (n : ℕ). AreSound n ds w) uses_long s;
           elaborated = e;
           interfaces_are = λ d h. subst (λ (xs : List TypeDef). IsInterfaceThere xs d) (sym grown) (interface_kept types more d (interfaces_are d h));

@@ -16,6 +16,7 @@ use Rattle.wit_names.specs.Names.{ArePackagesKnown}
 use Rattle.wit_plans.specs.declared.plans.Sizes.{Sizes}
 use Rattle.wit_placed.specs.Found.{ArePackagesThere}
 use Rattle.wit_placed.specs.Naming.{HaveNamesApart}
+use Rattle.wit_placed.specs.Order.{AreNamelessFree}
 use Rattle.wit_placed.specs.There.{IsInterfaceThere}
 use Rattle.wit_resources.specs.Natures.{natures}
 use Rattle.wit_resources.specs.declared.natures.Nature.{Nature}
@@ -51,14 +52,15 @@ abbrev pub sizes : Items → Sizes
 sizes t = record { types = length t.types; interfaces = length t.interfaces.all; worlds = length t.worlds.listed }
 
 -- what is known of types is known of all of them; interfaces hold types that are made of theirs and of those of interfaces before them
--- alone, all that belong to them, of which they use types is known, and names within each differ; all that interfaces and worlds name is
--- there, and worlds import in the end what they and their exports depend on
+-- alone, all that belong to them, of which they use types is known, and names within each differ; types without names belong nowhere; all
+-- that interfaces and worlds name is there, and worlds import in the end what they and their exports depend on
 pub record AreItemsWhole (t : Items) : Type 0 where
   pub natures_are : t.natures ≡ natures t.types
   pub rows : AreRows t.types t.interfaces.all t.interfaces.uses
   pub holds : HoldTheirTypes 0 t.types t.interfaces.all
   pub listed : AreListed 0 t.types t.interfaces.all
   pub names : HaveNamesApart t.interfaces.all
+  pub nameless : AreNamelessFree t.types
   pub sound : AreSound (length t.interfaces.all) t.types t.worlds
   pub elaborated : AreElaborated t.types t.interfaces.all t.interfaces.uses t.worlds
   pub interfaces_are : (d : Interface) → Has t.interfaces.all d → IsInterfaceThere t.types d

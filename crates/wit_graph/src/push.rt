@@ -30,7 +30,7 @@ use wit_moved_trees::law_moved_types_are_backward;
 use wit_placed::{
     law_found_types_are_there, law_interfaces_take_places, law_moved_interfaces_are_there,
     law_moved_interfaces_have_names_apart, law_moved_interfaces_hold_their_types,
-    law_moved_types_are_listed, law_moved_types_belong,
+    law_moved_nameless_are_free, law_moved_types_are_listed, law_moved_types_belong,
 };
 use wit_resources::Natures;
 use wit_types::{Arena, Docs, InterfaceId, Package, PackageName, TypeDef, WorldId};
@@ -70,6 +70,7 @@ fn add_parts(
     law_moved_types_are_listed();
     law_moved_interfaces_are_there();
     law_moved_interfaces_have_names_apart();
+    law_moved_nameless_are_free();
     law_elaborated_worlds_stay();
     let first = own.unknown.len();
     add_types(alloc, types, natures, by.plan, first, own.types)?;

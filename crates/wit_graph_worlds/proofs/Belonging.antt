@@ -10,11 +10,12 @@ use Rattle.wit_reach.specs.Holding.{AreNamedOwned, AreListed}
 use Rattle.wit_reach.specs.Types.{AreWorldTypes}
 use Rattle.wit_includes.specs.Included.{AreIncludedTypes}
 use Rattle.wit_plans.specs.declared.moves.MovedWorld.{MovedWorld}
+use Rattle.wit_placed.specs.Order.{AreNamelessFree}
 use Rattle.wit_joined.specs.Joined as joined
 use Rattle.wit_joined.specs.Joined.{Includes, includes_none, includes_one}
 use Rattle.wit_graph_worlds.specs.Added.{AreAdded, none_added, one_added}
 use Rattle.wit_graph_worlds.specs.Worlds.{State}
-use Rattle.wit_graph_worlds.proofs.Owners.{included_named, included_listed}
+use Rattle.wit_graph_worlds.proofs.Owners.{included_named, included_listed, included_nameless}
 
 module _ (P : List TypeDef → Type 0)
     (keeps : (names : List IncludeName) (from into : ℕ) (types : List TypeDef) (world : World) (own : List ℕ) (new : List TypeDef) → AreWorldTypes from types world own → AreIncludedTypes names from into types own new → P types → P (types ++ new))
@@ -38,3 +39,7 @@ added_named = added_keep AreNamedOwned (λ names from into types world own new a
 -- each type that belongs to an interface stands there still
 pub added_listed : (all : List Interface) (interfaces : List Interface) (uses : Rows) (owner : ℕ) (ms : List MovedWorld) (s t : State) → AreAdded interfaces uses owner ms s t → AreListed 0 s.types all → AreListed 0 t.types all
 added_listed all = added_keep (λ (types : List TypeDef). AreListed 0 types all) (included_listed all)
+
+-- types without names belong nowhere still
+pub added_nameless : (interfaces : List Interface) (uses : Rows) (owner : ℕ) (ms : List MovedWorld) (s t : State) → AreAdded interfaces uses owner ms s t → AreNamelessFree s.types → AreNamelessFree t.types
+added_nameless = added_keep AreNamelessFree (λ names from into types world own new are h free. included_nameless names from into types own new free h)

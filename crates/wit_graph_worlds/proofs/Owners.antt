@@ -20,6 +20,7 @@ use Rattle.wit_reach.proofs.Local.{stays_local}
 use Rattle.wit_copies.specs.Copies.{Copies, copied_owner, IsCopiedDef, AreCopied, no_types, one_more}
 use Rattle.wit_copies.specs.Same.{text_of}
 use Rattle.wit_includes.specs.Included as renamed
+use Rattle.wit_placed.specs.Order.{AreNamelessFree}
 use Rattle.wit_includes.specs.Included.{is_of_world, IsRenamedName, IsRenamedDef, AreRenamedDefs, AreIncludedTypes, copies_behind}
 
 -- ---- what holds of each type holds of each copy
@@ -135,3 +136,25 @@ named_renamed names false d e n at h owned x named none = subst IsNamedOwned (sy
 pub included_named : (names : List IncludeName) (from into : ℕ) (types : List TypeDef) (own : List ℕ) (new : List TypeDef) → AreNamedOwned types → AreIncludedTypes names from into types own new → AreNamedOwned (types ++ new)
 included_named names from into types own new named h i d x at =
     included_all IsNamedOwned named_copy (λ names w y z one. named_renamed names (is_of_world w y.owner) y z y.name refl one) names from into types own new (λ i y at x. named i y x at) h i d at x
+
+-- ---- types without names
+
+-- it has a name, or belongs nowhere
+abbrev IsFree : TypeDef → Type 0
+IsFree d = d.name ≡ None → d.owner ≡ belongs.None
+
+has_no_text : (n m : Option (String Global)) → text_of m ≡ text_of n → m ≡ None → n ≡ None
+has_no_text None m same e = refl
+has_no_text (Some x) m same e = absurd (let f : text_of None ≡ text_of (Some x) = sym (ap text_of e) ∙ same in cc)
+
+free_copy : (c : Copies) (from into : ℕ) (d e : TypeDef) → IsCopiedDef c from into d e → IsFree d → IsFree e
+free_copy c from into d e (clone, same, to) free none = to.owner_is ∙ ap (copied_owner from into) (free (has_no_text d.name clone.name same.name (sym to.name ∙ none)))
+
+free_renamed : (names : List IncludeName) (b : Bool) (d e : TypeDef) (n : Option (String Global)) → d.name ≡ n → IsRenamedName names b d n e → IsFree d → IsFree e
+free_renamed names true d e (Some y) at (z, renamed, is) free none = absurd (let f : Some z ≡ None = sym (ap (λ (x : TypeDef). x.name) is) ∙ none in cc)
+free_renamed names true d e None at h free none = subst IsFree (sym h) free none
+free_renamed names false d e n at h free none = subst IsFree (sym h) free none
+
+pub included_nameless : (names : List IncludeName) (from into : ℕ) (types : List TypeDef) (own : List ℕ) (new : List TypeDef) → AreNamelessFree types → AreIncludedTypes names from into types own new → AreNamelessFree (types ++ new)
+included_nameless names from into types own new free h =
+    included_all IsFree free_copy (λ names w y z one. free_renamed names (is_of_world w y.owner) y z y.name refl one) names from into types own new free h

@@ -9,3 +9,4 @@ pub mod Holding
 mod Finding
 mod Listing
 mod Names
+mod Nameless

@@ -23,6 +23,10 @@ use Rattle.wit_order.specs.Order.{Has}
 abbrev pub AreNamelessFree : List TypeDef → Type 0
 AreNamelessFree own = (k : ℕ) (d : TypeDef) → slice_get own k ≡ Some d → d.name ≡ None → d.owner ≡ belongs.None
 
+-- what stays of such types, put behind such types
+abbrev pub MovedNamelessAreFree : Type 0
+MovedNamelessAreFree = (owners : OwnerPlaces) (places : Places) (first : ℕ) (own graph moved : List TypeDef) → AreMovedDefs owners places first own moved → AreNamelessFree own → AreNamelessFree graph → AreNamelessFree (graph ++ moved)
+
 -- interfaces behind so many others use types of interfaces before them alone
 abbrev pub AreInOrder : ℕ → List TypeDef → List Interface → Type 0
 AreInOrder others types own = (k j : ℕ) (d : Interface) → slice_get own k ≡ Some d → IsInterfaceDep types d j → j < others + k

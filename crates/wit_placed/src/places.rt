@@ -1,6 +1,6 @@
 //! Laws of the places that a package takes in a graph.
 
-ghost use Rattle.wit_placed.specs.Order.{InterfacesTakePlaces, MovedInterfacesHoldTheirTypes, MovedTypesBelong};
+ghost use Rattle.wit_placed.specs.Order.{InterfacesTakePlaces, MovedInterfacesHoldTheirTypes, MovedNamelessAreFree, MovedTypesBelong};
 
 /// Interfaces that stay take so many places behind those of a graph as they are.
 pub fn law_interfaces_take_places()
@@ -16,4 +16,9 @@ pub fn law_moved_types_belong()
 /// all of them.
 pub fn law_moved_interfaces_hold_their_types()
     ensures { MovedInterfacesHoldTheirTypes }
+{}
+
+/// Where types without names belong nowhere, of a package and of a graph, so do all of them where the package stands in the graph.
+pub fn law_moved_nameless_are_free()
+    ensures { MovedNamelessAreFree }
 {}

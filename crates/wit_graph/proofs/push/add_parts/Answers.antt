@@ -4,7 +4,7 @@ use Rattle.wit_moves.specs.View.{owners}
 use Rattle.wit_graph.specs.Graph.{items}
 use Rattle.wit_graph_parts.specs.Own.{parts}
 use Rattle.wit_graph_parts.specs.Parts.{AreTypesAdded}
-use Rattle.wit_graph_worlds.proofs.Belonging.{added_named, added_listed}
+use Rattle.wit_graph_worlds.proofs.Belonging.{added_named, added_listed, added_nameless}
 use Rattle.wit_graph.proofs.Readying.{types_backward, types_below, uses_long, backward_uses, sound, elaborated, among, whole}
 use Rattle.wit_graph.proofs.Refusing.{interfaces_refused, worlds_refused, grown_twice, known_first}
 use Rattle.wit_graph.proofs.push.add_parts.Goals as goal
@@ -79,3 +79,5 @@ returns-clause-whole c =
     c.law_moved_types_are_listed.ensures
     (added_listed c.add_interfaces.new.interfaces.all c.add_interfaces.new.interfaces.all c.add_interfaces.new.interfaces.uses c.args.by.now.owner c.in_ok-world_names.ensures.ok.moved _ _ c.in_ok-world_names.ensures.ok.added)
     c.law_moved_interfaces_have_names_apart.ensures
+    c.law_moved_nameless_are_free.ensures
+    (added_nameless c.add_interfaces.new.interfaces.all c.add_interfaces.new.interfaces.uses c.args.by.now.owner c.in_ok-world_names.ensures.ok.moved _ _ c.in_ok-world_names.ensures.ok.added)
