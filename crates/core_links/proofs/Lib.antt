@@ -1,3 +1,5 @@
 pub mod Paired
 pub mod Meanings
 pub mod Found
+mod Marking
+mod Picking

@@ -7,10 +7,12 @@ use Rattle.wasm_types.specs.declared.entries.Import.{Import}
 use Rattle.wasm_types.specs.Entries.{ImportValue, import_value}
 use Rattle.wit_core_tables.specs.declared.table.Meaning.{Meaning}
 use Rattle.wit_core_tables.specs.declared.table.Meaning.TheVariants.{One, Ambiguous}
+use Rattle.wit_core_items.specs.ImportPlaces.{import_at as import_place}
 use Rattle.wit_core_items.specs.World.{IsReadAs, core_imports, ImportStandsFor}
+use Rattle.wit_core_items.specs.declared.import_places.ImportPlace.{ImportPlace}
 use Rattle.wit_core_names.specs.Items.{CoreImport}
 use Rattle.core_links.specs.Names.{Names, counts_legacy, IsImport}
-use Rattle.core_links.specs.Imports.{is_outer_memory, IsUnknown, IsMeaning, StandsFor, AreMeanings, IsAmbiguous, IsLegacyAlone, IsImportsCause, IsImportCause}
+use Rattle.core_links.specs.Imports.{is_outer_memory, IsUnknown, IsMeaning, StandsFor, StandsAt, AreMeanings, IsAmbiguous, IsLegacyAlone, IsImportsCause, IsImportCause}
 use Rattle.core_links.specs.Pairs.{Pair, pair_of, is_new}
 use Rattle.core_links.specs.declared.fault.LinkFault.{LinkFault}
 use Rattle.core_links.specs.declared.fault.LinkFault.TheVariants as faults
@@ -43,6 +45,10 @@ means_within n i place m = slice_get_within (core_imports n.known n.world) place
 
 pub stands_for : (n : Names) (i : ImportValue) (place : ℕ) (x : CoreImport) → IsMeaning n i place → slice_get (core_imports n.known n.world) place ≡ Some x → StandsFor n i x
 stands_for n i place x m at = record { place = place; means = m; is = at }
+
+-- where the world has it
+pub read_at : (n : Names) (i : ImportValue) (place : ℕ) (p : ImportPlace) → IsMeaning n i place → import_place n.known n.world p ≡ slice_get (core_imports n.known n.world) place → StandsAt n i p
+read_at n i place p m has = record { item = m.stands.0; has = has ∙ m.stands.1; stands = stands_for n i place m.stands.0 m m.stands.1 }
 
 -- ---- all of them
 

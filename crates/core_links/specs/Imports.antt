@@ -1,7 +1,9 @@
 -- What the core imports of a module stand for (Component Model, Build Targets; Canonical ABI, canon lower).
 use Rattle.std.specs.Prelude.{◌≡◌, ◌<◌, ℕ, List, length, slice_get, Some, Bool, true, false, ◌&&◌, bytes_eq, codes}
 use Rattle.wasm_types.specs.Entries.{ImportValue}
+use Rattle.wit_core_items.specs.ImportPlaces.{import_at}
 use Rattle.wit_core_items.specs.World.{core_imports, ImportStandsFor}
+use Rattle.wit_core_items.specs.declared.import_places.ImportPlace.{ImportPlace}
 use Rattle.wit_core_names.specs.Items.{CoreImport}
 use Rattle.core_links.specs.Names.{Names, IsImport}
 use Rattle.core_links.specs.declared.fault.LinkFault.{LinkFault}
@@ -24,6 +26,12 @@ pub record StandsFor (n : Names) (i : ImportValue) (x : CoreImport) : Type 0 whe
   pub place : ℕ
   pub means : IsMeaning n i place
   pub is : slice_get (core_imports n.known n.world) place ≡ Some x
+
+-- and the world has that there
+pub record StandsAt (n : Names) (i : ImportValue) (p : ImportPlace) : Type 0 where
+  pub item : CoreImport
+  pub has : import_at n.known n.world p ≡ Some item
+  pub stands : StandsFor n i item
 
 -- each stands for what is at its place
 pub record AreMeanings (n : Names) (is : List ImportValue) (places : List ℕ) : Type 0 where

@@ -3,3 +3,5 @@ pub mod Pairs
 pub mod Imports
 pub mod Exports
 pub mod View
+pub mod Needed
+pub mod Marks

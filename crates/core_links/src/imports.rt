@@ -8,7 +8,7 @@ ghost use Rattle.wit_core_items.specs.Readers.{IsReaderOfImports};
 ghost use Rattle.core_links.specs.declared.fault.LinkFault.TheVariants as faults;
 ghost use Rattle.core_links.specs.Imports as spec;
 ghost use Rattle.core_links.specs.View.{AreLinksOf};
-ghost use Rattle.core_links.specs.Names.{names_in, counts_legacy, IsImport};
+ghost use Rattle.core_links.specs.Names.{Names, names_in, counts_legacy, IsImport};
 ghost use Rattle.core_links.specs.Pairs.{is_new, pair_of};
 
 use crate::fault::LinkFault;
@@ -16,7 +16,7 @@ use crate::names::CoreNames;
 use crate::pairs::Pairs;
 use std::alloc::Global;
 use wasm_types::Import;
-use wit_core_items::CoreImports;
+use wit_core_items::{CoreImports, ImportPlace};
 use wit_core_names::WasmImport;
 use wit_core_tables::Meaning;
 use wit_types::{Function, WorldKey};
@@ -141,5 +141,12 @@ impl ImportLinks {
         let _lends: Option<(&WorldKey, &Function)> = None;
         self.reader
             .item(&names.tables, names.world, self.places[index])
+    }
+    /// Where the world has what the core import at a place among them stands for.
+    pub fn place(&self, index: usize) -> ImportPlace
+        requires links { (n : Names) × (is : List ImportValue) × AreLinksOf n is self.now × (index < length is) }
+        ensures { (n : Names) (is : List ImportValue) (i : ImportValue) → AreLinksOf n is self.now → slice_get is index ≡ Some i → spec.StandsAt n i result }
+    {
+        self.reader.place(self.places[index])
     }
 }

@@ -5,9 +5,11 @@ mod exports;
 mod fault;
 mod imports;
 mod names;
+mod needed;
 mod pairs;
 
 pub use exports::ExportNames;
 pub use fault::LinkFault;
 pub use imports::ImportLinks;
 pub use names::CoreNames;
+pub use needed::NeededFunctions;

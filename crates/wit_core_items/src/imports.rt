@@ -5,6 +5,7 @@ ghost use Rattle.wit_types.specs.declared.world.World.{World};
 ghost use Rattle.wit_names.specs.Names.{ArePackagesKnown};
 ghost use Rattle.wit_core_names.specs.Items.{import_of};
 ghost use Rattle.wit_core_names.specs.Texts.{Known, known};
+ghost use Rattle.wit_core_items.specs.ImportPlaces as spec;
 ghost use Rattle.wit_core_items.specs.Readers.{IsReaderOfImports};
 ghost use Rattle.wit_core_items.specs.World.{IsReadAs, ImportStandsFor, core_imports};
 
@@ -47,6 +48,14 @@ impl CoreImports {
     {
         self.names
             .get(&(CowStr::Borrowed(module), CowStr::Borrowed(name)))
+    }
+
+    /// Where the world of which this is has the thing at a place.
+    pub fn place(&self, place: usize) -> ImportPlace
+        requires { (k : Known) × (w : World) × (legacy : Bool) × IsReaderOfImports k w legacy self.now × (place < length (core_imports k w)) }
+        ensures { (k : Known) (w : World) (legacy : Bool) → IsReaderOfImports k w legacy self.now → spec.import_at k w result ≡ slice_get (core_imports k w) place }
+    {
+        self.places[place]
     }
 
     /// The thing at a place, of the world of which this is.

@@ -13,4 +13,5 @@ mod resources;
 mod sides;
 
 pub use exports::CoreExports;
+pub use import_places::ImportPlace;
 pub use imports::CoreImports;
