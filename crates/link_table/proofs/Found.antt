@@ -1,9 +1,10 @@
 -- What is found by names.
-use Rattle.std.proofs.Common.{◌≡◌, ℕ, ◌<◌, true, false, List, map, length, Option, Some, None, Result, Ok, Err, inl, inr, sym, ap, ◌∙◌, arith}
+use Rattle.std.proofs.Common.{◌≡◌, ℕ, ◌<◌, Bool, true, false, List, map, length, Option, Some, None, Result, Ok, Err, inl, inr, refl, sym, ap, ◌∙◌, arith}
 use Rattle.std.proofs.lemmas.List.{length-map}
 use Rattle.std.proofs.lemmas.Option.{slice_get_within, slice_get-map, slice_get-get_or}
 use Rattle.std.specs.Option.{is_some}
-use Rattle.std.specs.Prelude.{slice_get, get_or, option_map, IfOk, IfErr}
+use Rattle.std.specs.Bool.{then_some}
+use Rattle.std.specs.Prelude.{slice_get, get_or, option_map, option_and_then, IfOk, IfErr}
 use Rattle.wasm_types.specs.declared.entries.Export.{Export}
 use Rattle.wasm_types.specs.Entries.{ImportValue, ExportValue, export_value}
 use Rattle.wit_types.specs.declared.function.Function.{Function}
@@ -15,9 +16,12 @@ use Rattle.core_links.specs.Exports.{IsFoundAs, IsUnclear, IsUnclearCause}
 use Rattle.core_links.specs.Imports.{StandsFor}
 use Rattle.core_links.specs.declared.fault.LinkFault.{LinkFault}
 use Rattle.core_links.specs.declared.fault.LinkFault.TheVariants as link_faults
+use Rattle.canonical_options.specs.Options.{where_asked}
+use Rattle.link_lines.specs.declared.encoding.StringEncoding.{StringEncoding}
 use Rattle.link_table.specs.Coming.{IsSomewhere}
 use Rattle.link_table.specs.Linking.{Linking, IsImported}
-use Rattle.link_table.specs.Options.{Naming, IsThere, IsMissing, IsReallocAt, IsOwnReallocName, own_realloc_name, HasMemory, IsMemoryName}
+use Rattle.link_table.specs.View.{name_at}
+use Rattle.link_table.specs.Options.{Naming, IsThere, IsMissing, IsReallocAt, IsOwnReallocName, own_realloc_name, IsMemoryAt, IsMemoryName, IsMemoryIf, IsTypedRealloc, IsReallocIf}
 
 -- ---- imports
 
@@ -96,5 +100,18 @@ pub realloc_there : (l : Linking) (variant : AbiVariant) (place : ℕ) → IsRea
 realloc_there l variant place (inl own) = (own.one, own.there)
 realloc_there l variant place (inr general) = (general.1.one, general.1.there)
 
-pub memory_not_missing : (l : Linking) → HasMemory l → IsMissing l (IsMemoryName l.names) → ⊥
-memory_not_missing l m missing = missing m.place m.is.one m.is.there m.is.named
+pub memory_not_missing : (l : Linking) (place : ℕ) → IsMemoryAt l place → IsMissing l (IsMemoryName l.names) → ⊥
+memory_not_missing l place m missing = missing place m.is.one m.is.there m.is.named
+
+-- ---- options
+
+pub memory_named : (l : Linking) (place : ℕ) → IsMemoryAt l place → IsMemoryIf l true (option_and_then (name_at l.main.exports) (Some place))
+memory_named l place m = (m.export.name, record { place = place; at = m; named = refl }, ap (option_map (λ (e : ExportValue). e.name)) m.there)
+
+pub realloc_named : (l : Linking) (variant : AbiVariant) (place : ℕ) → IsTypedRealloc l variant place → IsReallocIf l variant true (option_and_then (name_at l.main.exports) (Some place))
+realloc_named l variant place r =
+    (r.export.name, record { place = place; is = r.is; export = r.export; there = r.there; typed = r.typed; named = refl }, ap (option_map (λ (e : ExportValue). e.name)) r.there)
+
+pub encoding_asked : (b : Bool) (e : StringEncoding) → then_some b e ≡ where_asked b (Some e)
+encoding_asked true e = refl
+encoding_asked false e = refl

@@ -1,6 +1,8 @@
 mod Causes
 mod Found
 mod Here
+mod One
+mod Opposed
 mod Pairwise
 mod Parts
 mod Rows

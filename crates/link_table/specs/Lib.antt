@@ -12,3 +12,4 @@ pub mod View
 pub mod Walks
 pub mod Lookups
 pub mod Lines
+pub mod Law

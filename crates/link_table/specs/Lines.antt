@@ -1,5 +1,5 @@
 -- The lines of a link table, in order (Component Model, Canonical ABI, canon lift and canon lower).
-use Rattle.std.specs.Prelude.{◌≡◌, ℕ, List, ◌++◌, Option, Some, None, option_map, Bool, true, false, codes, string_bytes, IsPermutation, IsSorted}
+use Rattle.std.specs.Prelude.{◌≡◌, ℕ, List, ◌++◌, Option, Some, None, option_map, codes, string_bytes, IsPermutation, IsSorted}
 use Rattle.wasm_types.specs.Entries.{ImportValue}
 use Rattle.wit_types.specs.Package.{interface_text}
 use Rattle.wit_types.specs.declared.function.Function.{Function}
@@ -46,9 +46,9 @@ IsImportLine l e line = (place : List ℕ) × IsPlace l.names e.key place × (li
 
 -- ---- exports
 
-abbrev pub memory_text : Bool → Option (List ℕ)
-memory_text true = Some (codes "memory")
-memory_text false = None
+abbrev pub memory_text : Option (List ℕ) → Option (List ℕ)
+memory_text (Some name) = Some (codes "memory")
+memory_text None = None
 
 -- what the main module exports under a name
 abbrev pub of_main : List ℕ → List ℕ
@@ -75,7 +75,7 @@ abbrev pub IsExportLine : ExportEntry → LinkValue → Type 0
 IsExportLine e line = line ≡ export_line e.function e.name e.options
 
 abbrev pub no_options : Options
-no_options = record { memory = false; realloc = None; encoding = None }
+no_options = record { memory = None; realloc = None; encoding = None }
 
 -- the lines of entries stand behind others
 pub record AreAdded (entries : List ExportEntry) (old new : List LinkValue) : Type 0 where

@@ -42,13 +42,18 @@ IsMissing l Is = IsNowhere l.main.exports Is
 abbrev pub IsMemoryName : Names → Naming
 IsMemoryName n = NamesOf n CoreExport.memory
 
--- the one core export that stands for it is a memory
-pub record HasMemory (l : Linking) : Type 0 where
-  pub place : ℕ
+-- the one core export that stands for it is at this place, and is a memory
+pub record IsMemoryAt (l : Linking) (place : ℕ) : Type 0 where
   pub is : IsThere l (IsMemoryName l.names) place
   pub export : ExportValue
   pub there : slice_get l.main.exports place ≡ Some export
   pub kind : export.kind ≡ kinds.Memory
+
+-- it has this name
+pub record IsMemory (l : Linking) (name : List ℕ) : Type 0 where
+  pub place : ℕ
+  pub at : IsMemoryAt l place
+  pub named : name ≡ at.export.name
 
 -- ---- what makes room
 
@@ -100,9 +105,13 @@ pub record IsTypedRealloc (l : Linking) (variant : AbiVariant) (place : ℕ) : T
 -- ---- options
 
 pub record Options : Type 0 where
-  pub memory : Bool
+  pub memory : Option (List ℕ)
   pub realloc : Option (List ℕ)
   pub encoding : Option StringEncoding
+
+abbrev pub IsMemoryIf : Linking → Bool → Option (List ℕ) → Type 0
+IsMemoryIf l false found = found ≡ None
+IsMemoryIf l true found = (name : List ℕ) × IsMemory l name × (found ≡ Some name)
 
 abbrev pub IsReallocIf : Linking → AbiVariant → Bool → Option (List ℕ) → Type 0
 IsReallocIf l variant false found = found ≡ None
@@ -110,8 +119,7 @@ IsReallocIf l variant true found = (name : List ℕ) × IsRealloc l variant name
 
 -- those that are asked for, which are there
 pub record AreOptions (l : Linking) (variant : AbiVariant) (r : RequiredValue) (o : Options) : Type 0 where
-  pub memory : o.memory ≡ r.memory
-  pub has_memory : r.memory ≡ true → HasMemory l
+  pub memory : IsMemoryIf l r.memory o.memory
   pub realloc : IsReallocIf l variant r.realloc o.realloc
   pub encoding : o.encoding ≡ where_asked r.encoding (Some l.encoding)
 

@@ -16,7 +16,7 @@ abbrev pub name_at : List ExportValue → ℕ → Option (List ℕ)
 name_at es place = option_map (λ (e : ExportValue). e.name) (slice_get es place)
 
 abbrev pub options_value : List ExportValue → LinkOptions → Options
-options_value es o = record { memory = o.memory; realloc = option_and_then (name_at es) o.realloc; encoding = o.encoding }
+options_value es o = record { memory = option_and_then (name_at es) o.memory; realloc = option_and_then (name_at es) o.realloc; encoding = o.encoding }
 
 -- the places of a link are those of what an entry names
 pub record IsLinkOf (es : List ExportValue) (x : ExportLink) (e : ExportEntry) : Type 0 where

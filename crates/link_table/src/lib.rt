@@ -5,6 +5,7 @@ mod apart;
 mod exports;
 mod fault;
 mod imports;
+mod law;
 mod lines;
 mod linking;
 mod lookup;
@@ -13,6 +14,7 @@ mod table;
 
 pub use exports::ExportLink;
 pub use fault::TableFault;
+pub use law::law_tables_are_one;
 pub use linking::Linking;
 pub use options::LinkOptions;
 pub use table::{LinkTable, table_of};

@@ -45,14 +45,14 @@ fn import_link(
     })
 }
 
-/// The memory, if there is one.
-fn memory_text(alloc: Global, memory: bool) -> Result<Option<String>, AllocError>
-    ensures { IfOk result (λ t. option_map string_bytes t ≡ spec.memory_text memory) }
+/// The text of the memory, if one has this name.
+fn memory_text(alloc: Global, name: Option<&str>) -> Result<Option<String>, AllocError>
+    ensures { IfOk result (λ t. option_map string_bytes t ≡ spec.memory_text (option_map (λ n. n.now) name.entry)) }
 {
-    if !memory {
-        return Ok(None);
+    match name {
+        Some(_) => Ok(Some(String::from_str(alloc, "memory")?)),
+        None => Ok(None),
     }
-    Ok(Some(String::from_str(alloc, "memory")?))
 }
 
 /// What makes room, if something does, as an export of the main module.
@@ -73,8 +73,8 @@ fn export_name<'l>(exports: &[Export<'l>], place: usize) -> Option<&'l str>
     Some(export.name)
 }
 
-/// The name of what makes room, if something does.
-fn realloc_name<'l>(exports: &[Export<'l>], place: Option<usize>) -> Option<&'l str>
+/// The name of the core export at a place, if there is a place.
+fn name_of<'l>(exports: &[Export<'l>], place: Option<usize>) -> Option<&'l str>
     ensures { option_map (λ n. n.now) result ≡ option_and_then (name_at (map export_value exports.now)) place }
 {
     match place {
@@ -114,8 +114,8 @@ fn export_link(
     ensures { IfOk result (λ l. link_value l ≡ spec.export_line function.now name.now (options_value (map export_value exports.now) options.now)) }
 {
     let mut link = bare_export(alloc, function, name)?;
-    link.memory = memory_text(alloc, options.memory)?;
-    link.realloc = realloc_text(alloc, realloc_name(exports, options.realloc))?;
+    link.memory = memory_text(alloc, name_of(exports, options.memory))?;
+    link.realloc = realloc_text(alloc, name_of(exports, options.realloc))?;
     link.encoding = options.encoding;
     Ok(link)
 }

@@ -18,12 +18,12 @@ use wasm_types::{ExportKind, FuncType, ValType};
 use wit_core_names::WasmExport;
 use wit_types::{AbiVariant, Function, WorldKey};
 
-/// The options of a link, with the place of the core export that makes room.
+/// The options of a link, with the places of core exports among those of the module, from 0.
 #[derive(Clone, Copy)]
 pub struct LinkOptions {
-    /// Whether it has the memory of the module.
-    pub memory: bool,
-    /// What makes room in that, by its place among the core exports, from 0.
+    /// The memory of the module.
+    pub memory: Option<usize>,
+    /// What makes room in that.
     pub realloc: Option<usize>,
     /// How strings are encoded.
     pub encoding: Option<StringEncoding>,
@@ -56,10 +56,10 @@ fn is_realloc_type(core: Option<&FuncType>) -> bool
 }
 
 impl Lookup<'_, '_, '_> {
-    /// Looks at the memory that the module exports.
-    fn check_memory(&self) -> Result<(), TableFault>
+    /// The place of the memory that the module exports.
+    fn memory(&self) -> Result<usize, TableFault>
         requires lookup { IsLookup self.now }
-        ensures has { OnOk result (spec.HasMemory (linking_value self.now.linking)) }
+        ensures has { IfOk result (spec.IsMemoryAt (linking_value self.now.linking)) }
         ensures cause { IfErr result (spec.IsMemoryCause (linking_value self.now.linking)) }
     {
         // The borrow check is to know the types of what an export lends.
@@ -68,7 +68,7 @@ impl Lookup<'_, '_, '_> {
         if self.linking.main.exports[place].kind != ExportKind::Memory {
             return Err(TableFault::Link(LinkFault::WrongCoreType));
         }
-        Ok(())
+        Ok(place)
     }
 
     /// The place of what makes room for one side alone, if there is one.
@@ -121,9 +121,11 @@ impl Lookup<'_, '_, '_> {
         ensures options { IfOk result (λ o. spec.AreOptions (linking_value self.now.linking) variant (required_value required) (options_value (linking_value self.now.linking).main.exports o)) }
         ensures cause { IfErr result (spec.IsOptionsCause (linking_value self.now.linking) variant (required_value required)) }
     {
-        if required.memory {
-            self.check_memory()?;
-        }
+        let memory = if required.memory {
+            Some(self.memory()?)
+        } else {
+            None
+        };
         let realloc = if required.realloc {
             Some(self.realloc(variant)?)
         } else {
@@ -131,7 +133,7 @@ impl Lookup<'_, '_, '_> {
         };
         let encoding = required.encoding.then_some(self.linking.encoding);
         Ok(LinkOptions {
-            memory: required.memory,
+            memory,
             realloc,
             encoding,
         })

@@ -1,6 +1,6 @@
 -- Where the core functions that the main module is given, and the functions that are exported, end (Component Model, Explainer, Canonical
 -- Definitions).
-use Rattle.std.specs.Prelude.{◌≡◌, ℕ, ◌+◌, List, [], length, Option, Some, None, true, string_bytes, if◌then◌else◌}
+use Rattle.std.specs.Prelude.{◌≡◌, ℕ, ◌+◌, List, [], length, Option, Some, None, string_bytes}
 use Rattle.std.specs.List.{AllByRecursion as Each}
 use Rattle.wasm_types.specs.Entries.{ExportValue}
 use Rattle.wasm_types.specs.Types.{FuncTypeValue}
@@ -21,7 +21,7 @@ use Rattle.core_links.specs.Names.{Names}
 use Rattle.link_table.specs.Linking.{Linking, types_of}
 use Rattle.link_table.specs.Types.{HasCoreType}
 use Rattle.link_table.specs.Table.{ImportEntry, ExportEntry}
-use Rattle.link_table.specs.Options.{Options, HasMemory}
+use Rattle.link_table.specs.Options.{Options, IsMemory}
 use Rattle.right_components.specs.Outside.{IsTextOf}
 
 -- ---- imports
@@ -46,13 +46,13 @@ pub record IsLoweringOf (n : Names) (s : Spaces) (e : ImportEntry) (i : CoreItem
 abbrev pub IsCoreExport : ExportKind → Spaces → ℕ → ℕ → List ℕ → Type 0
 IsCoreExport kind s instance i name = (c : CoreItem) × (core_at kind s i ≡ Some c) × (c.origin ≡ of_export instance name)
 
--- a name of the memory of the module, which may have more than one
-abbrev pub IsNameOfMemory : Linking → List ℕ → Type 0
-IsNameOfMemory l name = (m : HasMemory l) × (e : ExportValue) × Has l.main.exports e × (e.kind ≡ kinds.Memory) × (e.index ≡ m.export.index) × (name ≡ e.name)
+-- a name of the memory of the module that has that name: it may have more than one
+abbrev pub IsNameOfMemory : Linking → List ℕ → List ℕ → Type 0
+IsNameOfMemory l of name = (m : IsMemory l of) × (e : ExportValue) × Has l.main.exports e × (e.kind ≡ kinds.Memory) × (e.index ≡ m.at.export.index) × (name ≡ e.name)
 
 -- an option is what the options of an entry say, of an instance of the module
 pub data IsOptionOf (l : Linking) (s : Spaces) (instance : ℕ) (o : Options) : CanonicalOption → Type 0 where
-  the_memory : (i : ℕ) (name : List ℕ) → o.memory ≡ true → IsNameOfMemory l name → IsCoreExport kinds.Memory s instance i name → IsOptionOf l s instance o (options.Memory i)
+  the_memory : (i : ℕ) (of name : List ℕ) → o.memory ≡ Some of → IsNameOfMemory l of name → IsCoreExport kinds.Memory s instance i name → IsOptionOf l s instance o (options.Memory i)
   the_realloc : (i : ℕ) (name : List ℕ) → o.realloc ≡ Some name → IsCoreExport kinds.Func s instance i name → IsOptionOf l s instance o (options.Realloc i)
   the_encoding : (e : StringEncoding) → o.encoding ≡ Some e → IsOptionOf l s instance o (encoding_option e)
 
@@ -62,7 +62,7 @@ is_there None = 0
 is_there (Some a) = 1
 
 abbrev pub option_count : Options → ℕ
-option_count o = (if o.memory then 1 else 0) + (is_there o.realloc + is_there o.encoding)
+option_count o = is_there o.memory + (is_there o.realloc + is_there o.encoding)
 
 -- a lift has the options of an entry, each once
 pub record AreOptionsOf (l : Linking) (s : Spaces) (instance : ℕ) (o : Options) (os : List CanonicalOption) : Type 0 where
