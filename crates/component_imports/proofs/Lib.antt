@@ -5,6 +5,7 @@ mod Walked
 mod Staying
 mod Needing
 mod Worldly
+mod Typed
 mod Readied
 mod Turns
 mod Ordered

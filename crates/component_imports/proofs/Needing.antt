@@ -1,5 +1,5 @@
 -- The interfaces that are needed, one after the other.
-use Rattle.std.proofs.Common.{◌≡◌, ◌⊎◌, ◌<◌, ◌+◌, ℕ, zero, suc, List, [], ◌∷◌, ◌++◌, length, take, get_or, Option, Some, None, true, false, refl, sym, ap, subst, ◌∙◌, arith, inl, inr, append_assoc}
+use Rattle.std.proofs.Common.{◌≡◌, ◌⊎◌, ◌<◌, ◌+◌, ℕ, zero, suc, Bool, if◌then◌else◌, List, [], ◌∷◌, ◌++◌, length, take, get_or, Option, Some, None, true, false, refl, sym, ap, subst, ◌∙◌, arith, inl, inr, append_assoc, length-append}
 use Rattle.std.specs.Prelude.{slice_get, flat_map, string_bytes, nat_eq, Vec, String}
 use Rattle.std.specs.Borrow.{Bor}
 use Rattle.std.specs.declared.alloc.Global.{Global}
@@ -30,11 +30,11 @@ use Rattle.type_sinks.specs.Views.{root_scope, root_names, interface_names, IsIn
 use Rattle.component_imports.specs.Functions.{functions_of, function_names}
 use Rattle.type_sinks.specs.Views.{setting_over}
 use Rattle.component_imports.specs.Interface.{interface_name, IsInterfaceImported}
-use Rattle.component_imports.specs.Interfaces.{EarlierAreApart, ids_of, linked_of, asked, is_needed, name_if, names_from, owned_name, owned_names, HasInterface, Stays, IsImportedWith, IsImportedIfNeeded, AreImported}
+use Rattle.component_imports.specs.Interfaces.{EarlierAreApart, ids_of, linked_of, asked, is_needed, name_if, names_from, owned_name, owned_names, HasInterface, HasInterfaceAt, Stays, IsImportedWith, IsImportedIfNeeded, AreImported}
 use Rattle.type_sinks.proofs.Keeping.{each_keeps}
 use Rattle.component_imports.proofs.Imported.{named_more}
 use Rattle.component_imports.proofs.Walked.{flat_same}
-use Rattle.component_imports.proofs.Staying.{stays_on, interface_stays, owned_are, each_of, each_in}
+use Rattle.component_imports.proofs.Staying.{stays_on, interface_stays, same_instance, owned_are, each_of, each_in}
 
 -- what is asked of an interface's functions is asked
 functions_asked : (linked : List (List Function)) (i : ℕ) (fs : List Function) (x : ℕ) → slice_get linked i ≡ Some fs → Has (ids_of fs) x → Has (flat_map ids_of linked) x
@@ -100,10 +100,11 @@ module _ (n : ℕ) (types : List TypeDef) (others : List ℕ) (linked : List (Li
 -- ---- one after the other
 
 -- those below one are imported
-pub record AreImportedTo (old new : Root) (types : List TypeDef) (needed : List (List ℕ)) (linked : List (List Function)) (n : ℕ) : Type 0 where
+pub record AreImportedTo (old new : Root) (types : List TypeDef) (instances : List (Option ℕ)) (needed : List (List ℕ)) (linked : List (List Function)) (n : ℕ) : Type 0 where
+  pub long : length instances ≡ n
   pub stays : Stays old new types
   pub names : root_names new ≡ root_names old ++ names_from (interface_name old) 0 (take n needed) (take n linked)
-  pub has : (i : ℕ) (ids : List ℕ) (fs : List Function) → i < n → slice_get needed i ≡ Some ids → slice_get linked i ≡ Some fs → is_needed ids fs ≡ true → HasInterface new types i ids fs
+  pub has : (i : ℕ) (ids : List ℕ) (fs : List Function) → i < n → slice_get needed i ≡ Some ids → slice_get linked i ≡ Some fs → is_needed ids fs ≡ true → HasInterfaceAt new types instances i ids fs
   pub taken : (id k : ℕ) → index_of new.homes id ≡ Some k → (j : ℕ) × IsTypeOf types id j × (j < n)
   pub homes : (i : ℕ) (ids : List ℕ) (fs : List Function) (id : ℕ) (d : TypeDef) (x : String Global) → i < n → slice_get needed i ≡ Some ids → slice_get linked i ≡ Some fs → Has ids id → slice_get types id ≡ Some d → d.name ≡ Some x
       → IsRemembered (index_of new.homes) id
@@ -174,20 +175,40 @@ at_most i n lt = elim (cases_Bool (nat_eq i n)) [
       inl (omega (arith, lt, differ))
 ]
 
-pub imported_next : (start old new : Root) (types : List TypeDef) (others : List ℕ) (needed : List (List ℕ)) (linked : List (List Function)) (n own : ℕ) (ids : List ℕ) (fs : List Function)
+-- the next instance is that of what is needed
+abbrev pub next_instance : Root → List ℕ → List Function → Option ℕ
+next_instance r ids fs = if is_needed ids fs then Some (length (root_scope r).instances) else None
+
+get_front : {X : Type 0} (xs : List X) (y : X) (i : ℕ) (x : X) → slice_get xs i ≡ Some x → slice_get (xs ++ y ∷ []) i ≡ Some x
+get_front [] y i x at = absurd cc
+get_front (z ∷ xs) y zero x at = at
+get_front (z ∷ xs) y (suc i) x at = get_front xs y i x at
+
+get_end : {X : Type 0} (xs : List X) (y : X) → slice_get (xs ++ y ∷ []) (length xs) ≡ Some y
+get_end [] y = refl
+get_end (z ∷ xs) y = get_end xs y
+
+pub imported_next : (start old new : Root) (types : List TypeDef) (instances : List (Option ℕ)) (others : List ℕ) (needed : List (List ℕ)) (linked : List (List Function)) (n own : ℕ) (ids : List ℕ) (fs : List Function)
     → own ≡ n → AreNeeded (length linked) types (asked others linked) needed → slice_get needed n ≡ Some ids → slice_get linked n ≡ Some fs
-    → AreImportedTo start old types needed linked n → IsImportedIfNeeded old new types own ids fs → AreImportedTo start new types needed linked (n + 1)
-imported_next start old new types others needed linked n own ids fs same all a b before one =
+    → AreImportedTo start old types instances needed linked n → IsImportedIfNeeded old new types own ids fs → AreImportedTo start new types (instances ++ next_instance old ids fs ∷ []) needed linked (n + 1)
+unfolding interface_there
+imported_next start old new types instances others needed linked n own ids fs same all a b before one =
     let name : interface_name old own ≡ interface_name start n = (λ i. get_or (before.stays.interfaces i) (same i) []) in
     let next : suc n ≡ n + 1 = omega arith in
+    let more = instances ++ next_instance old ids fs ∷ [] in
     record {
+      long = (let l = length-append instances (next_instance old ids fs ∷ []) in let m = before.long in omega (arith, l, m));
       stays = stays_on start old new types before.stays one.stays;
       names = one.names ∙ (λ i. before.names i ++ name_if (is_needed ids fs) (name i))
           ∙ append_assoc (root_names start) (names_from (interface_name start) 0 (take n needed) (take n linked)) (name_if (is_needed ids fs) (interface_name start n))
           ∙ ap (λ l. root_names start ++ l) (sym (names_next (interface_name start) 0 n n needed linked ids fs (omega arith) a b))
           ∙ ap (λ m. root_names start ++ names_from (interface_name start) 0 (take m needed) (take m linked)) next;
-      has = λ i js gs lt at_needed at_linked there. elim (at_most i n lt) as (λ _. HasInterface new types i js gs) [
-        | inl low ↦ interface_stays old new types i js gs one.stays (before.has i js gs low at_needed at_linked there)
+      has = λ i js gs lt at_needed at_linked there. elim (at_most i n lt) as (λ _. HasInterfaceAt new types more i js gs) [
+        | inl low ↦ (
+            let h = before.has i js gs low at_needed at_linked there in
+            let same : Some (Some h.0.instance) ≡ Some (Some (interface_stays old new types i js gs one.stays h.0).instance) = ap (λ (k : ℕ). Some (Some k)) (sym (same_instance old new types i js gs one.stays h.0)) in
+            (interface_stays old new types i js gs one.stays h.0, get_front instances (next_instance old ids fs) i (Some h.0.instance) h.1 ∙ same)
+            )
         | inr e ↦
             let here_needed : slice_get needed own ≡ Some ids = ap (slice_get needed) same ∙ a in
             let here_linked : slice_get linked own ≡ Some fs = ap (slice_get linked) same ∙ b in
@@ -198,7 +219,10 @@ imported_next start old new types others needed linked n own ids fs same all a b
             let is : is_needed ids fs ≡ true = sym (λ k. is_needed (ids_same k) (fs_same k)) ∙ there in
             let with = one.imported is in
             let made = interface_there (length linked) types others linked needed all own ids fs here_needed here_linked with.ids with.are old new with.imported in
-            subst (λ m. HasInterface new types m js gs) (same ∙ sym e) (subst (λ l. HasInterface new types own l gs) (sym ids_same) (subst (λ l. HasInterface new types own ids l) (sym fs_same) made))
+            let last : slice_get more own ≡ Some (Some (length (root_scope old).instances)) =
+            subst (λ m. slice_get more m ≡ Some (Some (length (root_scope old).instances))) (before.long ∙ sym same)
+            (get_end instances (next_instance old ids fs) ∙ ap (λ (b : Bool). Some (if b then Some (length (root_scope old).instances) else None)) is) in
+            subst (λ m. HasInterfaceAt new types more m js gs) (same ∙ sym e) (subst (λ l. HasInterfaceAt new types more own l gs) (sym ids_same) (subst (λ l. HasInterfaceAt new types more own ids l) (sym fs_same) (made, last)))
       ];
       taken = λ id k h. elim (one.homes_only id k h) as (λ _. (j : ℕ) × IsTypeOf types id j × (j < n + 1)) [
         | inl was ↦ (let t = before.taken id k was in (t.0, t.1, (let lt = t.2 in omega (arith, lt))))
@@ -216,16 +240,18 @@ imported_next start old new types others needed linked n own ids fs same all a b
       ];
     }
 
-pub all_imported : (start new : Root) (types : List TypeDef) (needed : List (List ℕ)) (linked : List (List Function)) (n : ℕ) → length linked ≡ n → length needed ≡ n → AreImportedTo start new types needed linked n → AreImported start new types needed linked
-all_imported start new types needed linked n count_linked count h = record {
+pub all_imported : (start new : Root) (types : List TypeDef) (instances : List (Option ℕ)) (needed : List (List ℕ)) (linked : List (List Function)) (n : ℕ) → length linked ≡ n → length needed ≡ n → AreImportedTo start new types instances needed linked n
+    → AreImported start new types instances needed linked
+all_imported start new types instances needed linked n count_linked count h = record {
   stays = h.stays;
   names = h.names ∙ (λ i. root_names start ++ names_from (interface_name start) 0 (take_all n needed (omega (arith, count)) i) (take_all n linked (omega (arith, count_linked)) i));
   has = λ i ids fs a b there. h.has i ids fs (let k = got_below linked i fs b in omega (arith, k, count_linked)) a b there;
 }
 
 -- what may be taken is of earlier interfaces
-pub taken_apart : (start old : Root) (types : List TypeDef) (needed : List (List ℕ)) (linked : List (List Function)) (n own : ℕ) → own ≡ n → EarlierAreApart types → AreImportedTo start old types needed linked n → TakenAreApart (index_of old.homes) own types
-taken_apart start old types needed linked n own same apart before id k d x t home at named unfolds =
+pub taken_apart : (start old : Root) (types : List TypeDef) (instances : List (Option ℕ)) (needed : List (List ℕ)) (linked : List (List Function)) (n own : ℕ) → own ≡ n → EarlierAreApart types → AreImportedTo start old types instances needed linked n
+    → TakenAreApart (index_of old.homes) own types
+taken_apart start old types instances needed linked n own same apart before id k d x t home at named unfolds =
     let from = before.taken id k home in
     let there = from.1.1 in
     let one : from.1.0 ≡ d = cc in

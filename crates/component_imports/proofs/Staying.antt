@@ -94,6 +94,10 @@ interface_stays old new types i ids fs t h =
       has = each_keeps _ _ fs (λ f g. subst (λ n. Has n f) (sym t.interfaces) (function_stays old new types k (imported (interface_name old i)) (string_bytes f.name) f.params.items f.result t g)) h.has;
     }
 
+pub same_instance : (old new : Root) (types : List TypeDef) (i : ℕ) (ids : List ℕ) (fs : List Function) (t : Stays old new types) (h : HasInterface old types i ids fs) → (interface_stays old new types i ids fs t h).instance ≡ h.instance
+unfolding interface_stays
+same_instance old new types i ids fs t h = refl
+
 -- ---- the interface's own of what is written
 
 owned_one : (r : Root) (own : ℕ) (x : Option TypeDef) → name_of (setting_over r own) x ≡ owned_name own x

@@ -1,5 +1,5 @@
 -- Where what is asked for is all written, each interface is ready when its turn comes.
-use Rattle.std.proofs.Common.{◌≡◌, ◌≤◌, ◌<◌, ◌+◌, ◌⊎◌, ℕ, zero, suc, List, [], ◌∷◌, ◌++◌, length, take, get_or, Some, Bool, true, false, not, refl, sym, ap, subst, ◌∙◌, arith, inl, inr}
+use Rattle.std.proofs.Common.{◌≡◌, ◌<◌, ◌+◌, ◌⊎◌, ℕ, zero, suc, List, [], ◌∷◌, ◌++◌, length, take, get_or, Option, Some, Bool, true, false, not, refl, sym, ap, subst, ◌∙◌, arith, inl, inr}
 use Rattle.std.specs.Prelude.{slice_get, bytes_eq, String, ◌||◌}
 use Rattle.std.specs.declared.alloc.Global.{Global}
 use Rattle.std.specs.List.{list_any}
@@ -28,7 +28,7 @@ use Rattle.component_imports.specs.Functions.{function_names}
 use Rattle.type_sinks.specs.Views.{setting_over}
 use Rattle.component_imports.specs.Interface.{interface_name}
 use Rattle.component_imports.specs.Interfaces.{ids_of, asked, is_needed, name_if, names_from}
-use Rattle.component_imports.specs.Ready.{AreDistinct, IsWrittenHere, IsReady, IsAsked, IsSeenBy, AreWritable}
+use Rattle.component_imports.specs.Ready.{AreDistinct, IsWrittenHere, IsReady, IsAsked, IsSeenBy, AreWritable, IsInterfaceAsked}
 use Rattle.component_imports.proofs.Staying.{owned_are}
 use Rattle.component_imports.proofs.Needing.{AreImportedTo, got_below, is_asked, same_names}
 
@@ -59,22 +59,24 @@ has_of (x ∷ fs) f k h g = elim h as (λ _. Has (ids_of (x ∷ fs)) k) [
 
 -- ---- names of interfaces
 
-if_none : (b : Bool) (x name : List ℕ) → bytes_eq x name ≡ false → list_any (bytes_eq x) (name_if b name) ≡ false
-if_none true x name e = ap (λ c. c || false) e
+if_none : (b : Bool) (x name : List ℕ) → (b ≡ true → bytes_eq x name ≡ false) → list_any (bytes_eq x) (name_if b name) ≡ false
+if_none true x name e = ap (λ c. c || false) (e refl)
 if_none false x name e = refl
 
-none_from : (f : ℕ → List ℕ) (x : List ℕ) (k : ℕ) (needed : List (List ℕ)) (linked : List (List Function)) → ((i : ℕ) → i < k + length needed → bytes_eq x (f i) ≡ false) → list_any (bytes_eq x) (names_from f k needed linked) ≡ false
+none_from : (f : ℕ → List ℕ) (x : List ℕ) (k : ℕ) (needed : List (List ℕ)) (linked : List (List Function))
+    → ((i j : ℕ) (ids : List ℕ) (fs : List Function) → j ≡ k + i → slice_get needed i ≡ Some ids → slice_get linked i ≡ Some fs → is_needed ids fs ≡ true → bytes_eq x (f j) ≡ false) → list_any (bytes_eq x) (names_from f k needed linked) ≡ false
 none_from f x k [] linked h = refl
 none_from f x k (ids ∷ needed) [] h = refl
 none_from f x k (ids ∷ needed) (fs ∷ linked) h =
     list_any-append (bytes_eq x) (name_if (is_needed ids fs) (f k)) (names_from f (suc k) needed linked)
-    ∙ ap (λ c. c || list_any (bytes_eq x) (names_from f (suc k) needed linked)) (if_none (is_needed ids fs) x (f k) (h k (omega arith)))
-    ∙ none_from f x (suc k) needed linked (λ i lt. h i (omega (arith, lt)))
+    ∙ ap (λ c. c || list_any (bytes_eq x) (names_from f (suc k) needed linked)) (if_none (is_needed ids fs) x (f k) (λ is. h zero k ids fs (omega arith) refl refl is))
+    ∙ none_from f x (suc k) needed linked (λ i j js gs e at has is. h (suc i) j js gs (omega (arith, e)) at has is)
 
-taken_count : {X : Type 0} (n : ℕ) (xs : List X) → length (take n xs) ≤ n
-taken_count zero xs = omega arith
-taken_count (suc n) [] = omega arith
-taken_count (suc n) (x ∷ xs) = let k = taken_count n xs in omega (arith, k)
+get_taken : {X : Type 0} (n : ℕ) (xs : List X) (i : ℕ) (x : X) → slice_get (take n xs) i ≡ Some x → (i < n) × (slice_get xs i ≡ Some x)
+get_taken zero xs i x at = absurd cc
+get_taken (suc n) [] i x at = absurd cc
+get_taken (suc n) (y ∷ xs) zero x at = (omega arith, at)
+get_taken (suc n) (y ∷ xs) (suc i) x at = let k = get_taken n xs i x at in let lt = k.0 in (omega (arith, lt), k.1)
 
 still_new : (xs ys : List (List ℕ)) (x : List ℕ) → is_new xs x ≡ true → list_any (bytes_eq x) ys ≡ false → is_new (xs ++ ys) x ≡ true
 still_new xs ys x a b = ap not (list_any-append (bytes_eq x) xs ys ∙ ap (λ c. list_any (bytes_eq x) xs || c) b ∙ or_false (list_any (bytes_eq x) xs)) ∙ a
@@ -85,8 +87,8 @@ still_new xs ys x a b = ap not (list_any-append (bytes_eq x) xs ys ∙ ap (λ c.
 
 -- ---- an interface whose turn it is
 
-module _ (start old : Root) (types : List TypeDef) (others : List ℕ) (linked : List (List Function)) (needed : List (List ℕ)) (backward : AreTypesBackward types) (all : AreNeeded (length linked) types (asked others linked) needed)
-    (can : AreWritable start types others linked) (own : ℕ) (before : AreImportedTo start old types needed linked own) (ids : List ℕ) (fs : List Function) (at : slice_get needed own ≡ Some ids) (has : slice_get linked own ≡ Some fs)
+module _ (start old : Root) (types : List TypeDef) (instances : List (Option ℕ)) (others : List ℕ) (linked : List (List Function)) (needed : List (List ℕ)) (backward : AreTypesBackward types) (all : AreNeeded (length linked) types (asked others linked) needed)
+    (can : AreWritable start types others linked) (own : ℕ) (before : AreImportedTo start old types instances needed linked own) (ids : List ℕ) (fs : List Function) (at : slice_get needed own ≡ Some ids) (has : slice_get linked own ≡ Some fs)
     (walked : List ℕ) (ends : AreEnds (IsMadeOfWithin (belongs.Interface own) types) (Has (ids ++ ids_of fs)) walked) where
   asked_there : (i : ℕ) → Has walked i → IsAsked types others linked i
   asked_there i h = is_asked (length linked) types others linked needed all own ids fs at has walked ends i h
@@ -138,16 +140,27 @@ module _ (start old : Root) (types : List TypeDef) (others : List ℕ) (linked :
   over_ready : (f : Function) (k : ℕ) → Has fs f → Has (signature_ids f) k → Has walked k
   over_ready f k f_in h = ends.all k k (has_append ids (ids_of fs) k (has_of fs f k f_in (has_append (resource_ids f.kind) (signature_ids f) k h))) ([], refl)
 
-  name_new : is_new (root_names old) (interface_name old own) ≡ true
-  name_new =
-      let name : interface_name old own ≡ interface_name start own = ap (λ l. get_or l own []) before.stays.interfaces in
-      let low = got_below linked own fs has in
-      let none = none_from (interface_name start) (interface_name start own) 0 (take own needed) (take own linked) (λ i lt. (let c = taken_count own needed in can.apart i own (omega (arith, lt, c)) low)) in
-      ap (is_new (root_names old)) name ∙ ap (λ l. is_new l (interface_name start own)) before.names
-      ∙ still_new (root_names start) (names_from (interface_name start) 0 (take own needed) (take own linked)) (interface_name start own) (can.new own low) none
+  -- something is asked of an interface that is needed
+  asked_of : (i : ℕ) (js : List ℕ) (gs : List Function) → slice_get needed i ≡ Some js → slice_get linked i ≡ Some gs → is_needed js gs ≡ true → IsInterfaceAsked types others linked i
+  asked_of i [] [] a b is = absurd cc
+  asked_of i [] (g ∷ gs) a b is = inr (g ∷ gs, g, b, inl refl)
+  asked_of i (j ∷ js) gs a b is = let k = (all.needed i (j ∷ js) a j).0 (inl refl) in inl (j, k.0, k.1)
 
-  pub ready_now : IsReady old types own walked fs
-  ready_now = record {
+  name_new : is_needed ids fs ≡ true → is_new (root_names old) (interface_name old own) ≡ true
+  name_new is =
+      let name : interface_name old own ≡ interface_name start own = ap (λ l. get_or l own []) before.stays.interfaces in
+      let here = asked_of own ids fs at has is in
+      let none = none_from (interface_name start) (interface_name start own) 0 (take own needed) (take own linked) (λ i j js gs e a b needs.
+      (let a2 = get_taken own needed i js a in
+      let b2 = get_taken own linked i gs b in
+      let same : j ≡ i = omega (arith, e) in
+      let low = a2.0 in
+      can.apart j own (omega (arith, low, same)) (subst (IsInterfaceAsked types others linked) (sym same) (asked_of i js gs a2.1 b2.1 needs)) here)) in
+      ap (is_new (root_names old)) name ∙ ap (λ l. is_new l (interface_name start own)) before.names
+      ∙ still_new (root_names start) (names_from (interface_name start) 0 (take own needed) (take own linked)) (interface_name start own) (can.new own here) none
+
+  pub ready_now : is_needed ids fs ≡ true → IsReady old types own walked fs
+  ready_now is = record {
     items = record {
       kinds = λ i d h t here. can.kinds i d (asked_there i h) t;
       parts = parts_ready;
@@ -158,5 +171,5 @@ module _ (start old : Root) (types : List TypeDef) (others : List ℕ) (linked :
           (can.distinct own ids fs (λ i h. ((all.needed own ids at i).0 h).0) (all.rising own ids at) has);
     };
     named = (let a = can.named in let b = got_below linked own fs has in let c = ap length before.stays.interfaces in omega (arith, a, b, c));
-    new = name_new;
+    new = name_new is;
   }

@@ -101,13 +101,17 @@ names_from name i [] linked = []
 names_from name i (ids ∷ needed) [] = []
 names_from name i (ids ∷ needed) (fs ∷ linked) = name_if (is_needed ids fs) (name i) ++ names_from name (suc i) needed linked
 
--- exactly the interfaces that are needed are imported, in rising order, each with exactly what is needed of it
-pub record AreImported (old new : Root) (types : List TypeDef) (needed : List (List ℕ)) (linked : List (List Function)) : Type 0 where
+-- and that instance is the interface's among these, which are by the interfaces' ids
+abbrev pub HasInterfaceAt : Root → List TypeDef → List (Option ℕ) → ℕ → List ℕ → List Function → Type 0
+HasInterfaceAt r types instances interface needed functions = (h : HasInterface r types interface needed functions) × (slice_get instances interface ≡ Some (Some h.instance))
+
+-- exactly the interfaces that are needed are imported, in rising order, each with exactly what is needed of it, by these instances
+pub record AreImported (old new : Root) (types : List TypeDef) (instances : List (Option ℕ)) (needed : List (List ℕ)) (linked : List (List Function)) : Type 0 where
   pub stays : Stays old new types
   pub names : root_names new ≡ root_names old ++ names_from (interface_name old) 0 needed linked
-  pub has : (i : ℕ) (ids : List ℕ) (fs : List Function) → slice_get needed i ≡ Some ids → slice_get linked i ≡ Some fs → is_needed ids fs ≡ true → HasInterface new types i ids fs
+  pub has : (i : ℕ) (ids : List ℕ) (fs : List Function) → slice_get needed i ≡ Some ids → slice_get linked i ≡ Some fs → is_needed ids fs ≡ true → HasInterfaceAt new types instances i ids fs
 
-pub record AreNeededImported (old new : Root) (types : List TypeDef) (others : List ℕ) (linked : List (List Function)) : Type 0 where
+pub record AreNeededImported (old new : Root) (types : List TypeDef) (instances : List (Option ℕ)) (others : List ℕ) (linked : List (List Function)) : Type 0 where
   pub needed : List (List ℕ)
   pub are : AreNeeded (length linked) types (asked others linked) needed
-  pub imported : AreImported old new types needed linked
+  pub imported : AreImported old new types instances needed linked

@@ -84,8 +84,12 @@ AreUsedEarlier types linked = (own i : ℕ) (d : TypeDef) (x : String Global) �
 abbrev pub HaveDistinctItems : List TypeDef → List (List Function) → Type 0
 HaveDistinctItems types linked = (own : ℕ) (ids : List ℕ) (fs : List Function) → ((i : ℕ) → Has ids i → BelongsTo types i own) → AreRising ids → slice_get linked own ≡ Some fs → AreDistinct (owned_names own types ids ++ function_names fs)
 
+-- a type of the interface is asked for, or a function of it is linked
+abbrev pub IsInterfaceAsked : List TypeDef → List ℕ → List (List Function) → ℕ → Type 0
+IsInterfaceAsked types others linked own = ((i : ℕ) × BelongsTo types i own × IsAsked types others linked i) ⊎ ((fs : List Function) × (f : Function) × (slice_get linked own ≡ Some fs) × Has fs f)
+
 -- What is asked for is all written; types without names belong nowhere; interfaces use types of earlier interfaces; no two types of an
--- interface or functions have one name, no two interfaces have one, and nothing is imported under these yet
+-- interface or functions have one name, no two interfaces of which something is asked for have one, and nothing is imported under these yet
 pub record AreWritable (r : Root) (types : List TypeDef) (others : List ℕ) (linked : List (List Function)) : Type 0 where
   pub kinds : (i : ℕ) (d : TypeDef) → IsAsked types others linked i → slice_get types i ≡ Some d → IsNeverWritten d → ⊥
   pub functions : (own : ℕ) (fs : List Function) (f : Function) → slice_get linked own ≡ Some fs → Has fs f → HasUnwrittenParts f → ⊥
@@ -93,5 +97,5 @@ pub record AreWritable (r : Root) (types : List TypeDef) (others : List ℕ) (li
   pub earlier : AreUsedEarlier types linked
   pub distinct : HaveDistinctItems types linked
   pub named : length linked ≤ length (interface_names r)
-  pub new : (own : ℕ) → own < length linked → is_new (root_names r) (interface_name r own) ≡ true
-  pub apart : (i j : ℕ) → i < j → j < length linked → bytes_eq (interface_name r j) (interface_name r i) ≡ false
+  pub new : (own : ℕ) → IsInterfaceAsked types others linked own → is_new (root_names r) (interface_name r own) ≡ true
+  pub apart : (i j : ℕ) → i < j → IsInterfaceAsked types others linked i → IsInterfaceAsked types others linked j → bytes_eq (interface_name r j) (interface_name r i) ≡ false

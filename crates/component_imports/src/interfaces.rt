@@ -1,6 +1,6 @@
 //! All interfaces that are needed.
 
-ghost use Rattle.std.specs.Prelude.{◌≡◌, ◌<◌, ◌++◌, ℕ, List, length, map, flat_map, None, IfOk, IfErr, OnOk};
+ghost use Rattle.std.specs.Prelude.{◌≡◌, ◌<◌, ◌++◌, ℕ, List, length, map, flat_map, None, IfOk, IfErr, OnOk, true, if◌then◌else◌};
 ghost use Rattle.wit_order.specs.Order.{Has};
 ghost use Rattle.wit_types.specs.declared.interface.TypeOwner.TheVariants as belongs;
 ghost use Rattle.wit_reach.specs.Paths.{AreEnds};
@@ -10,7 +10,7 @@ ghost use Rattle.wit_reach.specs.Made.{IsMadeOfWithin};
 ghost use Rattle.wit_reach.specs.Lists.{AreOwnersThere};
 ghost use Rattle.type_sinks.specs.Inside.{TakenAreApart};
 ghost use Rattle.type_sinks.specs.Kept.{index_of};
-ghost use Rattle.type_sinks.specs.Views.{RootIsGood};
+ghost use Rattle.type_sinks.specs.Views.{root_scope, RootIsGood};
 ghost use Rattle.component_imports.specs.Functions.{functions_of};
 ghost use Rattle.type_writing.specs.Refusals.{IsCause};
 ghost use Rattle.component_imports.specs.Interfaces as spec;
@@ -96,13 +96,33 @@ fn import_needed<'s>(
     requires good { RootIsGood root types.now }
     requires apart { TakenAreApart (index_of root.homes) interface types.now }
     ensures ok { IfOk result (λ r. spec.IsImportedIfNeeded root.entry r types.entry.now interface needed.now (functions_of functions.now)) }
-    ensures cause { IfErr result (IsCause (spec.IsUnreadyWith root.entry types.entry.now interface needed.now (functions_of functions.now)) (Unit {0})) }
+    ensures cause { IfErr result (IsCause ((spec.is_needed needed.now (functions_of functions.now) ≡ true) × spec.IsUnreadyWith root.entry types.entry.now interface needed.now (functions_of functions.now)) (Unit {0})) }
 {
     if !is_needed(needed, functions) {
         return Ok(root);
     }
     let ids = written_for(alloc, types, interface, needed, functions)?;
     import_interface(alloc, root, types, interface, ids.as_slice(), functions)
+}
+
+/// The index of the instance that is imported next, if one is needed.
+fn next_instance(root: &Root<'_>, needed: &[TypeId], functions: &[&Function]) -> Option<u32>
+    ensures { result ≡ (if spec.is_needed needed.now (functions_of functions.now) then Some (length (root_scope root.now).instances) else None) }
+{
+    if is_needed(needed, functions) {
+        Some(root.instance_count())
+    } else {
+        None
+    }
+}
+
+/// A root that imports interfaces.
+#[derive(Drop)]
+pub struct ImportedInterfaces<'s> {
+    /// The root.
+    pub root: Root<'s>,
+    /// The index of the instance of each interface, by the interface's id; none where it isn't imported.
+    pub instances: Vec<Option<u32>>,
 }
 
 /// Imports all interfaces that are needed, in rising order: those of which functions are linked, by their ids, and those that have a type
@@ -117,25 +137,28 @@ pub fn import_interfaces<'s>(
     types: &'s Arena<TypeDef>,
     others: &[TypeId],
     linked: &[Vec<&'s Function>],
-) -> Result<Root<'s>, Fault>
+) -> Result<ImportedInterfaces<'s>, Fault>
     requires backward { AreTypesBackward types.now }
     requires there { AreTypesThere types.now (spec.asked others.now (spec.linked_of linked.now)) }
     requires owners { AreOwnersThere (length linked.now) types.now }
     requires good { RootIsGood root types.now }
     requires none { (id : ℕ) → index_of root.homes id ≡ None }
     requires apart { spec.EarlierAreApart types.now }
-    ensures ok { IfOk result (λ r. spec.AreNeededImported root.entry r types.entry.now others.now (spec.linked_of linked.now)) }
+    ensures ok { IfOk result (λ r. spec.AreNeededImported root.entry r.root types.entry.now r.instances.items others.now (spec.linked_of linked.now)) }
     ensures written { AreWritable root.entry types.entry.now others.now (spec.linked_of linked.now) → IfErr result (IsCause ⊥ (Unit {0})) }
 {
     let ids = asked(alloc, others, linked)?;
     let found = NeededTypes::new(alloc, types, linked.len(), ids.as_slice())?;
     let needed = &found;
     let mut root = root;
+    let mut instances = Vec::new(alloc);
     for index in 0..linked.len() {
         let interface = InterfaceId::from_index(index);
         let of_interface = needed.of_interface(interface);
         let functions = linked[index].as_slice();
+        let instance = next_instance(&root, of_interface, functions);
         root = import_needed(alloc, root, types, interface, of_interface, functions)?;
+        instances.push(instance)?;
     }
-    Ok(root)
+    Ok(ImportedInterfaces { root, instances })
 }

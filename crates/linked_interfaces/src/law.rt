@@ -17,9 +17,9 @@ pub fn law_linked_functions_are_up_to()
 {}
 
 /// Where interfaces hold their types under names that differ and types without names belong nowhere, where linked functions of each are
-/// functions of it, each once, and may be linked with other given ones, and where interfaces have names of their own under which nothing is
-/// imported yet, `import_interfaces` never answers `NotYet` for these and the types of the others (WIT, Item: `interface`, Use; Component
-/// Model, Explainer, Import and Export Definitions, Type Definitions).
+/// functions of it, each once, and may be linked with other given ones, and where interfaces of which something is asked for have names of
+/// their own under which nothing is imported yet, `import_interfaces` never answers `NotYet` for these and the types of the others (WIT, Item:
+/// `interface`, Use; Component Model, Explainer, Import and Export Definitions, Type Definitions).
 pub fn law_linked_interfaces_are_writable()
     ensures { LinkedInterfacesAreWritable }
 {

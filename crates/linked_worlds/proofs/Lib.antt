@@ -1,1 +1,2 @@
 mod Linked
+mod Needed

@@ -1,6 +1,7 @@
 //! A law of worlds with which modules are linked.
 
 ghost use Rattle.linked_worlds.specs.Linked.{FunctionsAreThere};
+ghost use Rattle.linked_worlds.specs.Needed.{NeededAreLinked};
 
 use wit_elaborated::law_elaborated_worlds_are_there;
 
@@ -12,3 +13,9 @@ pub fn law_functions_are_there()
 {
     law_elaborated_worlds_are_there();
 }
+
+/// Where names are those of a graph, the functions of each of its interfaces for which core imports stand are functions of that interface, each
+/// once (WIT, Item: `interface`; Component Model, Build Targets).
+pub fn law_needed_are_linked()
+    ensures { NeededAreLinked }
+{}

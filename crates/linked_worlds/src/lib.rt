@@ -3,4 +3,4 @@
 
 mod law;
 
-pub use law::law_functions_are_there;
+pub use law::{law_functions_are_there, law_needed_are_linked};

@@ -102,6 +102,27 @@ impl<'s> Root<'s> {
         &self.entries
     }
 
+    /// What is written, in order.
+    pub fn into_entries(self) -> Vec<Entry<'s>>
+        ensures { map entry_value result.items ≡ entry_values self.entry }
+    {
+        self.entries
+    }
+
+    /// How many instances there are, which is the index of the next.
+    pub fn instance_count(&self) -> u32
+        ensures { result ≡ length (root_scope self.now).instances }
+    {
+        self.instances
+    }
+
+    /// How many functions there are, which is the index of the next.
+    pub fn function_count(&self) -> u32
+        ensures { result ≡ length (root_scope self.now).functions }
+    {
+        self.functions
+    }
+
     /// Writes an entry that takes the next index of a type and imports nothing, and answers that index.
     fn add_type(&mut self, entry: Entry<'s>) -> Result<u32, Fault>
         requires adds { AddsOneType (root_scope self.old) (entry_value entry) }

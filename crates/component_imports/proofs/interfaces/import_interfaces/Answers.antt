@@ -1,4 +1,4 @@
-use Rattle.std.proofs.Common.{◌≡◌, sym, ap, refl, ◌∙◌, subst, Some, length, arith}
+use Rattle.std.proofs.Common.{◌≡◌, ◌+◌, ◌++◌, ◌∷◌, [], sym, ap, refl, ◌∙◌, subst, Some, length, arith}
 use Rattle.std.specs.Prelude.{slice_get}
 use Rattle.wit_reach.specs.Types.{AreTypesThere}
 use Rattle.component_imports.specs.Functions.{functions_of}
@@ -22,7 +22,7 @@ import_needed-requires-clause-functions_there c =
     (functions_there types c.args.others.now (linked_of vs) c.loop-index.index (functions_of v.items) c.requires.there (linked_at vs c.loop-index.index v c.loop-index-test.true c.index-linked-index.is))
 
 pub import_needed-requires-clause-apart : goal.import_needed-requires-clause-apart
-import_needed-requires-clause-apart c = taken_apart c.args.root c.loop-index.root c.args.types.now c.in_ok-found.found (linked_of c.args.linked.now) c.loop-index.index c.from_index-interface.result c.from_index-interface.ensures c.requires.apart c.loop-index.invariant
+import_needed-requires-clause-apart c = taken_apart c.args.root c.loop-index.root c.args.types.now c.loop-index.instances.items c.in_ok-found.found (linked_of c.args.linked.now) c.loop-index.index c.from_index-interface.result c.from_index-interface.ensures c.requires.apart c.loop-index.invariant
 
 pub loop-index-preserved : goal.loop-index-preserved
 loop-index-preserved c =
@@ -35,8 +35,11 @@ loop-index-preserved c =
     let all = all_needed _ types vs others c.in_ok-ids.ids.items c.as_slice.result.now c.in_ok-found.found refl c.as_slice.ensures.value c.in_ok-ids.ensures c.in_ok-found.ensures in
     let here : slice_get c.in_ok-found.found n ≡ Some c.of_interface-of_interface.result.now = ap (slice_get c.in_ok-found.found) (sym c.from_index-interface.ensures) ∙ c.of_interface-of_interface.ensures in
     let at = linked_at vs n v c.loop-index-test.true c.index-linked-index.is ∙ ap (λ fs. Some (functions_of fs)) (sym c.as_slice-functions.ensures.value) in
-    imported_next c.args.root c.loop-index.root c.in_ok-root.root types others c.in_ok-found.found (linked_of vs) n own c.of_interface-of_interface.result.now (functions_of c.as_slice-functions.result.now)
-    c.from_index-interface.ensures all here at c.loop-index.invariant c.in_ok-root.ensures.ok
+    let ids = c.of_interface-of_interface.result.now in
+    let fs = functions_of c.as_slice-functions.result.now in
+    subst (λ is. AreImportedTo c.args.root c.in_ok-root.root types is c.in_ok-found.found (linked_of vs) (n + 1))
+    (sym (c.in_ok-push.ensures.items ∙ ap (λ o. c.loop-index.instances.items ++ o ∷ []) c.next_instance-instance.ensures))
+    (imported_next c.args.root c.loop-index.root c.in_ok-root.root types c.loop-index.instances.items others c.in_ok-found.found (linked_of vs) n own ids fs c.from_index-interface.ensures all here at c.loop-index.invariant c.in_ok-root.ensures.ok)
 
 pub returns : goal.returns
 returns c =
@@ -52,7 +55,7 @@ returns c =
       ok = record {
         needed = found;
         are = all;
-        imported = all_imported c.args.root c.loop-index.root types found (linked_of vs) c.loop-index.index count (all.size ∙ count) c.loop-index.invariant;
+        imported = all_imported c.args.root c.loop-index.root types c.loop-index.instances.items found (linked_of vs) c.loop-index.index count (all.size ∙ count) c.loop-index.invariant;
       };
       written = λ can. tt;
     }
@@ -71,9 +74,14 @@ returns-in_err-root-clause-written c = λ can.
     let all = all_needed _ types vs others c.in_ok-ids.ids.items c.as_slice.result.now found refl c.as_slice.ensures.value c.in_ok-ids.ensures c.in_ok-found.ensures in
     let at = linked_at vs n v c.loop-index-test.true c.index-linked-index.is ∙ ap (λ l. Some (functions_of l)) (sym c.as_slice-functions.ensures.value) in
     let here : slice_get (linked_of vs) own ≡ Some fs = ap (slice_get (linked_of vs)) c.from_index-interface.ensures ∙ at in
-    let before = subst (AreImportedTo c.args.root c.loop-index.root types found (linked_of vs)) (sym c.from_index-interface.ensures) c.loop-index.invariant in
+    let before = subst (AreImportedTo c.args.root c.loop-index.root types c.loop-index.instances.items found (linked_of vs)) (sym c.from_index-interface.ensures) c.loop-index.invariant in
     let moved = err_from_is_err_and c.from_residual-in_err-root.result c.from_residual-in_err-root.ensures.1 in
     rw (moved.1, moved.2)
     (cause_weaker (λ h.
-    ready_imported c.loop-index.root types own h.0 fs (ready_now c.args.root c.loop-index.root types others (linked_of vs) found c.requires.backward all can own before ids fs c.of_interface-of_interface.ensures here h.0 h.1) h.2)
+    ready_imported c.loop-index.root types own h.1.0 fs (ready_now c.args.root c.loop-index.root types c.loop-index.instances.items others (linked_of vs) found c.requires.backward all can own before ids fs c.of_interface-of_interface.ensures here h.1.0 h.1.1 h.0) h.1.2)
     (λ h. h) c.in_err-root.field-0.0 c.in_err-root.ensures.cause)
+
+pub returns-in_err-push-clause-written : goal.returns-in_err-push-clause-written
+returns-in_err-push-clause-written c = λ can.
+    let moved = err_from_is_err_and c.from_residual-in_err-push.result c.from_residual-in_err-push.ensures.1 in
+    rw (moved.1, moved.2) tt

@@ -28,4 +28,4 @@ pub returns-clause-cause : goal.returns-clause-cause
 returns-clause-cause c =
     let types = c.args.types.now in
     let fs = functions_of c.args.functions.now in
-    IfErr-weaker c.import_interface.result _ _ (cause_weaker (λ h. (c.in_ok-ids.ids.items, c.in_ok-ids.ensures, subst (λ l. IsUnready c.args.root types c.args.interface l fs) c.as_slice.ensures.value h)) (λ h. h)) c.import_interface.ensures.cause
+    IfErr-weaker c.import_interface.result _ _ (cause_weaker (λ h. (sym c.is_needed.ensures ∙ c.if-not-is_needed.false, (c.in_ok-ids.ids.items, c.in_ok-ids.ensures, subst (λ l. IsUnready c.args.root types c.args.interface l fs) c.as_slice.ensures.value h))) (λ h. h)) c.import_interface.ensures.cause
