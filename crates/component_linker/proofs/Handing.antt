@@ -2,7 +2,7 @@
 use Rattle.std.proofs.Common.{◌≡◌, ◌∙◌, ℕ, Bool, Some, None, Result, Ok, Err, OnOk, sym, ap, subst, inl, inr, string_bytes}
 use Rattle.command_line.specs.declared.line.Line.{Line}
 use Rattle.component_session.specs.Input.{Input}
-use Rattle.wit_resolution.specs.Pushes.{Resolved, AreTextsPushed, AreTextsError}
+use Rattle.component_session.specs.Pushes.{Resolved, AreTextsPushed, AreTextsError}
 use Rattle.wit_types.specs.declared.«package».PackageName.{PackageName}
 use Rattle.component_linker.specs.declared.program.Stop.{Stop}
 use Rattle.component_linker.specs.declared.program.Stop.TheVariants as stops

@@ -25,8 +25,8 @@ use Rattle.link_lines.specs.declared.line.Link.{Link}
 use Rattle.link_lines.specs.declared.encoding.StringEncoding.{StringEncoding}
 use Rattle.link_lines.specs.declared.encoding.StringEncoding.TheVariants.{UTF8, UTF16, CompactUTF16}
 use Rattle.wit_features.specs.Features.{FeatureSet, with_name}
-use Rattle.wit_resolution.specs.Pushes.{Resolved, nothing_resolved, AreTextsPushed}
-use Rattle.wit_resolution.specs.Texts.{files_of}
+use Rattle.component_session.specs.Pushes.{Resolved, nothing_resolved, AreTextsPushed}
+use Rattle.component_session.specs.Texts.{files_of}
 use Rattle.wit_selection.specs.Selection.{IsSelected}
 use Rattle.wit_types.specs.declared.«package».PackageName.{PackageName}
 use Rattle.wit_words.specs.Sources.{SourceText}

@@ -7,17 +7,16 @@ ghost use Rattle.component_linker.specs.Program as spec;
 ghost use Rattle.component_linker.specs.Program.{line_status, verdict_status, IsFile, file_at, missing_path, textless_path, input_fault, file_fault, text_or, last_main, HasComponent, Handed, IsComponentAnswer, IsLinksAnswer, IsVerdictAnswer, IsAnswer, Writes, IsOutcome};
 ghost use Rattle.component_linker.specs.Stops.{AppendsFront, AppendsPart, WritesPart, refusal_text, fault_text, stop_text, stop_status, line_fault_text, out_path, IsFileStop, IsResolveStop, IsTextsStop, IsNameError, IsInputStop, IsHandStop, IsCompleteStop, IsPrepareStop, IsComponentStop, IsWriteStop, IsAnswerStop, IsStop, IsStopped};
 ghost use Rattle.component_session.specs.Refusals.{IsCause, IsBuildCause, IsAuditCause};
-ghost use Rattle.wit_package.specs.GroupView.{texts};
-ghost use Rattle.wit_resolution.specs.Pushes.{AreTextsPushed, AreTextsError};
+ghost use Rattle.component_session.specs.GroupView.{texts};
+ghost use Rattle.component_session.specs.Pushes.{AreTextsPushed, AreTextsError};
 
 use command_line::{Action, Encoding, Input, Line, LineFault};
 use component_builder::{EmitFault, emit};
-use component_session::{Fault, Session, Verdict, audit};
+use component_session::{Fault, ResolveError, Session, Verdict, audit};
 use std::alloc::{AllocError, AllocFailed, Global};
 use std::io::Write;
 use std::str;
 use wit_component::{StringEncoding, lines_of};
-use wit_resolution::ResolveError;
 use wit_types::{PackageId, PackageName};
 
 /// Why the program ends without its answer.

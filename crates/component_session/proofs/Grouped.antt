@@ -2,9 +2,9 @@
 use Rattle.std.proofs.Common.{◌≡◌, ◌∙◌, ℕ, zero, suc, Bool, List, [], ◌∷◌, ◌++◌, take, Result, Ok, Err, IfOk, IfErr, OnErr, refl, sym, subst, ap, inl, inr}
 use Rattle.std.specs.List.{AllZip, flat_map}
 use Rattle.wit_order.specs.Order.{Has}
-use Rattle.wit_package.specs.declared.group.UnresolvedPackageGroup.{UnresolvedPackageGroup}
-use Rattle.wit_graph_parts.specs.Own.{IsWellFormed}
-use Rattle.wit_well_formed.specs.Law.{ParsedPackagesAreWellFormed}
+use Rattle.wit_resolution.specs.Groups.{UnresolvedPackageGroup}
+use Rattle.wit_resolution.specs.Own.{IsWellFormed}
+use Rattle.wit_resolution.specs.Law.{ParsedPackagesAreWellFormed}
 use Rattle.wit_resolution.specs.Groups.{packages_of, texts_of}
 use Rattle.wit_types.specs.declared.«package».UnresolvedPackage.{UnresolvedPackage}
 use Rattle.wit_resolution.specs.Pushes.{Resolved, AreGroupsPushed, IsGroupsError, AreGroupsRefused, AreTextsPushed, AreTextsError, AreTextsRefused}

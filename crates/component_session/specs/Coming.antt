@@ -1,7 +1,7 @@
 -- Packages that are resolved come of texts alone (WIT, Packages).
 use Rattle.std.specs.Prelude.{◌≡◌, ℕ, Bool, List, map}
 use Rattle.wit_features.specs.Features.{FeatureSet}
-use Rattle.wit_package.specs.declared.group.UnresolvedPackageGroup.{UnresolvedPackageGroup}
+use Rattle.wit_resolution.specs.Groups.{UnresolvedPackageGroup}
 use Rattle.wit_resolution.specs.Pushes.{Resolved, nothing_resolved, AreTextsPushed, AreTextsRefused}
 use Rattle.wit_types.specs.declared.«package».PackageName.{PackageName}
 use Rattle.wit_words.specs.Sources.{SourceText}

@@ -5,3 +5,7 @@ pub mod Handed
 pub mod Faults
 pub mod Refusals
 pub mod Headline
+pub use Rattle.wit_resolution.specs.Errors
+pub use Rattle.wit_resolution.specs.GroupView
+pub use Rattle.wit_resolution.specs.Pushes
+pub use Rattle.wit_resolution.specs.Texts

@@ -14,12 +14,12 @@ ghost use Rattle.wasm_types.specs.Entries.{import_value};
 ghost use Rattle.link_lines.specs.Line.{link_value};
 ghost use Rattle.wit_component.specs.View as view;
 ghost use Rattle.wit_features.specs.Features.{with_name};
-ghost use Rattle.wit_package.specs.GroupView.{texts};
+ghost use Rattle.wit_resolution.specs.GroupView.{texts};
 ghost use Rattle.wit_resolution.specs.Errors.{of_selection};
 ghost use Rattle.wit_resolution.specs.Names.{known_of};
 ghost use Rattle.wit_resolution.specs.Pushes.{AreTextsPushed, AreTextsError, AreTextsRefused};
 ghost use Rattle.wit_order.specs.Order.{Has};
-ghost use Rattle.wit_package.specs.declared.group.UnresolvedPackageGroup.{UnresolvedPackageGroup};
+ghost use Rattle.wit_resolution.specs.Groups.{UnresolvedPackageGroup};
 ghost use Rattle.wit_resolution.specs.Texts.{files_of, IsGroupOf};
 ghost use Rattle.wit_types.specs.declared.world.World.{World as WitWorld};
 ghost use Rattle.wit_selection.specs.Selection.{IsSelected, IsSelectCause};
@@ -37,10 +37,10 @@ use std::collections::HashMap;
 use std::marker::Model;
 use wasm_format::{CoreModule, read_module};
 use wit_component::{Link, Linking, StringEncoding, encode, links_of};
-use wit_package::UnresolvedPackageGroup;
-use wit_resolution::{Resolve, ResolveError};
+use wit_resolution::{
+    Resolve, ResolveError, UnresolvedPackageGroup, law_parsed_packages_are_well_formed,
+};
 use wit_types::{PackageId, PackageName, WorldId};
-use wit_well_formed::law_parsed_packages_are_well_formed;
 
 /// A module that was handed in.
 #[derive(Clone, Copy)]

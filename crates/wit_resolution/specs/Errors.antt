@@ -13,7 +13,7 @@ use Rattle.wit_groups.specs.declared.fault.GroupFault.{GroupFault}
 use Rattle.wit_groups.specs.declared.fault.GroupFault.TheVariants as group
 use Rattle.wit_selection.specs.declared.selection.SelectFault.{SelectFault}
 use Rattle.wit_selection.specs.declared.selection.SelectFault.TheVariants as selection
-use Rattle.wit_resolution.specs.declared.error.ResolveErrorKind.{ResolveErrorKind}
+pub use Rattle.wit_resolution.specs.declared.error.ResolveErrorKind.{ResolveErrorKind}
 use Rattle.wit_resolution.specs.declared.error.ResolveErrorKind.TheVariants.{Syntax, Package, TooLarge, PackageNotFound, ItemNotFound, PackageCycle, DuplicatePackage, IncludeClash, ExportConflict, GateVersion, WorldNotFound, ForeignShape, OutOfMemory}
 
 -- where

@@ -4,3 +4,8 @@ pub mod Texts
 pub mod Pushes
 pub mod Names
 pub mod Sources
+pub use Rattle.wit_graph.specs.Graph
+pub use Rattle.wit_graph.specs.Push
+pub use Rattle.wit_graph_parts.specs.Own
+pub use Rattle.wit_package.specs.GroupView
+pub use Rattle.wit_well_formed.specs.Law

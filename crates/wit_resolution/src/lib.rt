@@ -18,4 +18,5 @@ pub use wit_core_tables::Meaning;
 pub use wit_features::Features;
 pub use wit_graph::Graph;
 pub use wit_package::UnresolvedPackageGroup;
+pub use wit_well_formed::law_parsed_packages_are_well_formed;
 pub use wit_words::{SourceMap, SourceNames, Span};

@@ -1,6 +1,6 @@
 use Rattle.std.proofs.Common.{◌≡◌, take}
 use Rattle.std.specs.List.{flat_map}
-use Rattle.wit_package.specs.GroupView.{texts}
+use Rattle.component_session.specs.GroupView.{texts}
 use Rattle.component_linker.specs.Program.{dep_text}
 use Rattle.component_linker.proofs.program.dep_texts.Given as goal
 

@@ -1,6 +1,6 @@
 use Rattle.std.proofs.Common.{◌≡◌, ◌<◌, length, get_or, ap, subst, string_bytes}
 use Rattle.wit_component.proofs.Results.{moved_up}
-use Rattle.wit_resolution.specs.Pushes.{Resolved}
+use Rattle.component_session.specs.Pushes.{Resolved}
 use Rattle.component_session.specs.Input.{Input}
 use Rattle.component_linker.specs.Stops.{IsInputStop, IsHandStop}
 use Rattle.component_linker.proofs.Files.{hand_at}

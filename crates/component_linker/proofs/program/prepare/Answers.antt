@@ -1,6 +1,6 @@
 use Rattle.std.proofs.Common.{◌≡◌, ◌∙◌, None, Some, sym, ap, subst}
 use Rattle.wit_component.proofs.Results.{moved_up}
-use Rattle.wit_resolution.specs.Pushes.{AreTextsPushed, AreTextsError}
+use Rattle.component_session.specs.Pushes.{AreTextsPushed, AreTextsError}
 use Rattle.wit_types.specs.contracts.«package».PackageNamePartialEq.TheImpl.{eq-value as package_eq}
 use Rattle.component_session.specs.Input.{Input}
 use Rattle.component_linker.specs.Program.{file_fault, packages_of}

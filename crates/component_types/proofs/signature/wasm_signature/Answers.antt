@@ -3,7 +3,7 @@ use Rattle.std.proofs.lemmas.Result.{IfOk-weaker}
 use Rattle.std.specs.Prelude.{IfOk}
 use Rattle.flat_types.specs.Flats.{FlatValue, flats, known_signature}
 use Rattle.flat_types.specs.View.{signature_value}
-use Rattle.wit_graph.specs.Graph.{Graph}
+use Rattle.wit_resolution.specs.Graph.{Graph}
 use Rattle.wit_reach.specs.Types.{AreTypesBackward}
 use Rattle.flat_trees.specs.Flat.{signature}
 use Rattle.component_types.proofs.signature.wasm_signature.Goals as goal

@@ -1,4 +1,4 @@
-use Rattle.wit_package.specs.GroupView.{texts}
+use Rattle.wit_resolution.specs.GroupView.{texts}
 use Rattle.wit_resolution.specs.Texts.{files_of}
 use Rattle.wit_types.specs.contracts.«package».PackageNamePartialEq.TheImpl.{eq-value as package_eq}
 use Rattle.component_session.proofs.Keeping.{kept_after}
