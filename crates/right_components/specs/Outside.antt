@@ -15,11 +15,12 @@ use Rattle.wit_types.specs.declared.world_key.WorldKey.{WorldKey}
 use Rattle.wit_names.specs.Names.{IsKeyText}
 use Rattle.wit_core_names.specs.Texts.{IsNameOf}
 use Rattle.type_meaning.specs.Words.{Site, imported, Label, Resource, defined_at, imported_as, its_own, itself, BinaryTree, seen}
-use Rattle.type_meaning.specs.Items.{Origin, from_import, Item, Items, a_type, a_function, an_instance, no_items, and_item, Entry}
+use Rattle.type_meaning.specs.Items.{Origin, from_import, Item, Items, a_type, a_function, an_instance, Entry}
 use Rattle.type_meaning.specs.Scope.{import_label}
 use Rattle.type_writing.specs.Unfolding.{WitTree, Unfolds}
 use Rattle.type_writing.specs.Writing.{written}
 use Rattle.type_sinks.specs.Root.{InterfaceNames, root_label}
+use Rattle.type_sinks.specs.Imports.{entries_of}
 use Rattle.core_links.specs.Names.{Names}
 use Rattle.link_table.specs.Types.{HasTree}
 
@@ -62,10 +63,6 @@ pub record IsType (types : List TypeDef) (names : InterfaceNames) (id : ℕ) (i 
   pub same : IsTree names binary tree
 
 -- ---- interfaces
-
-abbrev pub entries_of : Items → List Entry
-entries_of no_items = []
-entries_of (and_item name i more) = record { name = name; item = i } ∷ entries_of more
 
 -- what an instance has is a function or a type of the interface, under its name
 pub data IsOfInterface (types : List TypeDef) (names : InterfaceNames) (site : Site) (d : Interface) (e : Entry) : Type 0 where

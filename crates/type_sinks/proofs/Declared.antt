@@ -30,7 +30,7 @@ use Rattle.type_sinks.specs.Inside.{type_count, exported_name, exported_names, i
 use Rattle.type_writing.specs.Functions.{function_form, IsFunctionOf}
 use Rattle.type_sinks.specs.Views.{setting_over, root_scope, interface_names, RootIsGood, IsTaken, declarator_values, inside, inside_names, inside_setting, InsideIsGood, IsGiven, IsSameInside, IsDeclared, HasFunction}
 use Rattle.type_writing.proofs.Standing.{begins_here, begins_same, begins_on, value_inside, next_value, new_item, parts_written}
-use Rattle.type_sinks.proofs.Insides.{inside_count, items_named, named_last, function_named_keeps, inside_push, inside_step, inside_same, inside_over, type_stays, export_stays, outer_stays, export_good, own_name, name_there, written_apart, names_push}
+use Rattle.type_sinks.proofs.Insides.{inside_count, items_named, named_last, function_named_keeps, inside_push, inside_step, inside_same, inside_over, type_stays, export_stays, outer_stays, export_good, own_name, name_there, written_apart, names_push, StayDistinct, unnamed_distinct, named_distinct}
 
 -- what an instance type remembers, with parts of it by themselves
 abbrev pub GoodOver : Root → List (ℕ × ℕ) → List ℕ → List DeclaratorValue → ℕ → List TypeDef → Type 0
@@ -68,13 +68,13 @@ names_after old new d ids a = ap exported_names a.declarators ∙ names_push (de
 pub index_after : (old : InterfaceTypes) (i : ℕ) → i ≡ type_count (declarator_values old) → i ≡ length (inside old).types
 index_after old i h = h ∙ inside_count ((root_scope old.root).types ∷ []) (declarator_values old)
 
-pub stepped : (old new : InterfaceTypes) (d : DeclaratorValue) (types : List TypeDef) → IsDeclared old new d old.exports.items
+pub stepped : (old new : InterfaceTypes) (d : DeclaratorValue) (types : List TypeDef) → IsDeclared old new d old.exports.items → StayDistinct (declarator_values old) (declarator_values new)
     → ((more : List Item) → declared (((root_scope old.root).types ++ more) ∷ []) (inside old) d ≡ declared ((root_scope old.root).types ∷ []) (inside old) d)
     → InsideIsGood old types → InsideIsGood new types
-stepped old new d types a same g =
+stepped old new d types a distinct same g =
     let r = old.root in
     carried old new d old.exports.items types a
-    (inside_step (interface_names r) (index_of r.known) (index_of r.homes) (root_scope r) (index_of old.known) old.exports.items (declarator_values old) (declarator_values new) d old.interface types a.declarators same g)
+    (inside_step (interface_names r) (index_of r.known) (index_of r.homes) (root_scope r) (index_of old.known) old.exports.items (declarator_values old) (declarator_values new) d old.interface types a.declarators distinct same g)
 
 -- ---- what is given
 
@@ -134,7 +134,7 @@ foreign_stands old new n k id i owner types d count a home g at is name s =
     let x = name_there d.name n name in
     let word : w ≡ written (inside_label (interface_names new.root) new.interface) t =
     written_apart names own t (g.apart id home.0 d x.0 t home.1 at x.1 s.1) ∙ ap (λ l. written l t) (sym (label_after old new (declared_alias (outer 1 k)) old.exports.items a)) in (
-      stepped old new (declared_alias (outer 1 k)) types a (outer_stays outside (inside old) k w r.0) g,
+      stepped old new (declared_alias (outer 1 k)) types a (unnamed_distinct (declarator_values old) (declarator_values new) (declared_alias (outer 1 k)) a.declarators refl) (outer_stays outside (inside old) k w r.0) g,
       (
         t,
         s.1,
@@ -286,16 +286,16 @@ type_leaves old new d a = record {
   interface = a.interface;
   begins = (_, types_after old new (declared_type d) old.exports.items a);
   items = begins_same (inside old).items (inside new).items (items_after old new (declared_type d) old.exports.items a);
-  good = λ types. stepped old new (declared_type d) types a (type_stays (root_scope old.root).types (inside old) d);
+  good = λ types. stepped old new (declared_type d) types a (unnamed_distinct (declarator_values old) (declarator_values new) (declared_type d) a.declarators refl) (type_stays (root_scope old.root).types (inside old) d);
 }
 
-pub item_leaves : (old new : InterfaceTypes) (n : List ℕ) (i : ℕ) → IsDeclared old new (declared_export n (descriptions.Function i)) old.exports.items → Leaves old new
-item_leaves old new n i a = record {
+pub item_leaves : (old new : InterfaceTypes) (n : List ℕ) (i : ℕ) → is_new (inside_names old) n ≡ true → IsDeclared old new (declared_export n (descriptions.Function i)) old.exports.items → Leaves old new
+item_leaves old new n i fresh a = record {
   root = a.root;
   interface = a.interface;
   begins = begins_same (inside old).types (inside new).types (types_after old new (declared_export n (descriptions.Function i)) old.exports.items a ∙ append-nil (inside old).types);
   items = (_, items_after old new (declared_export n (descriptions.Function i)) old.exports.items a);
-  good = λ types. stepped old new (declared_export n (descriptions.Function i)) types a (export_stays (root_scope old.root).types (inside old) n (descriptions.Function i));
+  good = λ types. stepped old new (declared_export n (descriptions.Function i)) types a (named_distinct (declarator_values old) (declarator_values new) n (descriptions.Function i) a.declarators fresh) (export_stays (root_scope old.root).types (inside old) n (descriptions.Function i));
 }
 
 leaves_label : (old new : InterfaceTypes) → Leaves old new → inside_label (interface_names new.root) new.interface ≡ inside_label (interface_names old.root) old.interface

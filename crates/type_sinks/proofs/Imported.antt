@@ -1,6 +1,6 @@
 -- An instance that is imported has the types that its type exports, in the words of the root.
-use Rattle.std.proofs.Common.{◌≡◌, ◌⊎◌, ℕ, ◌<◌, List, [], ◌∷◌, ◌++◌, length, map, get_or, Option, Some, None, refl, sym, ap, subst, ◌∙◌, inl, inr, append_assoc}
-use Rattle.std.specs.Prelude.{nat_eq, bytes_eq, String, string_bytes}
+use Rattle.std.proofs.Common.{◌≡◌, ◌⊎◌, ℕ, ◌<◌, List, [], ◌∷◌, ◌++◌, length, map, get_or, Option, Some, None, true, refl, sym, ap, subst, ◌∙◌, inl, inr, append_assoc}
+use Rattle.std.specs.Prelude.{nat_eq, String, string_bytes}
 use Rattle.std.specs.declared.alloc.Global.{Global}
 use Rattle.std.proofs.lemmas.List.{append-nil, get_or-map}
 use Rattle.std.proofs.lemmas.List.Sums.{fold-append}
@@ -21,20 +21,23 @@ use Rattle.wit_types.specs.declared.interface.TypeDef.{TypeDef}
 use Rattle.wit_types.specs.declared.interface.TypeOwner.{TypeOwner}
 use Rattle.wit_types.specs.declared.interface.TypeOwner.TheVariants as belongs
 use Rattle.type_meaning.specs.Tree.{Parts, named, resource, of, none, gap, part, put, put_parts}
-use Rattle.type_meaning.specs.Words.{itself, imported, Label, Resource, BinaryTree, moved}
-use Rattle.type_meaning.specs.Items.{Item, Items, no_items, and_item, a_type, from_import, a_function, an_instance_type, item_at, item_named, items_of, is_value, put_item, put_items, new_resource, instance_import, instance_type, Inside as TheInside, inside_of}
+use Rattle.type_meaning.specs.Words.{itself, imported, Label, moved}
+use Rattle.type_meaning.specs.Items.{Item, a_type, from_import, a_function, an_instance_type, item_at, items_of, is_value, put_item, put_items, new_resource, instance_import, instance_type, Inside as TheInside, inside_of}
 use Rattle.type_meaning.specs.Scope.{Scope, no_scope, after, meaning}
 use Rattle.type_sinks.specs.declared.root.Root.{Root}
 use Rattle.type_sinks.specs.declared.inside.InterfaceTypes.{InterfaceTypes}
 use Rattle.type_writing.specs.Unfolding.{OwnName, WitTree, under_name, Unfolds, unfolds_primitive, unfolds_type, KindUnfolds, unfolds_form, unfolds_alias, PartsUnfold, no_parts, gap_unfolds, part_unfolds}
 use Rattle.type_writing.specs.Writing.{written, written_parts, Begins}
 use Rattle.type_sinks.specs.Root.{InterfaceNames, root_label, imported_name, imported_names, IsHome, RootGood}
+use Rattle.type_sinks.specs.Imports.{AreImportsOf}
 use Rattle.type_sinks.specs.Inside.{inside_label, IsExported, InsideGood}
 use Rattle.type_writing.specs.Functions.{function_form}
 use Rattle.type_sinks.specs.Kept.{index_of, AreKept}
 use Rattle.type_sinks.specs.Views.{entry_values, root_scope, interface_names, root_names, RootIsGood, IsAdded, IsImported, IsInstanceWith, IsTypeOf, declarator_values, inside, inside_names, HasFunction, InstanceHasFunction}
 use Rattle.type_writing.proofs.Standing.{new_item}
-use Rattle.type_sinks.proofs.Rooted.{instances_added, names_added, good_keeps}
+use Rattle.type_sinks.proofs.Rooted.{instances_added, names_added, good_keeps, fresh_import}
+use Rattle.type_sinks.proofs.OwnItems.{put_named, types_are_no_functions}
+use Rattle.type_sinks.proofs.RootImports.{import_both_keeps}
 use Rattle.type_sinks.proofs.Keeping.{each_keeps, kept_cases}
 use Rattle.type_sinks.proofs.Insides.{items_named, names_of_items, names_put}
 
@@ -96,14 +99,6 @@ module _ (names : InterfaceNames) (own : ℕ) where
         let e = moved_written t h.0 in
         let f = moved_written_parts ps h.1 in
         λ i. part (e i) (f i)
-
--- an item keeps its name
-put_named : (f : Label → Label) (g : Resource → BinaryTree) (n : List ℕ) (is : Items) → item_named n (put_items f g is) ≡ put_item f g (item_named n is)
-put_named f g n no_items = refl
-put_named f g n (and_item m i more) = elim (cases_Bool (bytes_eq n m)) [
-  | inl e ↦ rw e refl
-  | inr e ↦ rw e (put_named f g n more)
-]
 
 value_written : (l m : OwnName → Label) (t : WitTree) → is_value (written l t) ≡ is_value (written m t)
 value_written l m (named o t) = value_written l m t
@@ -221,12 +216,16 @@ import_good old new own known exports ds types a g =
     let s = inside_of (around ∷ []) ds in
     let k = length (root_scope old).instances in
     let instances = (root_scope new).instances in
-    let grown = good_keeps names (index_of old.known) (index_of old.homes) (root_scope old) (root_scope new) types (import_types old new own ds exports a) (import_instances old new own ds exports a) g.root in
+    let n = get_or names own [] in
+    let kept = import_both_keeps (root_scope old) n ds (fresh_import old n a.fresh) (types_are_no_functions (entry_values old)) g.distinct g.root.imports in
+    let imports : AreImportsOf (root_scope new) = subst AreImportsOf (sym (scope_both old new own ds exports a)) kept in
+    let grown = good_keeps names (index_of old.known) (index_of old.homes) (root_scope old) (root_scope new) types (import_types old new own ds exports a) (import_instances old new own ds exports a) imports g.root in
     let item = instance_at old new own ds exports a in
     let homes = each_keeps (IsExported names own types s) (λ id. IsHome names types instances id k) exports (λ id. exported_home names own types s id k instances item) g.exported in
     let good : RootGood names (index_of old.known) (index_of new.homes) (root_scope new) types = record {
       ids = grown.ids;
       instances = λ id j h. kept_cases (IsHome names types instances) (index_of old.homes) (index_of new.homes) exports k id j a.homes h homes (grown.instances id);
+      imports = imports;
     } in
     subst (λ m. RootGood m (index_of new.known) (index_of new.homes) (root_scope new) types) (sym a.names) (subst (λ l. RootGood names (index_of l) (index_of new.homes) (root_scope new) types) (sym a.known) good)
 
@@ -254,6 +253,7 @@ unplaced_there old mid ds a = ap length (instances_added old mid (entries.a_type
 
 -- what is imported, before the homes are put down
 pub record IsWritten (old last : Root) (interface : ℕ) (ds : List DeclaratorValue) (ids : List ℕ) (homes : List (ℕ × ℕ)) : Type 0 where
+  pub fresh : is_new (root_names old) (get_or (interface_names old) interface []) ≡ true
   pub entries : entry_values last ≡ entry_values old ++ entries.a_type (of_instance ds) ∷ an_import (record { name = get_or (interface_names old) interface []; description = descriptions.Instance (length (root_scope old).types) }) ∷ []
   pub names : interface_names last ≡ interface_names old
   pub known : last.known ≡ old.known
@@ -261,9 +261,9 @@ pub record IsWritten (old last : Root) (interface : ℕ) (ds : List DeclaratorVa
 
 pub written_by : (old mid last : Root) (own : ℕ) (ds : List DeclaratorValue) (ids : List ℕ) (n : List ℕ) (ty instance : ℕ) (homes : List (ℕ × ℕ))
     → ty ≡ length (root_scope old).types → IsAdded old mid (entries.a_type (of_instance ds))
-    → instance ≡ length (root_scope mid).instances → IsAdded mid last (an_import (record { name = n; description = descriptions.Instance ty }))
+    → instance ≡ length (root_scope mid).instances → is_new (root_names mid) n ≡ true → IsAdded mid last (an_import (record { name = n; description = descriptions.Instance ty }))
     → get_or (interface_names old) own [] ≡ n → AreKept (index_of last.homes) (index_of homes) ids instance → IsWritten old last own ds ids homes
-written_by old mid last own ds ids n ty instance homes index a place b name kept =
+written_by old mid last own ds ids n ty instance homes index a place fresh b name kept =
     let d = entries.a_type (of_instance ds) in
     let import_of : List ℕ → ℕ → EntryValue = λ m i. an_import (record { name = m; description = descriptions.Instance i }) in
     let e = import_of n ty in
@@ -272,6 +272,7 @@ written_by old mid last own ds ids n ty instance homes index a place b name kept
     let at : instance ≡ length (root_scope old).instances = place ∙ ap length (instances_added old mid d a ∙ append-nil (root_scope old).instances) in
     let before : last.homes ≡ old.homes = b.homes ∙ a.homes in
     record {
+      fresh = sym (unnamed_there old mid own ds n a name) ∙ fresh;
       entries = b.entries ∙ ap (λ l. l ++ e ∷ []) a.entries ∙ append_assoc (entry_values old) (d ∷ []) (e ∷ []) ∙ ap (λ x. entry_values old ++ d ∷ x ∷ []) same;
       names = b.names ∙ a.names;
       known = b.known ∙ a.known;

@@ -7,8 +7,7 @@ use Rattle.std.proofs.lemmas.List.{append-nil, map-append}
 use Rattle.std.proofs.lemmas.List.Sums.{fold-append}
 use Rattle.std.proofs.lemmas.Grind.{flat_map-append}
 use Rattle.std.proofs.lemmas.Bool.{cases_Bool, eqb-true}
-use Rattle.std.proofs.lemmas.Slice.Eq.{bytes_eq-Decides}
-use Rattle.distinct_names.specs.Names.{is_new}
+use Rattle.distinct_names.specs.Names.{is_new, all_new}
 use Rattle.component_value_types.specs.declared.values.ValueType.TheVariants.{Index}
 use Rattle.component_value_types.specs.Types.{DefinedTypeValue}
 use Rattle.component_definitions.specs.declared.externs.Description.{Description}
@@ -28,7 +27,9 @@ use Rattle.type_writing.specs.declared.fault.Fault.{Fault}
 use Rattle.type_writing.specs.Unfolding.{OwnName, WitTree, Unfolds, unfolds_type, under_name}
 use Rattle.type_writing.specs.Writing.{written, written_parts, own_resource, Stands, KindStands, Begins, remembering}
 use Rattle.type_sinks.specs.Root.{InterfaceNames, root_label, RootGood}
-use Rattle.type_sinks.specs.Inside.{declares, type_count, exported_name, exported_names, is_of, inside_label, IsApart, AreApart, TakenAreApart, StaysInside, IsExported, InsideGood, names_in}
+use Rattle.type_sinks.specs.Inside.{declares, type_count, exported_name, exported_names, is_of, inside_label, IsApart, AreApart, TakenAreApart, StaysInside, IsExported, InsideGood}
+use Rattle.type_sinks.specs.Imports.{names_in}
+use Rattle.type_sinks.proofs.Names.{bytes_same, all_new_push}
 use Rattle.type_sinks.proofs.Keeping.{each_keeps, each_push, one_here, others_stay}
 use Rattle.type_writing.proofs.Standing.{begins_here, get_begin, stands_keeps, value_inside}
 
@@ -59,6 +60,20 @@ names_push ds d = flat_map-append exported_name ds (d ∷ []) ∙ ap (λ l. flat
 
 pub named_push : (old new : List DeclaratorValue) (d : DeclaratorValue) (names more : List (List ℕ)) → new ≡ old ++ d ∷ [] → names ≡ exported_names old → more ≡ names ++ exported_name d → more ≡ exported_names new
 named_push old new d names more e at next = next ∙ ap (λ l. l ++ exported_name d) at ∙ sym (ap exported_names e ∙ names_push old d)
+
+nothing_distinct : (ds : List DeclaratorValue) → ds ≡ [] → all_new [] (exported_names ds) ≡ true
+unfolding exported_names
+nothing_distinct ds e = ap (λ l. all_new [] (flat_map exported_name l)) e
+
+-- names that are distinct stay so
+abbrev pub StayDistinct : List DeclaratorValue → List DeclaratorValue → Type 0
+StayDistinct olds news = all_new [] (exported_names olds) ≡ true → all_new [] (exported_names news) ≡ true
+
+pub unnamed_distinct : (olds news : List DeclaratorValue) (d : DeclaratorValue) → news ≡ olds ++ d ∷ [] → exported_name d ≡ [] → StayDistinct olds news
+unnamed_distinct olds news d e unnamed h = ap (all_new []) (ap exported_names e ∙ names_push olds d ∙ ap (λ l. exported_names olds ++ l) unnamed ∙ append-nil (exported_names olds)) ∙ h
+
+pub named_distinct : (olds news : List DeclaratorValue) (n : List ℕ) (d : Description) → news ≡ olds ++ declared_export n d ∷ [] → is_new (exported_names olds) n ≡ true → StayDistinct olds news
+named_distinct olds news n d e fresh h = ap (all_new []) (ap exported_names e ∙ names_push olds (declared_export n d)) ∙ all_new_push (exported_names olds) n h fresh
 
 pub nothing_counted : (ds : List Declarator) → ds ≡ [] → 0 ≡ type_count (map declarator_value ds)
 unfolding type_count
@@ -128,9 +143,6 @@ named_keeps n (e ∷ es) more t h = elim (cases_Bool (bytes_eq n e.name)) [
   | inr b ↦ rw b (named_keeps n es more t (rw b at h))
 ]
 
-bytes_same : (n : List ℕ) → bytes_eq n n ≡ true
-bytes_same n = (bytes_eq-Decides n n).1 refl
-
 -- a new name stands for what is last
 pub named_last : (n : List ℕ) (es : List Entry) (i : Item) → is_new (map (λ (e : Entry). e.name) es) n ≡ true → item_named n (items_of (es ++ record { name = n; item = i } ∷ [])) ≡ i
 named_last n [] i h = rw (bytes_same n) refl
@@ -164,6 +176,7 @@ inside_nothing names root_known homes scope known exports ds own types e f d roo
   ids = λ id i h. let k : None ≡ Some i = sym (e id) ∙ h in absurd cc;
   exported = subst (Each (IsExported names own types (inside_of (scope.types ∷ []) ds))) (sym f) tt;
   apart = apart;
+  distinct = nothing_distinct ds d;
 }
 
 -- ---- one more declarator over the same root
@@ -186,9 +199,9 @@ abbrev StaysAs : List Item → Inside → DeclaratorValue → Type 0
 StaysAs around s d = (more : List Item) → declared ((around ++ more) ∷ []) s d ≡ declared (around ∷ []) s d
 
 pub inside_step : (names : InterfaceNames) (root_known homes : ℕ → Option ℕ) (scope : Scope) (known : ℕ → Option ℕ) (exports : List ℕ) (olds news : List DeclaratorValue) (d : DeclaratorValue) (own : ℕ) (types : List TypeDef)
-    → news ≡ olds ++ d ∷ [] → StaysAs scope.types (inside_of (scope.types ∷ []) olds) d
+    → news ≡ olds ++ d ∷ [] → StayDistinct olds news → StaysAs scope.types (inside_of (scope.types ∷ []) olds) d
     → InsideGood names root_known homes scope known exports olds own types → InsideGood names root_known homes scope known exports news own types
-inside_step names root_known homes scope known exports olds news d own types e same g =
+inside_step names root_known homes scope known exports olds news d own types e distinct same g =
     let A = scope.types in
     let s = inside_of (A ∷ []) olds in
     let t = inside_of (A ∷ []) news in
@@ -201,6 +214,7 @@ inside_step names root_known homes scope known exports olds news d own types e s
       ids = λ id i h. stands_keeps (inside_label names own) (inside_label names own) types s.types t.types (Id id) (Index i) refl types_on (g.ids id i h);
       exported = each_keeps (IsExported names own types s) (IsExported names own types t) exports (λ id. exported_keeps names own types s t id items_on) g.exported;
       apart = g.apart;
+      distinct = distinct g.distinct;
     }
 
 -- ---- the root has more types
@@ -221,6 +235,7 @@ inside_over names more_names root_known homes new_known new_homes old new known 
       ids = λ id i h. subst (λ n. Stands (inside_label n own) types t.types (Id id) (Index i)) (sym e) (subst (λ (q : Inside). Stands (inside_label names own) types q.types (Id id) (Index i)) (sym same) (g.ids id i h));
       exported = subst (λ n. Each (IsExported n own types t) exports) (sym e) (subst (λ (q : Inside). Each (IsExported names own types q) exports) (sym same) g.exported);
       apart = subst (λ (h : ℕ → Option ℕ). TakenAreApart h own types) (sym f) g.apart;
+      distinct = g.distinct;
     }
 
 -- ---- what the declarators add
@@ -260,7 +275,7 @@ export_good names root_known homes scope known exports olds news own types id bo
     let A = scope.types in
     let s = inside_of (A ∷ []) olds in
     let t = inside_of (A ∷ []) news in
-    let on = inside_step names root_known homes scope known exports olds news (declared_export n (descriptions.Equal body)) own types e (export_stays A s n (descriptions.Equal body)) g in
+    let on = inside_step names root_known homes scope known exports olds news (declared_export n (descriptions.Equal body)) own types e (named_distinct olds news n (descriptions.Equal body) e new) (export_stays A s n (descriptions.Equal body)) g in
     let x = name_there d.name n name in
     let o : OwnName = record { owner = d.owner; name = string_bytes x.0 } in
     let w = written (inside_label names own) stands.0 in
@@ -282,7 +297,7 @@ export_good names root_known homes scope known exports olds news own types id bo
       has = ap (λ m. item_named m (items_of t.items)) x.2 ∙ has;
       value = r.1;
     } in
-    record { root = on.root; stays = on.stays; ids = on.ids; exported = each_push (IsExported names own types t) exports id on.exported one; apart = on.apart }
+    record { root = on.root; stays = on.stays; ids = on.ids; exported = each_push (IsExported names own types t) exports id on.exported one; apart = on.apart; distinct = on.distinct }
 
 -- ---- what is remembered
 
@@ -303,6 +318,7 @@ known_good names root_known homes scope known new exports ds own id index types 
   ];
   exported = g.exported;
   apart = g.apart;
+  distinct = g.distinct;
 }
 
 -- ---- a tree that doesn't speak of the interface is written alike

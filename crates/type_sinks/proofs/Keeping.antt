@@ -16,6 +16,10 @@ pub each_push : {X : Type 0} (P : X → Type 0) (xs : List X) (x : X) → Each P
 each_push P [] x h p = (p, tt)
 each_push P (y ∷ xs) x h p = (h.0, each_push P xs x h.1 p)
 
+pub each_append : {X : Type 0} (P : X → Type 0) (xs ys : List X) → Each P xs → Each P ys → Each P (xs ++ ys)
+each_append P [] ys h k = k
+each_append P (x ∷ xs) ys h k = (h.0, each_append P xs ys h.1 k)
+
 either : (a b : Bool) → (a || b) ≡ false → (a ≡ false) × (b ≡ false)
 either true b h = absurd cc
 either false b h = (refl, h)

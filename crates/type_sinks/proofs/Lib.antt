@@ -1,5 +1,8 @@
+pub mod Names
 pub mod Keeping
-pub mod Rooted
+pub mod OwnItems
 pub mod Insides
+pub mod RootImports
+pub mod Rooted
 pub mod Declared
 pub mod Imported

@@ -6,6 +6,7 @@ use Rattle.std.proofs.lemmas.Grind.{flat_map-append}
 use Rattle.std.proofs.lemmas.List.{append-nil, map-append}
 use Rattle.std.proofs.lemmas.List.Sums.{fold-append}
 use Rattle.component_value_types.specs.declared.values.ValueType.TheVariants.{Index}
+use Rattle.distinct_names.specs.Names.{is_new}
 use Rattle.component_definitions.specs.declared.sorts.ComponentSort.TheVariants as sorts
 use Rattle.component_definitions.specs.Aliases.{instance_export}
 use Rattle.component_entries.specs.declared.entry.Entry.{Entry}
@@ -23,10 +24,12 @@ use Rattle.type_meaning.specs.Scope.{Scope, import_label, imported_item, no_scop
 use Rattle.type_sinks.specs.declared.root.Root.{Root}
 use Rattle.type_sinks.specs.Kept.{index_of}
 use Rattle.type_sinks.specs.Root.{InterfaceNames, site_of, root_label, is_of_world, imported_name, imported_names, IsHome, RootGood}
+use Rattle.type_sinks.specs.Imports.{entry_names, AreImportsOf}
 use Rattle.type_writing.specs.Writing.{written, Stands, Begins}
 use Rattle.type_sinks.specs.Views.{entry_values, root_scope, interface_names, root_names, root_setting, RootIsGood, IsSameRoot, IsAdded, IsFunctionAt, InstanceHasFunction}
 use Rattle.type_writing.specs.Functions.{FunctionStands}
 use Rattle.type_writing.proofs.Standing.{get_begin, stands_keeps, next_value, new_item}
+use Rattle.type_sinks.proofs.RootImports.{KeepsImports, imports_named, nothing_imports}
 
 -- ---- counts
 
@@ -67,10 +70,11 @@ ok_always (Err e) Q f h = tt
 
 -- ---- where nothing is written
 
-pub nothing_good : (names : InterfaceNames) (known homes : ℕ → Option ℕ) (scope : Scope) (types : List TypeDef) → ((id : ℕ) → known id ≡ None) → ((id : ℕ) → homes id ≡ None) → RootGood names known homes scope types
-nothing_good names known homes scope types e f = record {
+pub nothing_good : (names : InterfaceNames) (known homes : ℕ → Option ℕ) (scope : Scope) (types : List TypeDef) → scope ≡ no_scope → ((id : ℕ) → known id ≡ None) → ((id : ℕ) → homes id ≡ None) → RootGood names known homes scope types
+nothing_good names known homes scope types none e f = record {
   ids = λ id i h. let k : None ≡ Some i = sym (e id) ∙ h in absurd cc;
   instances = λ id i h. let k : None ≡ Some i = sym (f id) ∙ h in absurd cc;
+  imports = subst AreImportsOf (sym none) nothing_imports;
 }
 
 pub nothing_imported : (es : List Entry) (names : List (List ℕ)) → es ≡ [] → names ≡ [] → names ≡ imported_names (map entry_value es)
@@ -113,15 +117,17 @@ home_keeps names types xs ys id k b h = record {
   value = h.value;
 }
 
-pub good_keeps : (names : InterfaceNames) (known homes : ℕ → Option ℕ) (old new : Scope) (types : List TypeDef) → Begins old.types new.types → Begins old.instances new.instances → RootGood names known homes old types → RootGood names known homes new types
-good_keeps names known homes old new types b c g = record {
+pub good_keeps : (names : InterfaceNames) (known homes : ℕ → Option ℕ) (old new : Scope) (types : List TypeDef) → Begins old.types new.types → Begins old.instances new.instances → AreImportsOf new → RootGood names known homes old types → RootGood names known homes new types
+good_keeps names known homes old new types b c imports g = record {
   ids = λ id i h. stands_keeps (root_label names) (root_label names) types old.types new.types (Id id) (Index i) refl b (g.ids id i h);
   instances = λ id k h. home_keeps names types old.instances new.instances id k c (g.instances id k h);
+  imports = imports;
 }
 
-pub root_keeps : (old new : Root) (e : EntryValue) (types : List TypeDef) → IsAdded old new e → RootIsGood old types → RootIsGood new types
-root_keeps old new e types a g =
-    let grown = good_keeps (interface_names old) (index_of old.known) (index_of old.homes) (root_scope old) (root_scope new) types ((adds (root_scope old) e).types, types_added old new e a) ((adds (root_scope old) e).instances, instances_added old new e a) g in
+pub root_keeps : (old new : Root) (e : EntryValue) (types : List TypeDef) → IsAdded old new e → KeepsImports (root_scope old) e → RootIsGood old types → RootIsGood new types
+root_keeps old new e types a keeps g =
+    let imports : AreImportsOf (root_scope new) = subst AreImportsOf (sym (scope_after (entry_values old) (entry_values new) e a.entries)) (keeps g.imports) in
+    let grown = good_keeps (interface_names old) (index_of old.known) (index_of old.homes) (root_scope old) (root_scope new) types ((adds (root_scope old) e).types, types_added old new e a) ((adds (root_scope old) e).instances, instances_added old new e a) imports g in
     subst (λ n. RootGood n (index_of new.known) (index_of new.homes) (root_scope new) types) (sym a.names)
     (subst (λ k. RootGood (interface_names old) (index_of k) (index_of new.homes) (root_scope new) types) (sym a.known) (subst (λ k. RootGood (interface_names old) (index_of old.known) (index_of k) (root_scope new) types) (sym a.homes) grown))
 
@@ -152,6 +158,10 @@ root_stays old new a = (setting_from old new a.names a.homes (ap (λ es. (meanin
 
 pub names_added : (old new : Root) (e : EntryValue) → IsAdded old new e → root_names new ≡ root_names old ++ imported_name e
 names_added old new e a = ap imported_names a.entries ∙ imported_push (entry_values old) e
+
+-- a name that is new is that of no import
+pub fresh_import : (r : Root) (n : List ℕ) → is_new (root_names r) n ≡ true → is_new (entry_names (root_scope r).imports) n ≡ true
+fresh_import r n h = ap (λ l. is_new l n) (sym (imports_named (entry_values r))) ∙ h
 
 pub functions_same : (old new : Root) (e : EntryValue) → IsAdded old new e → (adds (root_scope old) e).functions ≡ [] → (root_scope new).functions ≡ (root_scope old).functions
 functions_same old new e a h = functions_added old new e a ∙ ap (λ l. (root_scope old).functions ++ l) h ∙ append-nil (root_scope old).functions

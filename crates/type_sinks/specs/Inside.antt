@@ -2,6 +2,7 @@
 use Rattle.std.specs.Prelude.{◌≡◌, ℕ, ◌+◌, List, [], ◌∷◌, ◌++◌, fold, slice_get, Option, Some, Bool, false, true, nat_eq, if◌then◌else◌, String, string_bytes}
 use Rattle.std.specs.List.{AllByRecursion as Each, flat_map}
 use Rattle.std.specs.declared.alloc.Global.{Global}
+use Rattle.distinct_names.specs.Names.{all_new}
 use Rattle.component_definitions.specs.declared.externs.Description.TheVariants as descriptions
 use Rattle.component_definitions.specs.Aliases.{instance_export, core_instance_export, outer}
 use Rattle.component_instances.specs.Declarators.{DeclaratorValue, declared_type, declared_alias, declared_export}
@@ -12,7 +13,7 @@ use Rattle.wit_types.specs.declared.interface.TypeOwner.{TypeOwner}
 use Rattle.wit_types.specs.declared.interface.TypeOwner.TheVariants as belongs
 use Rattle.type_meaning.specs.Tree.{Parts, named, resource, of, none, gap, part}
 use Rattle.type_meaning.specs.Words.{itself, Label}
-use Rattle.type_meaning.specs.Items.{Item, Items, no_items, and_item, Inside, inside_of, items_of, item_named, a_type, is_value}
+use Rattle.type_meaning.specs.Items.{Item, Inside, inside_of, items_of, item_named, a_type, is_value}
 use Rattle.type_meaning.specs.Scope.{Scope}
 use Rattle.type_writing.specs.Unfolding.{OwnName, WitTree, Unfolds}
 use Rattle.type_writing.specs.Writing.{written, Stands}
@@ -40,11 +41,6 @@ exported_name (declared_export n d) = n ∷ []
 
 unfoldable pub exported_names : List DeclaratorValue → List (List ℕ)
 exported_names ds = flat_map exported_name ds
-
--- the names of items, in order
-abbrev pub names_in : Items → List (List ℕ)
-names_in no_items = []
-names_in (and_item n i more) = n ∷ names_in more
 
 -- whether the owner is the interface
 abbrev pub is_of : ℕ → TypeOwner → Bool
@@ -95,3 +91,4 @@ pub record InsideGood (names : InterfaceNames) (root_known homes : ℕ → Optio
   pub ids : (id i : ℕ) → known id ≡ Some i → Stands (inside_label names own) types (inside_of (scope.types ∷ []) ds).types (Id id) (Index i)
   pub exported : Each (IsExported names own types (inside_of (scope.types ∷ []) ds)) exports
   pub apart : TakenAreApart homes own types
+  pub distinct : all_new [] (exported_names ds) ≡ true

@@ -1,3 +1,4 @@
+pub mod Imports
 pub mod Root
 pub mod Inside
 pub mod Kept

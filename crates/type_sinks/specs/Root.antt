@@ -10,9 +10,10 @@ use Rattle.wit_types.specs.declared.interface.TypeOwner.{TypeOwner}
 use Rattle.wit_types.specs.declared.interface.TypeOwner.TheVariants as belongs
 use Rattle.type_meaning.specs.Words.{Site, root_import, imported, Label}
 use Rattle.type_meaning.specs.Items.{Item, Items, a_type, an_instance, item_named, item_at, is_value}
-use Rattle.type_meaning.specs.Scope.{Scope}
+use Rattle.type_meaning.specs.Scope.{Scope, meaning}
 use Rattle.type_writing.specs.Unfolding.{OwnName, WitTree, Unfolds}
 use Rattle.type_writing.specs.Writing.{written, Stands}
+use Rattle.type_sinks.specs.Imports.{entry_names, AreImportsOf}
 
 -- the name under which each interface is imported, by its id
 abbrev pub InterfaceNames : Type 0
@@ -43,6 +44,10 @@ imported_name (an_export e) = []
 unfoldable pub imported_names : List EntryValue → List (List ℕ)
 imported_names es = flat_map imported_name es
 
+-- these are the names of what is imported
+abbrev pub ImportsAreNamed : Type 0
+ImportsAreNamed = (es : List EntryValue) → imported_names es ≡ entry_names (meaning es).imports
+
 -- the instance with that index has the type with that id, which is of an interface, under the type's name
 pub record IsHome (names : InterfaceNames) (types : List TypeDef) (instances : List Item) (id instance : ℕ) : Type 0 where
   pub def : TypeDef
@@ -59,7 +64,9 @@ pub record IsHome (names : InterfaceNames) (types : List TypeDef) (instances : L
   pub has : item_named (string_bytes name) items ≡ a_type (written (root_label names) tree)
   pub value : is_value (written (root_label names) tree) ≡ true
 
--- what is remembered is so: the index of each type that is written, and the instance of each that is imported with one
+-- what is remembered is so: the index of each type that is written, and the instance of each that is imported with one; and the indices tell
+-- what is imported
 pub record RootGood (names : InterfaceNames) (known homes : ℕ → Option ℕ) (scope : Scope) (types : List TypeDef) : Type 0 where
   pub ids : (id i : ℕ) → known id ≡ Some i → Stands (root_label names) types scope.types (Id id) (Index i)
   pub instances : (id k : ℕ) → homes id ≡ Some k → IsHome names types scope.instances id k
+  pub imports : AreImportsOf scope

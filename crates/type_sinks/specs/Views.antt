@@ -22,7 +22,8 @@ use Rattle.type_writing.specs.declared.fault.Fault.{Fault}
 use Rattle.type_writing.specs.Writing.{written, Stands, Begins, Setting, IsRemembered}
 use Rattle.type_writing.specs.Refusals.{IsCause}
 use Rattle.type_sinks.specs.Root.{InterfaceNames, root_label, is_of_world, imported_names, RootGood}
-use Rattle.type_sinks.specs.Inside.{type_count, exported_names, is_of, inside_label, names_in, InsideGood}
+use Rattle.type_sinks.specs.Imports.{names_in}
+use Rattle.type_sinks.specs.Inside.{type_count, exported_names, is_of, inside_label, InsideGood}
 use Rattle.type_writing.specs.Functions.{FunctionUnfolds}
 use Rattle.type_sinks.specs.Kept.{index_of, AreKept}
 
@@ -90,8 +91,9 @@ pub record IsTaken (old new : Root) (name : List ℕ) (id i : ℕ) : Type 0 wher
   pub good : (types : List TypeDef) → RootIsGood old types → RootIsGood new types
   pub stands : (types : List TypeDef) (d : TypeDef) → RootIsGood old types → slice_get types id ≡ Some d → option_map string_bytes d.name ≡ Some name → Stands (root_label (interface_names new)) types (root_scope new).types (Id id) (Index i)
 
--- an instance of these declarators is imported for an interface, and it is the home of each of these types
+-- an instance of these declarators is imported for an interface, under a name that is new, and it is the home of each of these types
 pub record IsImported (old new : Root) (interface : ℕ) (ds : List DeclaratorValue) (ids : List ℕ) : Type 0 where
+  pub fresh : is_new (root_names old) (get_or (interface_names old) interface []) ≡ true
   pub entries : entry_values new ≡ entry_values old ++ a_type (of_instance ds) ∷ an_import (record { name = get_or (interface_names old) interface []; description = descriptions.Instance (length (root_scope old).types) }) ∷ []
   pub names : interface_names new ≡ interface_names old
   pub known : new.known ≡ old.known

@@ -3,7 +3,9 @@
 
 mod inside;
 mod kept;
+mod law;
 mod root;
 
 pub use inside::InterfaceTypes;
+pub use law::{law_imports_are_named, law_items_are_found};
 pub use root::Root;

@@ -140,7 +140,7 @@ impl<'s> Root<'s> {
 
     /// Imports a type that equals the one at an index, and answers its index.
     fn import_type(&mut self, name: &'s str, body: u32) -> Result<u32, Fault>
-        ensures ok { IfOk result (λ i. (i ≡ length (root_scope self.old).types) × IsAdded self.old self.new (an_import (record { name = name.entry.now; description = descriptions.Equal body }))) }
+        ensures ok { IfOk result (λ i. (i ≡ length (root_scope self.old).types) × (is_new (root_names self.old) name.entry.now ≡ true) × IsAdded self.old self.new (an_import (record { name = name.entry.now; description = descriptions.Equal body }))) }
         ensures err { OnErr result (IsSameRoot self.old self.new) }
         ensures cause { IfErr result (IsCause (is_new (root_names self.old) name.entry.now ≡ false) (IsFull self.new)) }
     {
@@ -170,7 +170,7 @@ impl<'s> Root<'s> {
 
     /// Imports an instance of the type at an index, and answers the index of the instance.
     fn add_instance(&mut self, name: &'s str, ty: u32) -> Result<u32, Fault>
-        ensures ok { IfOk result (λ i. (i ≡ length (root_scope self.old).instances) × IsAdded self.old self.new (an_import (record { name = name.entry.now; description = descriptions.Instance ty }))) }
+        ensures ok { IfOk result (λ i. (i ≡ length (root_scope self.old).instances) × (is_new (root_names self.old) name.entry.now ≡ true) × IsAdded self.old self.new (an_import (record { name = name.entry.now; description = descriptions.Instance ty }))) }
         ensures cause { IfErr result (IsCause (is_new (root_names self.old) name.entry.now ≡ false) (2 ^ 32 ≤ length (root_scope self.old).instances + 1)) }
     {
         let index = self.instances;
@@ -211,7 +211,7 @@ impl<'s> Root<'s> {
 
     /// Imports a function of the type at an index, and answers its index among the functions.
     fn add_function(&mut self, name: &'s str, ty: u32) -> Result<u32, Fault>
-        ensures ok { IfOk result (λ i. (i ≡ length (root_scope self.old).functions) × IsAdded self.old self.new (an_import (record { name = name.entry.now; description = descriptions.Function ty }))) }
+        ensures ok { IfOk result (λ i. (i ≡ length (root_scope self.old).functions) × (is_new (root_names self.old) name.entry.now ≡ true) × IsAdded self.old self.new (an_import (record { name = name.entry.now; description = descriptions.Function ty }))) }
         ensures err { OnErr result (IsSameRoot self.old self.new) }
         ensures cause { IfErr result (IsCause (is_new (root_names self.old) name.entry.now ≡ false) (IsFullOfFunctions self.new)) }
     {

@@ -52,7 +52,7 @@ returns c =
     let r = c.export_item.result in
     let item = c.export_item.ensures in
     let same = names_after old mid (declared_type d) old.exports.items ty.1 ∙ append-nil (inside_names old) in
-    let a = leaves_on old mid new (type_leaves old mid d ty.1) (in_either r _ (λ u h. item_leaves mid new n i h.1) (same_leaves mid new) item.ok item.err) in
+    let a = leaves_on old mid new (type_leaves old mid d ty.1) (in_either r _ (λ u h. item_leaves mid new n i h.0 h.1) (same_leaves mid new) item.ok item.err) in
     record {
       setting = setting_same old new a.root a.interface;
       root = a.root;

@@ -18,8 +18,8 @@ returns-clause-ok c =
     let name = name_at old.names.now own c.index.result c.in_ok-name.name.now c.index.ensures found.3.0 found.1 ∙ sym c.as_str.ensures.value in
     let a = c.in_ok-ty.ensures.ok in
     let b = c.in_ok-instance.ensures.ok in
-    let w = written_by old mid last own ds ids n c.in_ok-ty.ty c.in_ok-instance.instance c.keep_all.new.self a.0 a.1 b.0 b.1 name c.in_ok-keep_all.ensures in
-    record { entries = w.entries; names = w.names; known = w.known; homes = w.kept }
+    let w = written_by old mid last own ds ids n c.in_ok-ty.ty c.in_ok-instance.instance c.keep_all.new.self a.0 a.1 b.0 b.1 b.2 name c.in_ok-keep_all.ensures in
+    record { fresh = w.fresh; entries = w.entries; names = w.names; known = w.known; homes = w.kept }
 
 pub returns-in_err-instance-clause-cause : goal.returns-in_err-instance-clause-cause
 returns-in_err-instance-clause-cause c =

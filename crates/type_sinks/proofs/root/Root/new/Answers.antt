@@ -14,4 +14,4 @@ invariant_of-result c =
     }
 
 pub returns-clause-good : goal.returns-clause-good
-returns-clause-good c = λ defs. nothing_good _ _ _ _ defs c.new-3.ensures c.new-4.ensures
+returns-clause-good c = λ defs. nothing_good _ _ _ _ defs (nothing_written c.new.result.items c.new.ensures.items) c.new-3.ensures c.new-4.ensures

@@ -10,6 +10,7 @@ use Rattle.type_meaning.specs.Scope.{adds}
 use Rattle.type_sinks.specs.Root.{root_label}
 use Rattle.type_writing.specs.Writing.{Stands}
 use Rattle.type_sinks.specs.Views.{root_scope, root_names, interface_names}
+use Rattle.type_sinks.proofs.RootImports.{take_keeps}
 use Rattle.type_sinks.proofs.Rooted.{types_added, names_added, functions_same, instances_same, root_keeps, alias_stands}
 use Rattle.type_sinks.proofs.root.Root.take.Goals as goal
 
@@ -29,7 +30,7 @@ returns-clause-ok c =
       instances = instances_same old new e h.1 refl;
       home = (k, home);
       begins = ((adds (root_scope old) e).types, types_added old new e h.1);
-      good = λ types. root_keeps old new e types h.1;
+      good = λ types. root_keeps old new e types h.1 (take_keeps (root_scope old) k n);
       stands = λ types d g at w.
           subst (λ m. Stands (root_label m) types (root_scope new).types (Id c.args.id) (Index i)) (sym h.1.names)
           (alias_stands (interface_names old) types (root_scope old) (root_scope new) k c.args.id i d n (g.instances c.args.id k home) at w h.0 (types_added old new e h.1));

@@ -3,6 +3,8 @@ use Rattle.component_definitions.specs.declared.sorts.ComponentSort.TheVariants 
 use Rattle.component_definitions.specs.Aliases.{instance_export}
 use Rattle.component_entries.specs.Entries.{an_alias}
 use Rattle.type_writing.proofs.Standing.{in_either}
+use Rattle.type_sinks.specs.Views.{root_scope}
+use Rattle.type_sinks.proofs.RootImports.{take_function_keeps}
 use Rattle.type_sinks.proofs.Rooted.{root_keeps, same_good, alias_function}
 use Rattle.type_sinks.proofs.root.Root.take_function.Goals as goal
 
@@ -17,7 +19,7 @@ returns c =
     record {
       ok = a.ok;
       err = a.err;
-      good = λ types. in_either r _ (λ i h. root_keeps old new (an_alias (instance_export sorts.Function k n)) types h.1) (same_good old new types) a.ok a.err;
+      good = λ types. in_either r _ (λ i h. root_keeps old new (an_alias (instance_export sorts.Function k n)) types h.1 (take_function_keeps (root_scope old) k n)) (same_good old new types) a.ok a.err;
       is = IfOk-weaker r _ _ (λ i h site types params answer. alias_function old new k n i site types params answer h.0 h.1) a.ok;
       cause = a.cause;
     }

@@ -6,7 +6,8 @@ use Rattle.component_instances.specs.TypeDefinitions.{defined}
 use Rattle.component_entries.specs.Entries.{a_type}
 use Rattle.type_writing.proofs.Standing.{begins_here, in_either}
 use Rattle.type_sinks.specs.Kept.{index_of}
-use Rattle.type_sinks.specs.Views.{root_names}
+use Rattle.type_sinks.specs.Views.{root_names, root_scope}
+use Rattle.type_sinks.proofs.RootImports.{define_keeps}
 use Rattle.type_sinks.proofs.Rooted.{types_added, names_added, setting_added, root_keeps, root_stays}
 use Rattle.type_sinks.proofs.root.RootValtypeEncoder.define.Goals as goal
 
@@ -24,7 +25,7 @@ returns c =
       table = in_either r _ (λ i h. ap index_of h.1.known) (λ s. ap index_of s.known) a.ok a.err;
       names = in_either r _ (λ i h. names_added old new e h.1 ∙ append-nil (root_names old)) (λ s. (stays s).2) a.ok a.err;
       keeps = λ k h. tt;
-      good = in_either r _ (λ i h types g. root_keeps old new e types h.1 g) (λ s. (stays s).4) a.ok a.err;
+      good = in_either r _ (λ i h types g. root_keeps old new e types h.1 (define_keeps (root_scope old) (defined_type_value c.args.ty)) g) (λ s. (stays s).4) a.ok a.err;
       ok = IfOk-weaker r _ _ (λ i h. (h.0, types_added old new e h.1)) a.ok;
       err = on_err_weaker r (λ s. (stays s).1) a.err;
       cause = a.cause;
