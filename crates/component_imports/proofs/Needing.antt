@@ -105,6 +105,7 @@ pub record AreImportedTo (old new : Root) (types : List TypeDef) (instances : Li
   pub stays : Stays old new types
   pub names : root_names new ≡ root_names old ++ names_from (interface_name old) 0 (take n needed) (take n linked)
   pub has : (i : ℕ) (ids : List ℕ) (fs : List Function) → i < n → slice_get needed i ≡ Some ids → slice_get linked i ≡ Some fs → is_needed ids fs ≡ true → HasInterfaceAt new types instances i ids fs
+  pub none : (i : ℕ) (ids : List ℕ) (fs : List Function) → i < n → slice_get needed i ≡ Some ids → slice_get linked i ≡ Some fs → is_needed ids fs ≡ false → slice_get instances i ≡ Some None
   pub taken : (id k : ℕ) → index_of new.homes id ≡ Some k → (j : ℕ) × IsTypeOf types id j × (j < n)
   pub homes : (i : ℕ) (ids : List ℕ) (fs : List Function) (id : ℕ) (d : TypeDef) (x : String Global) → i < n → slice_get needed i ≡ Some ids → slice_get linked i ≡ Some fs → Has ids id → slice_get types id ≡ Some d → d.name ≡ Some x
       → IsRemembered (index_of new.homes) id
@@ -224,6 +225,17 @@ imported_next start old new types instances others needed linked n own ids fs sa
             (get_end instances (next_instance old ids fs) ∙ ap (λ (b : Bool). Some (if b then Some (length (root_scope old).instances) else None)) is) in
             subst (λ m. HasInterfaceAt new types more m js gs) (same ∙ sym e) (subst (λ l. HasInterfaceAt new types more own l gs) (sym ids_same) (subst (λ l. HasInterfaceAt new types more own ids l) (sym fs_same) (made, last)))
       ];
+      none = λ i js gs lt at_needed at_linked unneeded. elim (at_most i n lt) as (λ _. slice_get more i ≡ Some None) [
+        | inl low ↦ get_front instances (next_instance old ids fs) i None (before.none i js gs low at_needed at_linked unneeded)
+        | inr e ↦
+            let both : Some js ≡ Some ids = sym at_needed ∙ ap (slice_get needed) e ∙ a in
+            let both_linked : Some gs ≡ Some fs = sym at_linked ∙ ap (slice_get linked) e ∙ b in
+            let ids_same : js ≡ ids = cc in
+            let fs_same : gs ≡ fs = cc in
+            let not_needed : is_needed ids fs ≡ false = sym (λ k. is_needed (ids_same k) (fs_same k)) ∙ unneeded in
+            subst (λ m. slice_get more m ≡ Some None) (before.long ∙ sym e)
+            (get_end instances (next_instance old ids fs) ∙ ap (λ (b : Bool). Some (if b then Some (length (root_scope old).instances) else None)) not_needed)
+      ];
       taken = λ id k h. elim (one.homes_only id k h) as (λ _. (j : ℕ) × IsTypeOf types id j × (j < n + 1)) [
         | inl was ↦ (let t = before.taken id k was in (t.0, t.1, (let lt = t.2 in omega (arith, lt))))
         | inr own_type ↦ (own, own_type, omega (arith, same))
@@ -245,7 +257,9 @@ pub all_imported : (start new : Root) (types : List TypeDef) (instances : List (
 all_imported start new types instances needed linked n count_linked count h = record {
   stays = h.stays;
   names = h.names ∙ (λ i. root_names start ++ names_from (interface_name start) 0 (take_all n needed (omega (arith, count)) i) (take_all n linked (omega (arith, count_linked)) i));
+  long = h.long ∙ sym count_linked;
   has = λ i ids fs a b there. h.has i ids fs (let k = got_below linked i fs b in omega (arith, k, count_linked)) a b there;
+  none = λ i ids fs a b unneeded. h.none i ids fs (let k = got_below linked i fs b in omega (arith, k, count_linked)) a b unneeded;
 }
 
 -- what may be taken is of earlier interfaces

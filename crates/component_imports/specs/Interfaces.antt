@@ -105,11 +105,14 @@ names_from name i (ids ∷ needed) (fs ∷ linked) = name_if (is_needed ids fs) 
 abbrev pub HasInterfaceAt : Root → List TypeDef → List (Option ℕ) → ℕ → List ℕ → List Function → Type 0
 HasInterfaceAt r types instances interface needed functions = (h : HasInterface r types interface needed functions) × (slice_get instances interface ≡ Some (Some h.instance))
 
--- exactly the interfaces that are needed are imported, in rising order, each with exactly what is needed of it, by these instances
+-- exactly the interfaces that are needed are imported, in rising order, each with exactly what is needed of it, by these instances, which are
+-- by the ids of all interfaces
 pub record AreImported (old new : Root) (types : List TypeDef) (instances : List (Option ℕ)) (needed : List (List ℕ)) (linked : List (List Function)) : Type 0 where
   pub stays : Stays old new types
   pub names : root_names new ≡ root_names old ++ names_from (interface_name old) 0 needed linked
+  pub long : length instances ≡ length linked
   pub has : (i : ℕ) (ids : List ℕ) (fs : List Function) → slice_get needed i ≡ Some ids → slice_get linked i ≡ Some fs → is_needed ids fs ≡ true → HasInterfaceAt new types instances i ids fs
+  pub none : (i : ℕ) (ids : List ℕ) (fs : List Function) → slice_get needed i ≡ Some ids → slice_get linked i ≡ Some fs → is_needed ids fs ≡ false → slice_get instances i ≡ Some None
 
 pub record AreNeededImported (old new : Root) (types : List TypeDef) (instances : List (Option ℕ)) (others : List ℕ) (linked : List (List Function)) : Type 0 where
   pub needed : List (List ℕ)

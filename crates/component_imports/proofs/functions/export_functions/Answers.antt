@@ -1,5 +1,7 @@
-use Rattle.std.proofs.Common.{◌∙◌, subst, ◌⊎◌, ◌≡◌, false}
+use Rattle.std.proofs.Common.{◌∙◌, ap, subst, ◌⊎◌, ◌≡◌, false}
 use Rattle.std.specs.Prelude.{List, ℕ}
+use Rattle.std.specs.List.{AllByRecursion as Each}
+use Rattle.std.proofs.lemmas.List.{take_all}
 use Rattle.std.proofs.lemmas.Result.{err_from_is_err_and}
 use Rattle.distinct_names.specs.Names.{is_new}
 use Rattle.wit_types.specs.declared.function.Param.{Param}
@@ -9,7 +11,7 @@ use Rattle.type_writing.specs.Writing.{IsRemembered}
 use Rattle.type_writing.proofs.Refusals.{cause_weaker}
 use Rattle.type_sinks.specs.Kept.{index_of}
 use Rattle.type_sinks.specs.Views.{inside_names, HasFunction}
-use Rattle.component_imports.specs.Functions.{HasFunctionOf}
+use Rattle.component_imports.specs.Functions.{functions_of, HasFunctionOf}
 use Rattle.component_imports.proofs.Exported.{names_next, has_next, functions_cause}
 use Rattle.component_imports.proofs.functions.export_functions.Goals as goal
 
@@ -37,6 +39,14 @@ loop-function-preserved c =
       has = λ types g. has_next (HasFunctionOf old types) (HasFunctionOf new types) fs i f lt at (λ h. a.keeps types _ _ _) (before.has types g)
           (subst (λ n. HasFunction new types n f.now.params.items f.now.result) name (subst (λ (ps : List Param). HasFunction new types c.as_str.result.now ps f.now.result) params (a.has types (before.good types g))));
     }
+
+pub returns-in_err-export_function-clause-good : goal.returns-in_err-export_function-clause-good
+returns-in_err-export_function-clause-good c = λ types g. c.in_err-export_function.ensures.good types (c.loop-function.invariant.good types g)
+
+pub returns-clause-has : goal.returns-clause-has
+returns-clause-has c = λ types g.
+    let fs = c.args.functions.now in
+    subst (Each (HasFunctionOf c.loop-function.to types)) (ap functions_of (take_all c.loop-function.function-index fs c.loop-function-test.false)) (c.loop-function.invariant.has types g)
 
 pub returns-in_err-export_function-clause-cause : goal.returns-in_err-export_function-clause-cause
 returns-in_err-export_function-clause-cause c =

@@ -10,6 +10,9 @@ use Rattle.component_imports.specs.Functions.{functions_of, function_names}
 use Rattle.component_imports.proofs.Imported.{nothing_named, setting_is, items_unready, IsFilled, put_of, all_imported, put_unready}
 use Rattle.component_imports.proofs.interface.import_interface.Goals as goal
 
+pub write_items-requires-clause-good : goal.write_items-requires-clause-good
+write_items-requires-clause-good c = c.new-instance.ensures.good c.args.types.now c.requires.good c.requires.apart
+
 pub returns-in_err-write_items-clause-cause : goal.returns-in_err-write_items-clause-cause
 returns-in_err-write_items-clause-cause c =
     let t = c.new-instance.result in

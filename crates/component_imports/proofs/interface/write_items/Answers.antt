@@ -1,13 +1,14 @@
 use Rattle.std.proofs.Common.{ap, ◌∙◌, inr}
-use Rattle.std.specs.Prelude.{nat_eq}
-use Rattle.std.specs.List.{list_any}
-use Rattle.std.proofs.lemmas.Result.{IfErr-weaker}
+use Rattle.std.specs.Prelude.{nat_eq, List}
+use Rattle.std.specs.List.{list_any, AllByRecursion as Each}
+use Rattle.std.proofs.lemmas.Result.{IfErr-weaker, on_ok_weaker}
 use Rattle.type_writing.specs.Writing.{IsRemembered}
 use Rattle.type_writing.proofs.Standing.{on_ok_always}
 use Rattle.type_writing.proofs.Refusals.{cause_weaker}
 use Rattle.type_sinks.specs.Kept.{index_of}
-use Rattle.type_sinks.specs.Views.{inside_setting, IsGiven}
-use Rattle.component_imports.specs.Functions.{functions_of}
+use Rattle.type_sinks.specs.Views.{inside_setting, InsideIsGood, IsGiven}
+use Rattle.wit_types.specs.declared.interface.TypeDef.{TypeDef}
+use Rattle.component_imports.specs.Functions.{functions_of, HasFunctionOf}
 use Rattle.component_imports.proofs.Exported.{items_cause}
 use Rattle.component_imports.proofs.Imported.{named_more}
 use Rattle.component_imports.proofs.interface.write_items.Goals as goal
@@ -18,6 +19,16 @@ returns-clause-named c =
     let mid = c.write_types.new.sink in
     let new = c.export_functions.new.to in
     on_ok_always c.export_functions.result (named_more (inside_setting old) c.args.types.now (IsGiven mid) (IsGiven new) c.args.ids.now (λ k h. ap (list_any (nat_eq k)) c.export_functions.ensures.exports ∙ h) c.in_ok-write_types.ensures.named)
+
+pub returns-clause-good : goal.returns-clause-good
+returns-clause-good c = c.export_functions.ensures.good c.args.types.now c.in_ok-write_types.ensures.good
+
+pub returns-clause-has : goal.returns-clause-has
+returns-clause-has c =
+    let types = c.args.types.now in
+    let mid = c.write_types.new.sink in
+    let new = c.export_functions.new.to in
+    on_ok_weaker c.export_functions.result (λ (h : (ts : List TypeDef) → InsideIsGood mid ts → Each (HasFunctionOf new ts) (functions_of c.args.functions.now)). h types c.in_ok-write_types.ensures.good) c.export_functions.ensures.has
 
 pub returns-clause-cause : goal.returns-clause-cause
 returns-clause-cause c =

@@ -51,6 +51,9 @@ loop-function-preserved c =
           (subst (λ m. IsFunctionAt new i (import_label m) types f.now.params.items f.now.result) name (subst (λ (ps : List Param). IsFunctionAt new i (import_label c.as_str.result.now) types ps f.now.result) params (a.is types (before.good types g))));
     }
 
+pub returns-in_err-import_function-clause-good : goal.returns-in_err-import_function-clause-good
+returns-in_err-import_function-clause-good c = λ types g. c.in_err-import_function.ensures.good types (c.loop-function.invariant.good types g)
+
 pub returns-in_err-import_function-clause-cause : goal.returns-in_err-import_function-clause-cause
 returns-in_err-import_function-clause-cause c =
     let start = c.args.root.now in
