@@ -73,6 +73,7 @@ pub record IsPut (t : InterfaceTypes) (r : Root) (types : List TypeDef) : Type 0
   pub others : (id : ℕ) → list_any (nat_eq id) t.exports.items ≡ false → index_of r.homes id ≡ index_of t.root.homes id
   pub only : (id k : ℕ) → index_of r.homes id ≡ Some k → (index_of t.root.homes id ≡ Some k) ⊎ IsTypeOf types id t.interface
   pub interfaces : interface_names r ≡ interface_names t.root
+  pub known : index_of r.known ≡ index_of t.root.known
   pub begins : Begins (root_scope t.root).types (root_scope r).types × Begins (root_scope t.root).instances (root_scope r).instances
   pub same : (root_scope r).functions ≡ (root_scope t.root).functions
   pub names : root_names r ≡ root_names t.root ++ get_or (interface_names t.root) t.interface [] ∷ []
@@ -93,14 +94,15 @@ pub put_of : (res : Result Root Fault) (t : InterfaceTypes) (types : List TypeDe
     → IfOk res (λ r. (id : ℕ) → list_any (nat_eq id) t.exports.items ≡ false → index_of r.homes id ≡ index_of t.root.homes id)
     → IfOk res (λ r. (ts : List TypeDef) → InsideIsGood t ts → (id k : ℕ) → index_of r.homes id ≡ Some k → (index_of t.root.homes id ≡ Some k) ⊎ IsTypeOf ts id t.interface)
     → IfOk res (λ r. interface_names r ≡ interface_names t.root)
+    → IfOk res (λ r. index_of r.known ≡ index_of t.root.known)
     → IfOk res (λ r. Begins (root_scope t.root).types (root_scope r).types × Begins (root_scope t.root).instances (root_scope r).instances)
     → IfOk res (λ r. (root_scope r).functions ≡ (root_scope t.root).functions)
     → IfOk res (λ r. root_names r ≡ root_names t.root ++ get_or (interface_names t.root) t.interface [] ∷ [])
     → IfOk res (λ r. IsInstanceWith r (place t) (site t) (inside_names t))
     → IfOk res (λ r. (ts : List TypeDef) (name : List ℕ) (params : List Param) (answer : Option Ref) → HasFunction t ts name params answer → InstanceHasFunction r (place t) (site t) ts name params answer)
     → IfOk res (λ r. IsPut t r types)
-put_of (Ok r) t types a g b c o d e f h i j = record { good = a types g; homes = b; others = c; only = o types g; interfaces = d; begins = e; same = f; names = h; items = i; functions = j types }
-put_of (Err x) t types a g b c o d e f h i j = tt
+put_of (Ok r) t types a g b c o d k e f h i j = record { good = a types g; homes = b; others = c; only = o types g; interfaces = d; known = k; begins = e; same = f; names = h; items = i; functions = j types }
+put_of (Err x) t types a g b c o d k e f h i j = tt
 
 homes_keep : (t : InterfaceTypes) (r : Root) (k id : ℕ) → ((i : ℕ) → IsGiven t i → index_of r.homes i ≡ Some k) → ((i : ℕ) → list_any (nat_eq i) t.exports.items ≡ false → index_of r.homes i ≡ index_of t.root.homes i)
     → IsRemembered (index_of t.root.homes) id → IsRemembered (index_of r.homes) id
@@ -127,6 +129,7 @@ all_imported root t r types interface ids functions f p =
       types_stay = begins_on (root_scope root).types (root_scope t.root).types (root_scope r).types f.outside p.begins.0;
       functions_stay = p.same ∙ ap (λ (x : Setting). x.around.functions) s;
       instances_stay = subst (λ l. Begins l (root_scope r).instances) instances p.begins.1;
+      known = p.known ∙ ap (λ (x : Setting). x.around.known) s;
       good = p.good;
       items = subst (λ k. At k (interface_name root interface) (names_of_types (setting_over root interface) types ids ++ function_names functions)) count
           (subst (λ n. At (length (root_scope t.root).instances) n (names_of_types (setting_over root interface) types ids ++ function_names functions)) name

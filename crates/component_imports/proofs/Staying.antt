@@ -33,6 +33,7 @@ stays_here r types g = record {
   types_stay = begins_here (root_scope r).types;
   functions_stay = refl;
   instances_stay = begins_here (root_scope r).instances;
+  known = refl;
   homes_stay = λ id h. h;
   good = g;
 }
@@ -43,6 +44,7 @@ stays_on a b c types s t = record {
   types_stay = begins_on (root_scope a).types (root_scope b).types (root_scope c).types s.types_stay t.types_stay;
   functions_stay = t.functions_stay ∙ s.functions_stay;
   instances_stay = begins_on (root_scope a).instances (root_scope b).instances (root_scope c).instances s.instances_stay t.instances_stay;
+  known = t.known ∙ s.known;
   homes_stay = λ id h. t.homes_stay id (s.homes_stay id h);
   good = t.good;
 }
@@ -53,6 +55,7 @@ stays_of old new types interface ids functions h = record {
   types_stay = h.types_stay;
   functions_stay = h.functions_stay;
   instances_stay = h.instances_stay;
+  known = h.known;
   homes_stay = h.homes_stay;
   good = h.good;
 }

@@ -30,6 +30,7 @@ pub record IsInterfaceImported (old new : Root) (types : List TypeDef) (interfac
   pub types_stay : Begins (root_scope old).types (root_scope new).types
   pub functions_stay : (root_scope new).functions ≡ (root_scope old).functions
   pub instances_stay : Begins (root_scope old).instances (root_scope new).instances
+  pub known : index_of new.known ≡ index_of old.known
   pub good : RootIsGood new types
   pub items : IsInstanceWith new (length (root_scope old).instances) (imported (interface_name old interface)) (names_of_types (setting_over old interface) types ids ++ function_names functions)
   pub homes : Each (HasItsName (setting_over old interface) types (λ id. index_of new.homes id ≡ Some (length (root_scope old).instances))) ids

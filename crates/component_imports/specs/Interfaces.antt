@@ -61,12 +61,13 @@ pub record HasInterface (r : Root) (types : List TypeDef) (interface : ℕ) (nee
   pub homes : Each (HasItsName (setting_over r interface) types (λ id. IsHome (interface_names r) types (root_scope r).instances id instance)) needed
   pub has : Each (λ f. InstanceHasFunction r instance (imported (interface_name r interface)) types (string_bytes f.name) f.params.items f.result) functions
 
--- all that was there stays
+-- all that was there stays, and no type is remembered
 pub record Stays (old new : Root) (types : List TypeDef) : Type 0 where
   pub interfaces : interface_names new ≡ interface_names old
   pub types_stay : Begins (root_scope old).types (root_scope new).types
   pub functions_stay : (root_scope new).functions ≡ (root_scope old).functions
   pub instances_stay : Begins (root_scope old).instances (root_scope new).instances
+  pub known : index_of new.known ≡ index_of old.known
   pub homes_stay : (id : ℕ) → IsRemembered (index_of old.homes) id → IsRemembered (index_of new.homes) id
   pub good : RootIsGood new types
 

@@ -170,6 +170,7 @@ over_setting old new n k id o taken =
     let names = taken.names in
     let homes = taken.homes in
     let imported = taken.imported in
+    let known = taken.known in
     let functions = taken.functions in
     let instances = taken.instances in
     let own = o.interface in
@@ -178,7 +179,7 @@ over_setting old new n k id o taken =
       is_own = is_of (own i);
       homes = index_of (homes i);
       interface = Some (own i);
-      around = record { interfaces = names i; imported = imported i; functions = functions i; instances = instances i };
+      around = record { interfaces = names i; imported = imported i; known = index_of (known i); functions = functions i; instances = instances i };
     }
 
 -- from the root, which may grow, and then from around

@@ -143,7 +143,7 @@ setting_from old new e f g h = λ i. record {
   is_own = is_of_world;
   homes = index_of (f i);
   interface = None;
-  around = record { interfaces = e i; imported = []; functions = g i; instances = h i };
+  around = record { interfaces = e i; imported = []; known = λ _. None; functions = g i; instances = h i };
 }
 
 abbrev RootStays : Root → Root → Type 0

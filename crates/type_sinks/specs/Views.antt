@@ -52,7 +52,7 @@ root_setting r = record {
   is_own = is_of_world;
   homes = index_of r.homes;
   interface = None;
-  around = record { interfaces = interface_names r; imported = []; functions = (root_scope r).functions; instances = (root_scope r).instances };
+  around = record { interfaces = interface_names r; imported = []; known = λ _. None; functions = (root_scope r).functions; instances = (root_scope r).instances };
 }
 
 -- 32 bits can't say how many types there are with one more
@@ -83,6 +83,7 @@ pub record IsAdded (old new : Root) (e : EntryValue) : Type 0 where
 pub record IsTaken (old new : Root) (name : List ℕ) (id i : ℕ) : Type 0 where
   pub names : interface_names new ≡ interface_names old
   pub imported : root_names new ≡ root_names old
+  pub known : new.known ≡ old.known
   pub homes : new.homes ≡ old.homes
   pub functions : (root_scope new).functions ≡ (root_scope old).functions
   pub instances : (root_scope new).instances ≡ (root_scope old).instances
@@ -145,7 +146,7 @@ setting_over r interface = record {
   is_own = is_of interface;
   homes = index_of r.homes;
   interface = Some interface;
-  around = record { interfaces = interface_names r; imported = root_names r; functions = (root_scope r).functions; instances = (root_scope r).instances };
+  around = record { interfaces = interface_names r; imported = root_names r; known = index_of r.known; functions = (root_scope r).functions; instances = (root_scope r).instances };
 }
 
 abbrev pub inside_setting : InterfaceTypes → Setting

@@ -99,6 +99,7 @@ impl<'s> InterfaceTypes<'s> {
         ensures good { IfOk result (λ r. (types : List Def) → InsideIsGood self.entry types → RootIsGood r types) }
         ensures homes { IfOk result (λ r. (id : ℕ) → IsGiven self.entry id → index_of r.homes id ≡ Some (length (root_scope self.entry.root).instances)) }
         ensures interfaces { IfOk result (λ r. interface_names r ≡ interface_names self.entry.root) }
+        ensures known { IfOk result (λ r. index_of r.known ≡ index_of self.entry.root.known) }
         ensures only { IfOk result (λ r. (types : List Def) → InsideIsGood self.entry types → (id k : ℕ) → index_of r.homes id ≡ Some k → (index_of self.entry.root.homes id ≡ Some k) ⊎ IsTypeOf types id self.entry.interface) }
         ensures others { IfOk result (λ r. (id : ℕ) → list_any (nat_eq id) self.entry.exports.items ≡ false → index_of r.homes id ≡ index_of self.entry.root.homes id) }
         ensures begins { IfOk result (λ r. Begins (root_scope self.entry.root).types (root_scope r).types × Begins (root_scope self.entry.root).instances (root_scope r).instances) }

@@ -76,11 +76,12 @@ Begins {X} xs ys = (more : List X) × (ys ≡ xs ++ more)
 
 -- ---- what stays while types are written
 
--- of the component: the names under which interfaces are imported, by their ids, those under which something is imported while the type of
--- an instance is written, and what its indices of functions and of instances stand for
+-- of the component: the names under which interfaces are imported, by their ids, those under which something is imported and the index that
+-- is remembered of each of its types, while the type of an instance is written, and what its indices of functions and of instances stand for
 pub record Around : Type 0 where
   pub interfaces : List (List ℕ)
   pub imported : List (List ℕ)
+  pub known : ℕ → Option ℕ
   pub functions : List Item
   pub instances : List Item
 

@@ -45,6 +45,6 @@ returns c =
       has = w.has;
     } in
     record {
-      ok = IfOk-weaker c.import.result _ _ (λ r h. all_imported root t r types interface ids fs filled h) (put_of c.import.result t types p.good w.good p.homes p.others p.only p.interfaces p.begins p.same p.names p.items p.functions);
+      ok = IfOk-weaker c.import.result _ _ (λ r h. all_imported root t r types interface ids fs filled h) (put_of c.import.result t types p.good w.good p.homes p.others p.only p.interfaces p.known p.begins p.same p.names p.items p.functions);
       cause = IfErr-weaker c.import.result _ _ (λ e h. put_unready _ root t interface e set h) p.cause;
     }

@@ -1,4 +1,4 @@
-use Rattle.std.proofs.Common.{◌≡◌, length, Some}
+use Rattle.std.proofs.Common.{◌≡◌, ap, length, Some}
 use Rattle.type_sinks.specs.Kept.{index_of}
 use Rattle.type_sinks.specs.Views.{root_scope, declarator_values, IsImported}
 use Rattle.type_sinks.proofs.Keeping.{each_at}
@@ -17,6 +17,7 @@ returns c =
       good = λ types. import_good t.root r t.interface (index_of t.known) ids ds types a;
       homes = λ id given. each_at (λ x. index_of r.homes x ≡ Some (length (root_scope t.root).instances)) ids id given a.homes.here;
       interfaces = a.names;
+      known = ap index_of a.known;
       only = λ types g id k. import_only t.root r t.interface (index_of t.known) ids ds types a g id k;
       others = a.homes.others;
       same = import_functions t.root r t.interface ds ids a;

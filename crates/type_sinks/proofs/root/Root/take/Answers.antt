@@ -25,6 +25,7 @@ returns-clause-ok c =
     IfOk-weaker c.add_type.result _ _ (λ i h. record {
       names = h.1.names;
       imported = names_added old new e h.1 ∙ append-nil (root_names old);
+      known = h.1.known;
       homes = h.1.homes;
       functions = functions_same old new e h.1 refl;
       instances = instances_same old new e h.1 refl;
