@@ -1,6 +1,6 @@
 -- The outside of a component: what it imports and exports, by names and by the trees of types, as a world has it (Component Model,
 -- Explainer, Import and Export Definitions, Type Checking; WIT, Worlds).
-use Rattle.std.specs.Prelude.{◌≡◌, ℕ, List, [], ◌∷◌, get_or, slice_get, Some, String, string_bytes}
+use Rattle.std.specs.Prelude.{◌≡◌, ℕ, List, [], get_or, slice_get, Some, String, string_bytes}
 use Rattle.std.specs.List.{AllByRecursion as Each}
 use Rattle.std.specs.declared.alloc.Global.{Global}
 use Rattle.wit_order.specs.Order.{Has}
