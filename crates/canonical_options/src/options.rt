@@ -37,6 +37,25 @@ pub struct Iter {
     pub(crate) encoding: Option<StringEncoding>,
 }
 
+impl Iter {
+    ghost use Rattle.canonical_options.specs.View.{left_of};
+
+    /// The options that are given.
+    pub fn new(
+        memory: Option<u32>,
+        realloc: Option<u32>,
+        encoding: Option<StringEncoding>,
+    ) -> Iter
+        ensures { left_of result ≡ spec.options_with memory realloc encoding }
+    {
+        Iter {
+            memory,
+            realloc,
+            encoding,
+        }
+    }
+}
+
 impl Iterator for Iter {
     type Item = CanonicalOption;
 

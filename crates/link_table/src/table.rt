@@ -146,3 +146,19 @@ pub fn table_of(alloc: Global, linking: &Linking<'_, '_, '_>) -> Result<LinkTabl
     let exports = checked_links(alloc, linking, imported, exported)?;
     Ok(LinkTable { imports, exports })
 }
+
+impl LinkTable {
+    /// What the core imports of the module stand for.
+    pub fn imports(&self) -> &ImportLinks
+        ensures { result.now ≡ self.now.imports }
+    {
+        &self.imports
+    }
+
+    /// The links of the functions that the world exports, in its order.
+    pub fn exports(&self) -> &[ExportLink]
+        ensures { result.now ≡ self.now.exports.items }
+    {
+        &self.exports
+    }
+}
