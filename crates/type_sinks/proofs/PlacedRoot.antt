@@ -1,18 +1,13 @@
 -- One more entry of a root may stand where it does.
-use Rattle.std.proofs.Common.{◌≡◌, ◌<◌, ℕ, ◌+◌, List, [], ◌∷◌, ◌++◌, length, map, Option, Some, None, true, refl, sym, ap, subst, ◌∙◌, arith, append_assoc, length-append}
+use Rattle.std.proofs.Common.{◌≡◌, ◌<◌, ℕ, List, [], ◌∷◌, ◌++◌, length, map, Option, Some, None, true, refl, sym, ap, subst, ◌∙◌, arith, append_assoc, length-append}
 use Rattle.std.specs.Prelude.{get_or}
-use Rattle.std.specs.List.{flat_map}
-use Rattle.std.proofs.lemmas.Grind.{flat_map-append}
 use Rattle.std.proofs.lemmas.List.{append-nil}
 use Rattle.distinct_names.specs.Names.{is_new}
-use Rattle.binary_grammar.specs.Syntax.{Meets, EachWhere}
-use Rattle.component_value_types.specs.declared.scope.Scope.{Scope as Counts}
 use Rattle.component_value_types.specs.Types.{DefinedTypeValue}
 use Rattle.component_definitions.specs.declared.sorts.ComponentSort.{ComponentSort}
 use Rattle.component_definitions.specs.declared.externs.Description.TheVariants as descriptions
 use Rattle.component_definitions.specs.Aliases.{instance_export}
-use Rattle.component_definitions.specs.Counting.{inside}
-use Rattle.component_instances.specs.Declarators.{DeclaratorValue, DeclaredValue, declarator, declared_with}
+use Rattle.component_instances.specs.Declarators.{DeclaratorValue}
 use Rattle.component_instances.specs.TypeDefinitions.{defined, of_instance}
 use Rattle.component_entries.specs.declared.entry.Entry.{Entry}
 use Rattle.component_entries.specs.Entries.{EntryValue, entry_value, an_alias, a_type, an_import}
@@ -27,12 +22,13 @@ use Rattle.type_writing.specs.Functions.{FunctionStands}
 use Rattle.type_writing.specs.Placing.{MayBeDefined}
 use Rattle.type_writing.proofs.Placing.{item_below}
 use Rattle.type_sinks.specs.declared.root.Root.{Root}
-use Rattle.type_sinks.specs.Root.{InterfaceNames, imported_name, imported_names, IsHome}
-use Rattle.type_sinks.specs.Placing.{nothing_declared, DeclaratorsFollow, ArePlaced}
+use Rattle.type_sinks.specs.Root.{InterfaceNames, IsHome}
+use Rattle.type_sinks.specs.Imports.{entry_names}
+use Rattle.type_sinks.specs.Placing.{DeclaratorsFollow, ArePlaced, known_of}
 use Rattle.type_sinks.specs.Views.{entry_values, root_scope, root_names, interface_names, RootIsPlaced, IsSameRoot, IsAdded, IsImported}
 use Rattle.type_sinks.proofs.Following.{type_follows, instance_type_follows, import_type_follows, import_function_follows, import_instance_follows, alias_follows}
-use Rattle.type_sinks.proofs.Placed.{behind, known, placed_push}
-use Rattle.type_sinks.proofs.Rooted.{scope_after, types_added}
+use Rattle.type_sinks.proofs.Placed.{placed_push}
+use Rattle.type_sinks.proofs.Rooted.{scope_after, types_added, fresh_import}
 
 -- ---- what is there
 
@@ -61,78 +57,37 @@ pub same_placed : (old new : Root) → IsSameRoot old new → RootIsPlaced old �
 same_placed old new a p = subst ArePlaced (sym a.entries) p
 
 pub type_placed : (old new : Root) (d : DefinedTypeValue) → IsAdded old new (a_type (defined d)) → MayBeDefined (length (root_scope old).types) d → RootIsPlaced old → RootIsPlaced new
-type_placed old new d a h p =
-    let k = known (entry_values old) p in
-    placed_push (entry_values old) (entry_values new) (a_type (defined d)) a.entries p (type_follows (behind (entry_values old)) d (subst (λ n. MayBeDefined n d) (sym k.counted.types) h))
+type_placed old new d a h p = placed_push (entry_values old) (entry_values new) (a_type (defined d)) a.entries p (type_follows (known_of (root_scope old)) d h)
 
 pub import_type_placed : (old new : Root) (n : List ℕ) (t : ℕ) → is_new (root_names old) n ≡ true → t < length (root_scope old).types → IsAdded old new (an_import (record { name = n; description = descriptions.Equal t })) → RootIsPlaced old → RootIsPlaced new
 import_type_placed old new n t fresh lt a p =
-    let k = known (entry_values old) p in
-    let few = k.counted.types in
-    placed_push (entry_values old) (entry_values new) (an_import (record { name = n; description = descriptions.Equal t })) a.entries p
-    (import_type_follows (behind (entry_values old)) n t (ap (λ l. is_new l n) k.imports ∙ fresh) (omega (arith, few, lt)))
+    placed_push (entry_values old) (entry_values new) (an_import (record { name = n; description = descriptions.Equal t })) a.entries p (import_type_follows (known_of (root_scope old)) n t (fresh_import old n fresh) lt)
 
 pub import_function_placed : (old new : Root) (n : List ℕ) (t : ℕ) (label : OwnName → Label) (types : List TypeDef) (params : List Param) (result : Option Ref)
     → is_new (root_names old) n ≡ true → FunctionStands label types (root_scope old).types params result t → IsAdded old new (an_import (record { name = n; description = descriptions.Function t })) → RootIsPlaced old → RootIsPlaced new
 import_function_placed old new n t label types params result fresh h a p =
-    let k = known (entry_values old) p in
-    let few = k.counted.types in
-    let lt = function_there (root_scope old).types t _ h.2 in
     placed_push (entry_values old) (entry_values new) (an_import (record { name = n; description = descriptions.Function t })) a.entries p
-    (import_function_follows (behind (entry_values old)) n t (ap (λ l. is_new l n) k.imports ∙ fresh) (omega (arith, few, lt)))
+    (import_function_follows (known_of (root_scope old)) n t (fresh_import old n fresh) (function_there (root_scope old).types t _ h.2))
 
 pub alias_placed : (old new : Root) (s : ComponentSort) (i : ℕ) (n : List ℕ) → i < length (root_scope old).instances → IsAdded old new (an_alias (instance_export s i n)) → RootIsPlaced old → RootIsPlaced new
-alias_placed old new s i n lt a p =
-    let k = known (entry_values old) p in
-    let few = k.counted.instances in
-    placed_push (entry_values old) (entry_values new) (an_alias (instance_export s i n)) a.entries p (alias_follows (behind (entry_values old)) s i n (omega (arith, few, lt)))
+alias_placed old new s i n lt a p = placed_push (entry_values old) (entry_values new) (an_alias (instance_export s i n)) a.entries p (alias_follows (known_of (root_scope old)) s i n lt)
 
 -- ---- an instance that is imported
 
-inside_around : (s : Counts) (n : ℕ) → s.types ≡ n → s.outer ≡ None → nothing_declared n ≡ record { scope = inside s; names = [] }
-inside_around s n e f =
-    let types = sym e in
-    let out = sym f in
-    λ i. record {
-      scope = record {
-        core_functions = 0;
-        core_tables = 0;
-        core_memories = 0;
-        core_globals = 0;
-        core_modules = 0;
-        core_instances = 0;
-        components = 0;
-        instances = 0;
-        functions = 0;
-        types = 0;
-        outer = Some (types i);
-        outermost = out i;
-      };
-      names = [];
-    }
+one_type_more : (es news : List EntryValue) (ds : List DeclaratorValue) → news ≡ es ++ a_type (of_instance ds) ∷ [] → length (meaning es).types < length (meaning news).types
+one_type_more es news ds e =
+    let count = ap (λ (s : Scope). length s.types) (scope_after es news (a_type (of_instance ds)) e) ∙ length-append (meaning es).types _ in
+    omega (arith, count)
 
-instance_type_placed : (es news : List EntryValue) (ds : List DeclaratorValue) → news ≡ es ++ a_type (of_instance ds) ∷ [] → DeclaratorsFollow (length (meaning es).types) ds → ArePlaced es → ArePlaced news
-instance_type_placed es news ds e follow p =
-    let k = known es p in
-    let s = (behind es).scope in
-    placed_push es news (a_type (of_instance ds)) e p (instance_type_follows (behind es) ds (subst (λ (there : DeclaredValue). EachWhere (Meets declarator) declared_with there ds) (inside_around s (length (meaning es).types) k.counted.types k.counted.outer) follow))
-
-one_type_more : (es news : List EntryValue) (ds : List DeclaratorValue) → news ≡ es ++ a_type (of_instance ds) ∷ [] → length (meaning news).types ≡ length (meaning es).types + 1
-one_type_more es news ds e = ap (λ (s : Scope). length s.types) (scope_after es news (a_type (of_instance ds)) e) ∙ length-append (meaning es).types _
-
-names_same : (es news : List EntryValue) (ds : List DeclaratorValue) → news ≡ es ++ a_type (of_instance ds) ∷ [] → imported_names news ≡ imported_names es
-unfolding imported_names
-names_same es news ds e = ap (flat_map imported_name) e ∙ flat_map-append imported_name es (a_type (of_instance ds) ∷ []) ∙ append-nil (flat_map imported_name es)
+names_same : (es news : List EntryValue) (ds : List DeclaratorValue) → news ≡ es ++ a_type (of_instance ds) ∷ [] → entry_names (meaning news).imports ≡ entry_names (meaning es).imports
+names_same es news ds e = ap (λ (s : Scope). entry_names s.imports) (scope_after es news (a_type (of_instance ds)) e) ∙ ap entry_names (append-nil (meaning es).imports)
 
 instance_placed : (es mid news : List EntryValue) (ds : List DeclaratorValue) (n : List ℕ) → mid ≡ es ++ a_type (of_instance ds) ∷ [] → news ≡ mid ++ an_import (record { name = n; description = descriptions.Instance (length (meaning es).types) }) ∷ []
-    → is_new (imported_names es) n ≡ true → DeclaratorsFollow (length (meaning es).types) ds → ArePlaced es → ArePlaced news
+    → is_new (entry_names (meaning es).imports) n ≡ true → DeclaratorsFollow (length (meaning es).types) ds → ArePlaced es → ArePlaced news
 instance_placed es mid news ds n e f fresh follow p =
-    let first = instance_type_placed es mid ds e follow p in
-    let k = known mid first in
-    let few = k.counted.types in
-    let more = one_type_more es mid ds e in
+    let first = placed_push es mid (a_type (of_instance ds)) e p (instance_type_follows (known_of (meaning es)) ds follow) in
     placed_push mid news (an_import (record { name = n; description = descriptions.Instance (length (meaning es).types) })) f first
-    (import_instance_follows (behind mid) n (length (meaning es).types) (ap (λ l. is_new l n) (k.imports ∙ names_same es mid ds e) ∙ fresh) (omega (arith, few, more)))
+    (import_instance_follows (known_of (meaning mid)) n (length (meaning es).types) (ap (λ l. is_new l n) (names_same es mid ds e) ∙ fresh) (one_type_more es mid ds e))
 
 pub import_placed : (old new : Root) (own : ℕ) (ds : List DeclaratorValue) (ids : List ℕ) → IsImported old new own ds ids → DeclaratorsFollow (length (root_scope old).types) ds → RootIsPlaced old → RootIsPlaced new
 import_placed old new own ds ids a follow p =
@@ -140,4 +95,4 @@ import_placed old new own ds ids a follow p =
     let n = get_or (interface_names old) own [] in
     let d = a_type (of_instance ds) in
     let e = an_import (record { name = n; description = descriptions.Instance (length (root_scope old).types) }) in
-    instance_placed es (es ++ d ∷ []) (entry_values new) ds n refl (a.entries ∙ sym (append_assoc es (d ∷ []) (e ∷ []))) a.fresh follow p
+    instance_placed es (es ++ d ∷ []) (entry_values new) ds n refl (a.entries ∙ sym (append_assoc es (d ∷ []) (e ∷ []))) (fresh_import old n a.fresh) follow p

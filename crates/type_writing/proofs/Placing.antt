@@ -20,7 +20,7 @@ use Rattle.type_meaning.specs.Items.{Item, nothing, a_type, item_at}
 use Rattle.type_writing.specs.Unfolding.{OwnName, FormOf, form_of}
 use Rattle.type_writing.specs.Writing.{written, PartStands, PartsStand, IsDefinedAs, KindStands}
 use Rattle.type_writing.specs.Functions.{function_form, IsFunctionOf}
-use Rattle.type_writing.specs.Placing.{IsBelow, MayBeDefined, labels_of, AreLabelsOfApart, AreLabelsApart, AreParametersApart}
+use Rattle.type_writing.specs.Placing.{IsBelow, MayBeDefined, labels_of, HasLabelsApart, AreLabelsApart, AreParametersApart}
 use Rattle.type_writing.proofs.Standing.{value_inside}
 
 -- ---- what stands for something is there
@@ -77,7 +77,7 @@ labels_formed kinds.Unknown = refl
 pub primitive_placed : (n : ℕ) (p : PrimitiveValueType) → MayBeDefined n (typed.primitive p)
 primitive_placed n p = record { parts = tt; labels = refl }
 
-pub defined_placed : (label : OwnName → Label) (types : List TypeDef) (space : List Item) (k : TypeDefKind) (d : DefinedTypeValue) → IsDefinedAs label types space k d → AreLabelsOfApart k → MayBeDefined (length space) d
+pub defined_placed : (label : OwnName → Label) (types : List TypeDef) (space : List Item) (k : TypeDefKind) (d : DefinedTypeValue) → IsDefinedAs label types space k d → HasLabelsApart k → MayBeDefined (length space) d
 defined_placed label types space k d h apart = record {
   parts = parts_below label types space h.form.parts (syntax_of d).parts h.parts;
   labels = ap (λ (f : Form). all_new [] f.labels) h.same ∙ ap (λ o. all_new [] (form_labels o)) (sym h.is) ∙ ap (all_new []) (sym (labels_formed k)) ∙ apart;
@@ -89,7 +89,7 @@ function_placed label types space params result d h apart = record {
   labels = ap (λ (f : Form). all_new [] f.labels) h.same ∙ apart;
 }
 
-pub labels_at : (types : List TypeDef) (id : ℕ) (d : TypeDef) → AreLabelsApart types → slice_get types id ≡ Some d → AreLabelsOfApart d.kind
+pub labels_at : (types : List TypeDef) (id : ℕ) (d : TypeDef) → AreLabelsApart types → slice_get types id ≡ Some d → HasLabelsApart d.kind
 labels_at [] id d h at = absurd cc
 labels_at (t ∷ types) zero d h at = let same : t ≡ d = cc in ap (λ (x : TypeDef). all_new [] (labels_of x.kind)) (sym same) ∙ h.0
 labels_at (t ∷ types) (suc id) d h at = labels_at types id d h.1 at

@@ -35,12 +35,12 @@ labels_of (kinds.Flags f) = map (λ l. string_bytes l.name) f.flags.items
 labels_of _ = []
 
 -- they differ
-abbrev pub AreLabelsOfApart : TypeDefKind → Type 0
-AreLabelsOfApart k = all_new [] (labels_of k) ≡ true
+abbrev pub HasLabelsApart : TypeDefKind → Type 0
+HasLabelsApart k = all_new [] (labels_of k) ≡ true
 
 -- so they do in each of these types
 abbrev pub AreLabelsApart : List TypeDef → Type 0
-AreLabelsApart types = Each (λ d. AreLabelsOfApart d.kind) types
+AreLabelsApart types = Each (λ d. HasLabelsApart d.kind) types
 
 -- and so do the names of these parameters
 abbrev pub AreParametersApart : List Param → Type 0

@@ -7,7 +7,7 @@ ghost use Rattle.wit_order.specs.Order.{Has};
 ghost use Rattle.wit_types.specs.declared.interface.TypeDef.{TypeDef as Def};
 ghost use Rattle.wit_types.specs.declared.kind.«Type».TheVariants.{Id};
 ghost use Rattle.wit_types.specs.declared.kind.TypeDefKind.TheVariants as kind;
-ghost use Rattle.type_writing.specs.Placing.{AreLabelsOfApart, AreLabelsApart};
+ghost use Rattle.type_writing.specs.Placing.{HasLabelsApart, AreLabelsApart};
 ghost use Rattle.type_writing.specs.Refusals.{IsCause, IsUnready, IsKindUnready, IsTypeUnready, AreTypesUnready};
 ghost use Rattle.type_writing.specs.Writing.{Stands, KindStands, Begins, HasItsName, name_of, names_of_types, IsRemembered};
 
@@ -48,7 +48,7 @@ fn write_kind<'s, S: ValtypeEncoder<'s>>(
     ensures names { S.names sink.new ≡ S.names sink.old }
     ensures given { (k : ℕ) → S.given sink.old k → S.given sink.new k }
     ensures keeps { (types : List Def) → S.good sink.old types → Begins (S.space sink.old) (S.space sink.new) × S.good sink.new types }
-    ensures placed { (types : List Def) → S.good sink.old types → AreLabelsOfApart kind.entry.now → S.placed sink.old → S.placed sink.new }
+    ensures placed { (types : List Def) → S.good sink.old types → HasLabelsApart kind.entry.now → S.placed sink.old → S.placed sink.new }
     ensures stands { (types : List Def) → S.good sink.old types → IfOk result (λ i. KindStands (S.setting sink.new).label types (S.space sink.new) kind.entry.now i) }
     ensures cause { IfErr result (IsCause (IsKindUnready (IsRemembered (S.table sink.old)) kind.entry.now) (S.full sink.new)) }
 {
