@@ -1,15 +1,17 @@
 -- Functions one after the other.
-use Rattle.std.proofs.Common.{◌≡◌, ◌⊎◌, ℕ, ◌+◌, ◌<◌, List, [], ◌∷◌, ◌++◌, length, take, drop, get_or, sym, ap, subst, ◌∙◌, append_assoc, inl, inr}
-use Rattle.std.specs.Prelude.{string_bytes}
+use Rattle.std.proofs.Common.{◌≡◌, ◌⊎◌, ℕ, zero, suc, Some, arith, ◌+◌, ◌<◌, List, [], ◌∷◌, ◌++◌, length, take, drop, get_or, sym, ap, subst, ◌∙◌, append_assoc, inl, inr}
+use Rattle.std.specs.Prelude.{slice_get, string_bytes}
 use Rattle.std.specs.Borrow.{Bor}
 use Rattle.std.specs.List.{AllByRecursion as Each}
 use Rattle.std.proofs.lemmas.List.{map-append, take-append-drop}
 use Rattle.wit_order.specs.Order.{Has}
 use Rattle.wit_types.specs.declared.function.Function.{Function}
+use Rattle.wit_types.specs.declared.function.Param.{Param}
 use Rattle.type_writing.specs.Functions.{function_form}
+use Rattle.type_writing.specs.Placing.{AreParametersApart}
 use Rattle.type_writing.proofs.Standing.{taken_next}
 use Rattle.type_writing.proofs.Refusals.{parts_less}
-use Rattle.component_imports.specs.Functions.{functions_of, function_names, IsFunctionUnready, AreFunctionsUnready}
+use Rattle.component_imports.specs.Functions.{functions_of, function_names, HaveParametersApart, IsFunctionUnready, AreFunctionsUnready}
 
 pub functions_next : (fs : List (Bor Function)) (i : ℕ) (f : Bor Function) → i < length fs → f ≡ get_or fs i f → functions_of (take i fs) ++ f.now ∷ [] ≡ functions_of (take (i + 1) fs)
 functions_next fs i f lt here = sym (map-append (λ (g : Bor Function). g.now) (take i fs) (f ∷ [])) ∙ ap functions_of (taken_next fs i f lt here)
@@ -38,6 +40,21 @@ functions_cause ready names mid fs i f lt here all h = record {
       ∙ ap (λ l. l ++ functions_of (drop (i + 1) fs)) (sym (functions_next fs i f lt here)) ∙ append_assoc (functions_of (take i fs)) (f.now ∷ []) (functions_of (drop (i + 1) fs));
   unready = subst (λ l. IsFunctionUnready ready l f.now) all h;
 }
+
+-- ---- names of parameters
+
+pub each_get : {X : Type 0} (P : X → Type 0) (xs : List X) (i : ℕ) (x : X) → Each P xs → slice_get xs i ≡ Some x → P x
+each_get P [] i x h at = absurd cc
+each_get P (y ∷ xs) zero x h at = let same : y ≡ x = cc in subst P same h.0
+each_get P (y ∷ xs) (suc i) x h at = each_get P xs i x h.1 at
+
+-- those of one of these functions
+pub parameters_at : (fs : List (Bor Function)) (i : ℕ) (f : Bor Function) (ps : List Param) → i < length fs → f ≡ get_or fs i f → ps ≡ f.now.params.items → HaveParametersApart (functions_of fs) → AreParametersApart ps
+parameters_at [] i f ps lt here same h = absurd (omega (arith, lt))
+parameters_at (g ∷ fs) zero f ps lt here same h = subst AreParametersApart (sym (same ∙ ap (λ (b : Bor Function). b.now.params.items) here)) h.0
+parameters_at (g ∷ fs) (suc i) f ps lt here same h = parameters_at fs i f ps (omega (arith, lt)) here same h.1
+
+-- ---- causes
 
 -- where more is ready
 pub functions_less : (ready less : ℕ → Type 0) (names : List (List ℕ)) (fs : List Function) → ((k : ℕ) → less k → ready k) → AreFunctionsUnready ready names fs → AreFunctionsUnready less names fs

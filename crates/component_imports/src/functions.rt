@@ -6,8 +6,8 @@ ghost use Rattle.wit_types.specs.declared.interface.TypeDef.{TypeDef as Def};
 ghost use Rattle.type_writing.specs.Refusals.{IsCause};
 ghost use Rattle.type_writing.specs.Writing.{IsRemembered};
 ghost use Rattle.type_sinks.specs.Kept.{index_of};
-ghost use Rattle.type_sinks.specs.Views.{inside_names, inside_setting, InsideIsGood, IsFullInside};
-ghost use Rattle.component_imports.specs.Functions.{functions_of, function_names, HasFunctionOf, AreFunctionsUnready};
+ghost use Rattle.type_sinks.specs.Views.{inside_names, inside_setting, InsideIsGood, InsideIsPlaced, IsFullInside};
+ghost use Rattle.component_imports.specs.Functions.{functions_of, function_names, HasFunctionOf, HaveParametersApart, AreFunctionsUnready};
 
 use std::alloc::Global;
 use type_sinks::InterfaceTypes;
@@ -27,6 +27,7 @@ pub fn export_functions<'s>(
     ensures exports { to.new.exports.items ≡ to.old.exports.items }
     ensures names { OnOk result (inside_names to.new ≡ inside_names to.old ++ function_names (functions_of functions.now)) }
     ensures good { (types : List Def) → InsideIsGood to.old types → InsideIsGood to.new types }
+    ensures placed { (types : List Def) → InsideIsGood to.old types → HaveParametersApart (functions_of functions.now) → InsideIsPlaced to.old → InsideIsPlaced to.new }
     ensures has { OnOk result ((types : List Def) → InsideIsGood to.old types → Each (HasFunctionOf to.new types) (functions_of functions.now)) }
     ensures cause { IfErr result (IsCause (AreFunctionsUnready (IsRemembered (index_of to.old.known)) (inside_names to.old) (functions_of functions.now)) (IsFullInside to.new)) }
 {

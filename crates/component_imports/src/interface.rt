@@ -2,12 +2,13 @@
 
 ghost use Rattle.std.specs.Prelude.{◌≡◌, ◌<◌, ◌++◌, length, IfOk, IfErr, OnOk};
 ghost use Rattle.std.specs.List.{All, AllByRecursion as Each};
+ghost use Rattle.type_writing.specs.Placing.{AreLabelsApart};
 ghost use Rattle.type_writing.specs.Refusals.{IsCause};
 ghost use Rattle.type_writing.specs.Writing.{Begins, HasItsName, names_of_types, IsRemembered};
 ghost use Rattle.type_sinks.specs.Inside.{TakenAreApart};
 ghost use Rattle.type_sinks.specs.Kept.{index_of};
-ghost use Rattle.type_sinks.specs.Views.{root_scope, RootIsGood, inside_names, inside_setting, InsideIsGood, IsFullInside, IsGiven};
-ghost use Rattle.component_imports.specs.Functions.{functions_of, function_names, HasFunctionOf};
+ghost use Rattle.type_sinks.specs.Views.{root_scope, RootIsGood, RootIsPlaced, inside_names, inside_setting, InsideIsGood, InsideIsPlaced, IsFullInside, IsGiven};
+ghost use Rattle.component_imports.specs.Functions.{functions_of, function_names, HasFunctionOf, HaveParametersApart};
 ghost use Rattle.component_imports.specs.Interface.{AreItemsUnready, IsInterfaceImported, IsInterfaceCause};
 
 use crate::functions::export_functions;
@@ -29,6 +30,7 @@ fn write_items<'s>(
     ensures setting { inside_setting instance.new ≡ inside_setting instance.old }
     ensures outside { Begins (root_scope instance.old.root).types (root_scope instance.new.root).types }
     ensures good { InsideIsGood instance.new types.entry.now }
+    ensures placed { AreLabelsApart types.entry.now → HaveParametersApart (functions_of functions.now) → InsideIsPlaced instance.old → InsideIsPlaced instance.new }
     ensures names { OnOk result (inside_names instance.new ≡ inside_names instance.old ++ (names_of_types (inside_setting instance.old) types.entry.now ids.now ++ function_names (functions_of functions.now))) }
     ensures named { OnOk result (Each (HasItsName (inside_setting instance.old) types.entry.now (IsGiven instance.new)) ids.now) }
     ensures has { OnOk result (Each (HasFunctionOf instance.new types.entry.now) (functions_of functions.now)) }
@@ -56,6 +58,7 @@ pub fn import_interface<'s>(
     requires good { RootIsGood root types.now }
     requires apart { TakenAreApart (index_of root.homes) interface types.now }
     ensures ok { IfOk result (λ r. IsInterfaceImported root.entry r types.entry.now interface ids.now (functions_of functions.now)) }
+    ensures placed { IfOk result (λ r. AreLabelsApart types.entry.now → HaveParametersApart (functions_of functions.now) → RootIsPlaced root.entry → RootIsPlaced r) }
     ensures cause { IfErr result (IsInterfaceCause root.entry types.entry.now interface ids.now (functions_of functions.now)) }
 {
     let mut instance = InterfaceTypes::new(alloc, root, interface);

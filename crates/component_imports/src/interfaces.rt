@@ -1,6 +1,7 @@
 //! All interfaces that are needed.
 
 ghost use Rattle.std.specs.Prelude.{◌≡◌, ◌<◌, ◌++◌, ℕ, List, length, map, flat_map, None, IfOk, IfErr, OnOk, true, if◌then◌else◌};
+ghost use Rattle.std.specs.List.{AllByRecursion as Each};
 ghost use Rattle.wit_order.specs.Order.{Has};
 ghost use Rattle.wit_types.specs.declared.interface.TypeOwner.TheVariants as belongs;
 ghost use Rattle.wit_reach.specs.Paths.{AreEnds};
@@ -10,8 +11,9 @@ ghost use Rattle.wit_reach.specs.Made.{IsMadeOfWithin};
 ghost use Rattle.wit_reach.specs.Lists.{AreOwnersThere};
 ghost use Rattle.type_sinks.specs.Inside.{TakenAreApart};
 ghost use Rattle.type_sinks.specs.Kept.{index_of};
-ghost use Rattle.type_sinks.specs.Views.{root_scope, RootIsGood};
-ghost use Rattle.component_imports.specs.Functions.{functions_of};
+ghost use Rattle.type_sinks.specs.Views.{root_scope, RootIsGood, RootIsPlaced};
+ghost use Rattle.component_imports.specs.Functions.{functions_of, HaveParametersApart};
+ghost use Rattle.type_writing.specs.Placing.{AreLabelsApart};
 ghost use Rattle.type_writing.specs.Refusals.{IsCause};
 ghost use Rattle.component_imports.specs.Interfaces as spec;
 ghost use Rattle.component_imports.specs.Ready.{AreWritable};
@@ -96,6 +98,7 @@ fn import_needed<'s>(
     requires good { RootIsGood root types.now }
     requires apart { TakenAreApart (index_of root.homes) interface types.now }
     ensures ok { IfOk result (λ r. spec.IsImportedIfNeeded root.entry r types.entry.now interface needed.now (functions_of functions.now)) }
+    ensures placed { IfOk result (λ r. AreLabelsApart types.entry.now → HaveParametersApart (functions_of functions.now) → RootIsPlaced root.entry → RootIsPlaced r) }
     ensures cause { IfErr result (IsCause ((spec.is_needed needed.now (functions_of functions.now) ≡ true) × spec.IsUnreadyWith root.entry types.entry.now interface needed.now (functions_of functions.now)) (Unit {0})) }
 {
     if !is_needed(needed, functions) {
@@ -145,6 +148,7 @@ pub fn import_interfaces<'s>(
     requires none { (id : ℕ) → index_of root.homes id ≡ None }
     requires apart { spec.EarlierAreApart types.now }
     ensures ok { IfOk result (λ r. spec.AreNeededImported root.entry r.root types.entry.now r.instances.items others.now (spec.linked_of linked.now)) }
+    ensures placed { IfOk result (λ r. AreLabelsApart types.entry.now → Each HaveParametersApart (spec.linked_of linked.now) → RootIsPlaced root.entry → RootIsPlaced r.root) }
     ensures written { AreWritable root.entry types.entry.now others.now (spec.linked_of linked.now) → IfErr result (IsCause ⊥ (Unit {0})) }
 {
     let ids = asked(alloc, others, linked)?;

@@ -3,11 +3,12 @@
 ghost use Rattle.std.specs.Prelude.{◌≡◌, ◌++◌, List, length, IfOk, IfErr, OnOk};
 ghost use Rattle.wit_types.specs.declared.interface.TypeDef.{TypeDef as Def};
 ghost use Rattle.wit_reach.specs.Types.{AreTypesBackward, AreTypesThere};
+ghost use Rattle.type_writing.specs.Placing.{AreLabelsApart};
 ghost use Rattle.type_writing.specs.Refusals.{IsCause};
 ghost use Rattle.type_writing.specs.Writing.{Begins, IsRemembered};
 ghost use Rattle.type_sinks.specs.Kept.{index_of};
-ghost use Rattle.type_sinks.specs.Views.{root_scope, root_names, interface_names, RootIsGood};
-ghost use Rattle.component_imports.specs.Functions.{functions_of, function_names, AreFunctionsUnready};
+ghost use Rattle.type_sinks.specs.Views.{root_scope, root_names, interface_names, RootIsGood, RootIsPlaced};
+ghost use Rattle.component_imports.specs.Functions.{functions_of, function_names, HaveParametersApart, AreFunctionsUnready};
 ghost use Rattle.component_imports.specs.Interfaces.{ids_of};
 ghost use Rattle.component_imports.specs.World.{AreFunctionsAt, AreWorldItemsImported, IsWorldUnready, AreTypesOf, AreTypesWritten, HasUnwrittenType};
 
@@ -31,6 +32,7 @@ fn add_imports<'s>(
     ensures functions { Begins (root_scope root.old).functions (root_scope root.new).functions }
     ensures instances { (root_scope root.new).instances ≡ (root_scope root.old).instances }
     ensures good { (types : List Def) → RootIsGood root.old types → RootIsGood root.new types }
+    ensures placed { (types : List Def) → RootIsGood root.old types → HaveParametersApart (functions_of functions.now) → RootIsPlaced root.old → RootIsPlaced root.new }
     ensures names { OnOk result (root_names root.new ≡ root_names root.old ++ function_names (functions_of functions.now)) }
     ensures are { OnOk result ((types : List Def) → RootIsGood root.old types → AreFunctionsAt root.new (length (root_scope root.old).functions) types (functions_of functions.now)) }
     ensures cause { IfErr result (IsCause (AreFunctionsUnready (IsRemembered (index_of root.old.known)) (root_names root.old) (functions_of functions.now)) (Unit {0})) }
@@ -64,6 +66,7 @@ pub fn import_functions<'s>(
     requires there { AreTypesThere types.now (ids_of (functions_of functions.now)) }
     requires good { RootIsGood root types.now }
     ensures ok { IfOk result (λ r. AreWorldItemsImported root.entry r types.entry.now world others.now (functions_of functions.now)) }
+    ensures placed { IfOk result (λ r. AreLabelsApart types.entry.now → HaveParametersApart (functions_of functions.now) → RootIsPlaced root.entry → RootIsPlaced r) }
     ensures cause { IfErr result (IsCause (IsWorldUnready root.entry types.entry.now world others.now (functions_of functions.now)) (Unit {0})) }
 {
     let mut starts = Vec::new(alloc);
@@ -95,6 +98,7 @@ pub fn write_functions<'s>(
 ) -> Result<WrittenFunctions<'s>, Fault>
     requires { RootIsGood root types.now }
     ensures ok { IfOk result (λ w. AreTypesWritten root.entry w.root types.entry.now (functions_of functions.now) w.indices.items) }
+    ensures placed { IfOk result (λ w. HaveParametersApart (functions_of functions.now) → RootIsPlaced root.entry → RootIsPlaced w.root) }
     ensures cause { IfErr result (IsCause (HasUnwrittenType (IsRemembered (index_of root.entry.known)) (functions_of functions.now)) (Unit {0})) }
 {
     let mut root = root;

@@ -1,8 +1,13 @@
 pub mod Names
+pub mod Following
+pub mod Placed
+pub mod PlacedDeclarators
 pub mod Keeping
 pub mod OwnItems
 pub mod Insides
 pub mod RootImports
 pub mod Rooted
 pub mod Declared
+pub mod PlacedRoot
+pub mod PlacedInside
 pub mod Imported

@@ -1,5 +1,6 @@
 pub mod Imports
 pub mod Root
+pub mod Placing
 pub mod Inside
 pub mod Kept
 pub mod Views

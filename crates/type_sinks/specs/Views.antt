@@ -1,5 +1,5 @@
 -- The root of a component, and the type of an instance, as contracts see them.
-use Rattle.std.specs.Prelude.{◌≡◌, ◌⊎◌, ◌≤◌, ℕ, ◌+◌, ◌^◌, List, [], ◌∷◌, ◌++◌, length, map, get_or, slice_get, option_map, Option, None, Some, true, false, nat_eq, string_bytes}
+use Rattle.std.specs.Prelude.{◌≡◌, ◌⊎◌, ◌<◌, ◌≤◌, ℕ, ◌+◌, ◌^◌, List, [], ◌∷◌, ◌++◌, length, map, get_or, slice_get, option_map, Option, None, Some, true, false, nat_eq, string_bytes}
 use Rattle.std.specs.List.{list_any}
 use Rattle.distinct_names.specs.Names.{is_new}
 use Rattle.component_definitions.specs.declared.externs.Description.TheVariants as descriptions
@@ -23,6 +23,7 @@ use Rattle.type_writing.specs.Writing.{written, Stands, Begins, Setting, IsRemem
 use Rattle.type_writing.specs.Refusals.{IsCause}
 use Rattle.type_sinks.specs.Root.{InterfaceNames, root_label, is_of_world, imported_names, RootGood}
 use Rattle.type_sinks.specs.Imports.{names_in}
+use Rattle.type_sinks.specs.Placing.{ArePlaced, AreDeclaratorsPlaced}
 use Rattle.type_sinks.specs.Inside.{type_count, exported_names, is_of, inside_label, InsideGood}
 use Rattle.type_writing.specs.Functions.{FunctionUnfolds}
 use Rattle.type_sinks.specs.Kept.{index_of, AreKept}
@@ -63,6 +64,10 @@ IsFull r = 2 ^ 32 ≤ length (root_scope r).types + 1
 abbrev pub RootIsGood : Root → List TypeDef → Type 0
 RootIsGood r types = RootGood (interface_names r) (index_of r.known) (index_of r.homes) (root_scope r) types
 
+-- what is written may stand where it does
+abbrev pub RootIsPlaced : Root → Type 0
+RootIsPlaced r = ArePlaced (entry_values r)
+
 -- nothing is written, and nothing is remembered
 pub record IsSameRoot (old new : Root) : Type 0 where
   pub entries : entry_values new ≡ entry_values old
@@ -88,6 +93,8 @@ pub record IsTaken (old new : Root) (name : List ℕ) (id i : ℕ) : Type 0 wher
   pub functions : (root_scope new).functions ≡ (root_scope old).functions
   pub instances : (root_scope new).instances ≡ (root_scope old).instances
   pub home : IsRemembered (index_of old.homes) id
+  pub there : i < length (root_scope new).types
+  pub placed : (types : List TypeDef) → RootIsGood old types → RootIsPlaced old → RootIsPlaced new
   pub begins : Begins (root_scope old).types (root_scope new).types
   pub good : (types : List TypeDef) → RootIsGood old types → RootIsGood new types
   pub stands : (types : List TypeDef) (d : TypeDef) → RootIsGood old types → slice_get types id ≡ Some d → option_map string_bytes d.name ≡ Some name → Stands (root_label (interface_names new)) types (root_scope new).types (Id id) (Index i)
@@ -159,6 +166,10 @@ IsFullInside t = (2 ^ 32 ≤ type_count (declarator_values t) + 1) ⊎ IsFull t.
 -- what it remembers is so of these types
 abbrev pub InsideIsGood : InterfaceTypes → List TypeDef → Type 0
 InsideIsGood t types = InsideGood (interface_names t.root) (index_of t.root.known) (index_of t.root.homes) (root_scope t.root) (index_of t.known) t.exports.items (declarator_values t) t.interface types
+
+-- what is written may stand where it does, in the root as it is or with more types
+abbrev pub InsideIsPlaced : InterfaceTypes → Type 0
+InsideIsPlaced t = RootIsPlaced t.root × AreDeclaratorsPlaced (length (root_scope t.root).types) (declarator_values t)
 
 -- the type with that id is exported
 abbrev pub IsGiven : InterfaceTypes → ℕ → Type 0

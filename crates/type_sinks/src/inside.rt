@@ -12,6 +12,7 @@ ghost use Rattle.type_sinks.specs.Kept.{index_of};
 ghost use Rattle.type_sinks.specs.Inside.{declares, type_count, exported_name, exported_names, is_of, TakenAreApart};
 ghost use Rattle.type_sinks.specs.Refusals.{IsFunctionCause};
 ghost use Rattle.type_writing.specs.Functions.{function_form};
+ghost use Rattle.type_writing.specs.Placing.{AreParametersApart};
 ghost use Rattle.type_writing.specs.Refusals.{IsCause};
 
 use crate::kept::Kept;
@@ -67,7 +68,7 @@ fn export<'s>(
 }
 
 impl<'s> InterfaceTypes<'s> {
-    ghost use Rattle.type_sinks.specs.Views.{root_scope, interface_names, root_names, RootIsGood, IsFull, declarator_values, inside, inside_names, inside_setting, InsideIsGood, IsFullInside, IsGiven, IsSameInside, IsDeclared, IsImported, IsImportCause, IsInstanceWith, IsTypeOf, HasFunction, InstanceHasFunction};
+    ghost use Rattle.type_sinks.specs.Views.{root_scope, interface_names, root_names, RootIsGood, RootIsPlaced, IsFull, declarator_values, inside, inside_names, inside_setting, InsideIsGood, InsideIsPlaced, IsFullInside, IsGiven, IsSameInside, IsDeclared, IsImported, IsImportCause, IsInstanceWith, IsTypeOf, HasFunction, InstanceHasFunction};
     ghost use Rattle.type_meaning.specs.Words.{imported};
     ghost use Rattle.type_writing.specs.Writing.{Begins};
 
@@ -79,6 +80,7 @@ impl<'s> InterfaceTypes<'s> {
         ensures exports { result.exports.items ≡ [] }
         ensures table { (id : ℕ) → index_of result.known id ≡ None }
         ensures good { (types : List Def) → RootIsGood root.entry types → TakenAreApart (index_of root.entry.homes) interface types → InsideIsGood result types }
+        ensures placed { RootIsPlaced root.entry → InsideIsPlaced result }
     {
         InterfaceTypes {
             root,
@@ -97,6 +99,7 @@ impl<'s> InterfaceTypes<'s> {
     pub fn import(self) -> Result<Root<'s>, Fault>
         ensures imported { IfOk result (λ r. IsImported self.entry.root r self.entry.interface (declarator_values self.entry) self.entry.exports.items) }
         ensures good { IfOk result (λ r. (types : List Def) → InsideIsGood self.entry types → RootIsGood r types) }
+        ensures placed { IfOk result (λ r. InsideIsPlaced self.entry → RootIsPlaced r) }
         ensures homes { IfOk result (λ r. (id : ℕ) → IsGiven self.entry id → index_of r.homes id ≡ Some (length (root_scope self.entry.root).instances)) }
         ensures interfaces { IfOk result (λ r. interface_names r ≡ interface_names self.entry.root) }
         ensures known { IfOk result (λ r. index_of r.known ≡ index_of self.entry.root.known) }
@@ -187,6 +190,7 @@ impl<'s> InterfaceTypes<'s> {
         ensures err { OnErr result (inside_names self.new ≡ inside_names self.old) }
         ensures begins { Begins (inside self.old).types (inside self.new).types }
         ensures good { (types : List Def) → InsideIsGood self.old types → InsideIsGood self.new types }
+        ensures placed { (types : List Def) → InsideIsGood self.old types → AreParametersApart params.entry.now → InsideIsPlaced self.old → InsideIsPlaced self.new }
         ensures has { IfOk result (λ _. (types : List Def) → InsideIsGood self.old types → HasFunction self.new types name.entry.now params.entry.now answer.now) }
         ensures keeps { (types : List Def) (other : List ℕ) (asked : List Parameter) (given : Option Ref) → HasFunction self.old types other asked given → HasFunction self.new types other asked given }
         ensures cause { IfErr result (IsFunctionCause (index_of self.old.known) (function_form params.entry.now answer.now).parts (inside_names self.old) name.entry.now (IsFullInside self.new)) }
@@ -199,7 +203,7 @@ impl<'s> InterfaceTypes<'s> {
 
 impl<'s> ValtypeEncoder<'s> for InterfaceTypes<'s> {
     ghost use Rattle.type_sinks.specs.Kept.{index_of};
-    ghost use Rattle.type_sinks.specs.Views.{root_scope, inside, inside_names, inside_setting, InsideIsGood, IsFullInside, IsGiven};
+    ghost use Rattle.type_sinks.specs.Views.{root_scope, inside, inside_names, inside_setting, InsideIsGood, InsideIsPlaced, IsFullInside, IsGiven};
 
     ghost setting = { inside_setting };
 
@@ -212,6 +216,8 @@ impl<'s> ValtypeEncoder<'s> for InterfaceTypes<'s> {
     ghost given = { IsGiven };
 
     ghost good = { InsideIsGood };
+
+    ghost placed = { InsideIsPlaced };
 
     ghost full = { IsFullInside };
 

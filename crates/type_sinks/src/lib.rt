@@ -7,5 +7,5 @@ mod law;
 mod root;
 
 pub use inside::InterfaceTypes;
-pub use law::{law_imports_are_named, law_items_are_found};
+pub use law::{law_imports_are_named, law_items_are_found, law_known_is_what_stands};
 pub use root::Root;

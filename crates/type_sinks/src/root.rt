@@ -1,6 +1,6 @@
 //! The root of a component.
 
-ghost use Rattle.std.specs.Prelude.{◌≡◌, ◌⊎◌, ◌≤◌, ◌+◌, ◌^◌, [], ◌∷◌, ◌++◌, ℕ, List, Option, length, map, IfOk, IfErr, OnErr, OnOk, None, true, false, string_bytes};
+ghost use Rattle.std.specs.Prelude.{◌≡◌, ◌⊎◌, ◌<◌, ◌≤◌, ◌+◌, ◌^◌, [], ◌∷◌, ◌++◌, ℕ, List, Option, length, map, IfOk, IfErr, OnErr, OnOk, None, true, false, string_bytes};
 ghost use Rattle.component_definitions.specs.declared.externs.Description.TheVariants as descriptions;
 ghost use Rattle.component_instances.specs.Declarators.{declarator_value};
 ghost use Rattle.component_definitions.specs.declared.sorts.ComponentSort.TheVariants as sorts;
@@ -15,6 +15,7 @@ ghost use Rattle.type_sinks.specs.Kept.{index_of};
 ghost use Rattle.type_sinks.specs.Refusals.{IsFunctionCause};
 ghost use Rattle.type_sinks.specs.Root.{imported_name, imported_names};
 ghost use Rattle.type_writing.specs.Functions.{function_form};
+ghost use Rattle.type_writing.specs.Placing.{AreParametersApart};
 ghost use Rattle.type_writing.specs.Refusals.{IsCause};
 
 use crate::kept::Kept;
@@ -74,7 +75,7 @@ fn import<'s>(
 }
 
 impl<'s> Root<'s> {
-    ghost use Rattle.type_sinks.specs.Views.{entry_values, root_scope, interface_names, root_names, RootIsGood, IsFull, IsSameRoot, IsAdded, IsTaken, IsImported, IsImportCause, AddsOneType};
+    ghost use Rattle.type_sinks.specs.Views.{entry_values, root_scope, interface_names, root_names, RootIsGood, RootIsPlaced, IsFull, IsSameRoot, IsAdded, IsTaken, IsImported, IsImportCause, AddsOneType};
 
     /// A root where nothing is written, for interfaces that are imported under these names, by their ids.
     pub fn new(alloc: Global, names: &'s [String]) -> Root<'s>
@@ -82,6 +83,7 @@ impl<'s> Root<'s> {
         ensures names { interface_names result ≡ map string_bytes names.entry.now }
         ensures homes { (id : ℕ) → index_of result.homes id ≡ None }
         ensures good { (defs : List Def) → RootIsGood result defs }
+        ensures placed { RootIsPlaced result }
     {
         Root {
             entries: Vec::new(alloc),
@@ -206,7 +208,7 @@ impl<'s> Root<'s> {
 impl<'s> Root<'s> {
     ghost use Rattle.type_meaning.specs.Words.{Site};
     ghost use Rattle.type_meaning.specs.Scope.{import_label};
-    ghost use Rattle.type_sinks.specs.Views.{root_scope, interface_names, root_names, root_setting, RootIsGood, IsFull, IsFullOfFunctions, IsSameRoot, IsAdded, IsFunctionAt, InstanceHasFunction, AddsOneFunction};
+    ghost use Rattle.type_sinks.specs.Views.{root_scope, interface_names, root_names, root_setting, RootIsGood, RootIsPlaced, IsFull, IsFullOfFunctions, IsSameRoot, IsAdded, IsFunctionAt, InstanceHasFunction, AddsOneFunction};
     ghost use Rattle.type_writing.specs.Writing.{Begins};
 
     /// Imports a function of the type at an index, and answers its index among the functions.
@@ -240,6 +242,7 @@ impl<'s> Root<'s> {
         ensures functions { Begins (root_scope self.old).functions (root_scope self.new).functions }
         ensures instances { (root_scope self.new).instances ≡ (root_scope self.old).instances }
         ensures good { (types : List Def) → RootIsGood self.old types → RootIsGood self.new types }
+        ensures placed { (types : List Def) → RootIsGood self.old types → AreParametersApart params.entry.now → RootIsPlaced self.old → RootIsPlaced self.new }
         ensures names { OnOk result (root_names self.new ≡ root_names self.old ++ name.entry.now ∷ []) }
         ensures index { IfOk result (λ i. (i ≡ length (root_scope self.old).functions) × (length (root_scope self.new).functions ≡ i + 1)) }
         ensures is { IfOk result (λ i. (types : List Def) → RootIsGood self.old types → IsFunctionAt self.new i (import_label name.entry.now) types params.entry.now answer.now) }
@@ -271,6 +274,7 @@ impl<'s> Root<'s> {
         ensures ok { IfOk result (λ i. (i ≡ length (root_scope self.old).functions) × IsAdded self.old self.new (an_alias (instance_export sorts.Function instance name.entry.now))) }
         ensures err { OnErr result (IsSameRoot self.old self.new) }
         ensures good { (types : List Def) → RootIsGood self.old types → RootIsGood self.new types }
+        ensures placed { instance < length (root_scope self.old).instances → RootIsPlaced self.old → RootIsPlaced self.new }
         ensures is { IfOk result (λ i. (site : Site) (types : List Def) (params : List Parameter) (answer : Option Ref) → InstanceHasFunction self.old instance site types name.entry.now params answer → IsFunctionAt self.new i (record { site = site; name = name.entry.now }) types params answer) }
         ensures cause { IfErr result (IsCause ⊥ (IsFullOfFunctions self.new)) }
     {
@@ -285,7 +289,7 @@ impl<'s> Root<'s> {
 
 impl<'s> ValtypeEncoder<'s> for Root<'s> {
     ghost use Rattle.type_sinks.specs.Kept.{index_of};
-    ghost use Rattle.type_sinks.specs.Views.{root_scope, root_setting, root_names, RootIsGood, IsFull};
+    ghost use Rattle.type_sinks.specs.Views.{root_scope, root_setting, root_names, RootIsGood, RootIsPlaced, IsFull};
 
     ghost setting = { root_setting };
 
@@ -298,6 +302,8 @@ impl<'s> ValtypeEncoder<'s> for Root<'s> {
     ghost given = { λ _ _. Unit {0} };
 
     ghost good = { RootIsGood };
+
+    ghost placed = { RootIsPlaced };
 
     ghost full = { IsFull };
 

@@ -1,3 +1,4 @@
 pub mod Standing
+pub mod Placing
 pub mod Refusals
 pub mod Texts

@@ -1,6 +1,6 @@
 //! What takes types.
 
-ghost use Rattle.std.specs.Prelude.{◌≡◌, ℕ, List, ◌++◌, ◌∷◌, [], length, slice_get, IfOk, IfSome, IfErr, OnOk, OnErr, Some, None, option_map, string_bytes, true, false};
+ghost use Rattle.std.specs.Prelude.{◌≡◌, ℕ, List, ◌++◌, ◌<◌, ◌∷◌, [], length, slice_get, IfOk, IfSome, IfErr, OnOk, OnErr, Some, None, option_map, string_bytes, true, false};
 ghost use Rattle.wit_types.specs.declared.interface.TypeDef.{TypeDef as Def};
 ghost use Rattle.wit_types.specs.declared.kind.«Type».TheVariants.{Id};
 ghost use Rattle.component_value_types.specs.declared.values.ValueType.TheVariants.{Index};
@@ -8,6 +8,7 @@ ghost use Rattle.component_value_types.specs.Types.{defined_type_value};
 ghost use Rattle.distinct_names.specs.Names.{is_new};
 ghost use Rattle.type_meaning.specs.Items.{item_at, named_item, type_item};
 ghost use Rattle.type_writing.specs.declared.fault.Fault.TheVariants.{OutOfMemory};
+ghost use Rattle.type_writing.specs.Placing.{MayBeDefined};
 ghost use Rattle.type_writing.specs.Refusals.{IsCause};
 ghost use Rattle.type_writing.specs.Writing.{Stands, KindStands, Begins, remembering};
 
@@ -40,6 +41,9 @@ pub trait ValtypeEncoder<'s> {
     /// What is remembered is so of these types.
     ghost good: { Self → List TypeDef → Type 0 };
 
+    /// What is written may stand where it does.
+    ghost placed: { Self → Type 0 };
+
     /// 32 bits can't say one more index.
     ghost full: { Self → Type 0 };
 
@@ -63,6 +67,7 @@ pub trait ValtypeEncoder<'s> {
         ensures names { names self.new ≡ names self.old }
         ensures keeps { (k : ℕ) → given self.old k → given self.new k }
         ensures good { (types : List Def) → good self.old types → good self.new types }
+        ensures placed { MayBeDefined (length (space self.old)) (defined_type_value ty.entry) → placed self.old → placed self.new }
         ensures ok { IfOk result (λ i. (i ≡ length (space self.old)) × (space self.new ≡ space self.old ++ type_item (space self.old) (defined_type_value ty.entry) ∷ [])) }
         ensures err { OnErr result (space self.new ≡ space self.old) }
         ensures cause { IfErr result (IsCause ⊥ (full self.new)) };
@@ -83,6 +88,7 @@ pub trait ValtypeEncoder<'s> {
         ensures gives { OnOk result (given self.new id) }
         ensures keeps { (k : ℕ) → given self.old k → given self.new k }
         ensures good { OnOk result ((types : List Def) (d : Def) → good self.old types → slice_get types id ≡ Some d → d.owner ≡ owner → option_map string_bytes d.name ≡ Some name.entry.now → KindStands (setting self.old).label types (space self.old) d.kind index → good self.new types) }
+        ensures placed { index < length (space self.old) → placed self.old → placed self.new }
         ensures ok { IfOk result (λ i. (i ≡ length (space self.old)) × (space self.new ≡ space self.old ++ named_item ((setting self.old).label (record { owner = owner; name = name.entry.now })) (item_at (space self.old) index) ∷ [])) }
         ensures err { OnErr result ((space self.new ≡ space self.old) × (names self.new ≡ names self.old) × ((types : List Def) → good self.old types → good self.new types)) }
         ensures cause { IfErr result (IsCause (is_new (names self.old) name.entry.now ≡ false) (full self.new)) };
@@ -97,6 +103,7 @@ pub trait ValtypeEncoder<'s> {
         ensures names { names self.new ≡ names self.old }
         ensures keeps { (k : ℕ) → given self.old k → given self.new k }
         ensures begins { (types : List Def) → good self.old types → Begins (space self.old) (space self.new) }
+        ensures placed { (types : List Def) → good self.old types → placed self.old → placed self.new }
         ensures ok { IfOk result (λ i. (types : List Def) (d : Def) → good self.old types → slice_get types id ≡ Some d → d.owner ≡ owner → option_map string_bytes d.name ≡ Some name.entry.now → good self.new types × Stands (setting self.new).label types (space self.new) (Id id) (Index i)) }
         ensures err { OnErr result ((types : List Def) → good self.old types → good self.new types) }
         ensures cause { IfErr result (IsCause ((setting self.old).homes id ≡ None) (full self.new)) };
@@ -108,6 +115,7 @@ pub trait ValtypeEncoder<'s> {
         ensures space { space self.new ≡ space self.old }
         ensures names { names self.new ≡ names self.old }
         ensures keeps { (k : ℕ) → given self.old k → given self.new k }
+        ensures placed { placed self.old → placed self.new }
         ensures kept { OnOk result ((k : ℕ) → table self.new k ≡ remembering (table self.old) id index k) }
         ensures good { OnOk result ((types : List Def) → good self.old types → Stands (setting self.old).label types (space self.old) (Id id) (Index index) → good self.new types) }
         ensures err { OnErr result ((types : List Def) → good self.old types → good self.new types) }

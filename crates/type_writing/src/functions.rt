@@ -7,6 +7,7 @@ ghost use Rattle.wit_types.specs.declared.interface.TypeDef.{TypeDef as Def};
 ghost use Rattle.type_meaning.specs.Syntax.{names_of};
 ghost use Rattle.type_writing.specs.Writing.{Begins, PartsStand, IsRemembered};
 ghost use Rattle.type_writing.specs.Functions.{IsFunctionOf, FunctionStands, function_form};
+ghost use Rattle.type_writing.specs.Placing.{AreParametersApart};
 ghost use Rattle.type_writing.specs.Refusals.{IsCause, AreUnready};
 
 use crate::encoder::ValtypeEncoder;
@@ -70,6 +71,7 @@ pub fn write_function<'s, S: ValtypeEncoder<'s>>(
     ensures begins { Begins (S.space sink.old) (S.space sink.new) }
     ensures err { OnErr result (S.space sink.new ≡ S.space sink.old) }
     ensures good { (types : List Def) → S.good sink.old types → S.good sink.new types }
+    ensures placed { (types : List Def) → S.good sink.old types → AreParametersApart params.entry.now → S.placed sink.old → S.placed sink.new }
     ensures stands { (types : List Def) → S.good sink.old types → IfOk result (λ i. FunctionStands (S.setting sink.new).label types (S.space sink.new) params.entry.now answer.now i) }
     ensures cause { IfErr result (IsCause (AreUnready (IsRemembered (S.table sink.old)) (function_form params.entry.now answer.now).parts) (S.full sink.new)) }
 {

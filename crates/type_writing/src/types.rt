@@ -7,6 +7,7 @@ ghost use Rattle.wit_order.specs.Order.{Has};
 ghost use Rattle.wit_types.specs.declared.interface.TypeDef.{TypeDef as Def};
 ghost use Rattle.wit_types.specs.declared.kind.«Type».TheVariants.{Id};
 ghost use Rattle.wit_types.specs.declared.kind.TypeDefKind.TheVariants as kind;
+ghost use Rattle.type_writing.specs.Placing.{HasLabelsApart, AreLabelsApart};
 ghost use Rattle.type_writing.specs.Refusals.{IsCause, IsUnready, IsKindUnready, IsTypeUnready, AreTypesUnready};
 ghost use Rattle.type_writing.specs.Writing.{Stands, KindStands, Begins, HasItsName, name_of, names_of_types, IsRemembered};
 
@@ -25,6 +26,7 @@ fn write_alias<'s, S: ValtypeEncoder<'s>>(sink: &mut S, ty: &Type) -> Result<u32
     ensures names { S.names sink.new ≡ S.names sink.old }
     ensures given { (k : ℕ) → S.given sink.old k → S.given sink.new k }
     ensures keeps { (types : List Def) → S.good sink.old types → Begins (S.space sink.old) (S.space sink.new) × S.good sink.new types }
+    ensures placed { S.placed sink.old → S.placed sink.new }
     ensures stands { (types : List Def) → S.good sink.old types → IfOk result (λ i. KindStands (S.setting sink.new).label types (S.space sink.new) (kind.Alias ty.now) i) }
     ensures cause { IfErr result (IsCause (IsUnready (IsRemembered (S.table sink.old)) (Some ty.now)) (S.full sink.new)) }
 {
@@ -46,6 +48,7 @@ fn write_kind<'s, S: ValtypeEncoder<'s>>(
     ensures names { S.names sink.new ≡ S.names sink.old }
     ensures given { (k : ℕ) → S.given sink.old k → S.given sink.new k }
     ensures keeps { (types : List Def) → S.good sink.old types → Begins (S.space sink.old) (S.space sink.new) × S.good sink.new types }
+    ensures placed { (types : List Def) → S.good sink.old types → HasLabelsApart kind.entry.now → S.placed sink.old → S.placed sink.new }
     ensures stands { (types : List Def) → S.good sink.old types → IfOk result (λ i. KindStands (S.setting sink.new).label types (S.space sink.new) kind.entry.now i) }
     ensures cause { IfErr result (IsCause (IsKindUnready (IsRemembered (S.table sink.old)) kind.entry.now) (S.full sink.new)) }
 {
@@ -69,6 +72,7 @@ fn write_named<'s, S: ValtypeEncoder<'s>>(
     ensures outside { Begins (S.outside sink.old) (S.outside sink.new) }
     ensures begins { Begins (S.space sink.old) (S.space sink.new) }
     ensures good { S.good sink.new types.entry.now }
+    ensures placed { AreLabelsApart types.entry.now → S.placed sink.old → S.placed sink.new }
     ensures table { S.table sink.new ≡ S.table sink.old }
     ensures names { OnOk result (S.names sink.new ≡ S.names sink.old ++ name_of (S.setting sink.old) (slice_get types.entry.now id)) }
     ensures given { (k : ℕ) → S.given sink.old k → S.given sink.new k }
@@ -103,6 +107,7 @@ pub fn write_type<'s, S: ValtypeEncoder<'s>>(
     ensures outside { Begins (S.outside sink.old) (S.outside sink.new) }
     ensures begins { Begins (S.space sink.old) (S.space sink.new) }
     ensures good { S.good sink.new types.entry.now }
+    ensures placed { AreLabelsApart types.entry.now → S.placed sink.old → S.placed sink.new }
     ensures remembered { IfOk result (λ i. S.table sink.new id ≡ Some i) }
     ensures remembers { OnOk result ((k : ℕ) → IsRemembered (S.table sink.old) k → IsRemembered (S.table sink.new) k) }
     ensures names { OnOk result (S.names sink.new ≡ S.names sink.old ++ name_of (S.setting sink.old) (slice_get types.entry.now id)) }
@@ -131,6 +136,7 @@ pub fn write_types<'s, S: ValtypeEncoder<'s>>(
     ensures outside { Begins (S.outside sink.old) (S.outside sink.new) }
     ensures begins { Begins (S.space sink.old) (S.space sink.new) }
     ensures good { S.good sink.new types.entry.now }
+    ensures placed { AreLabelsApart types.entry.now → S.placed sink.old → S.placed sink.new }
     ensures remembered { OnOk result ((k : ℕ) → IsRemembered (S.table sink.old) k ⊎ Has ids.now k → IsRemembered (S.table sink.new) k) }
     ensures names { OnOk result (S.names sink.new ≡ S.names sink.old ++ names_of_types (S.setting sink.old) types.entry.now ids.now) }
     ensures given { (k : ℕ) → S.given sink.old k → S.given sink.new k }

@@ -12,7 +12,7 @@ use Rattle.type_writing.proofs.Refusals.{cause_weaker}
 use Rattle.type_sinks.specs.Kept.{index_of}
 use Rattle.type_sinks.specs.Views.{inside_names, HasFunction}
 use Rattle.component_imports.specs.Functions.{functions_of, HasFunctionOf}
-use Rattle.component_imports.proofs.Exported.{names_next, has_next, functions_cause}
+use Rattle.component_imports.proofs.Exported.{names_next, has_next, parameters_at, functions_cause}
 use Rattle.component_imports.proofs.functions.export_functions.Goals as goal
 
 pub loop-function-preserved : goal.loop-function-preserved
@@ -36,12 +36,18 @@ loop-function-preserved c =
       exports = a.exports ∙ before.exports;
       names = names_next fs i f c.as_str.result.now (inside_names start) (inside_names old) (inside_names new) lt at name before.names a.names;
       good = λ types g. a.good types (before.good types g);
+      placed = λ types g apart p. a.placed types (before.good types g) (parameters_at fs i f c.deref.result.now lt at params apart) (before.placed types g apart p);
       has = λ types g. has_next (HasFunctionOf old types) (HasFunctionOf new types) fs i f lt at (λ h. a.keeps types _ _ _) (before.has types g)
           (subst (λ n. HasFunction new types n f.now.params.items f.now.result) name (subst (λ (ps : List Param). HasFunction new types c.as_str.result.now ps f.now.result) params (a.has types (before.good types g))));
     }
 
 pub returns-in_err-export_function-clause-good : goal.returns-in_err-export_function-clause-good
 returns-in_err-export_function-clause-good c = λ types g. c.in_err-export_function.ensures.good types (c.loop-function.invariant.good types g)
+
+pub returns-in_err-export_function-clause-placed : goal.returns-in_err-export_function-clause-placed
+returns-in_err-export_function-clause-placed c = λ types g apart p.
+    let before = c.loop-function.invariant in
+    c.in_err-export_function.ensures.placed types (before.good types g) (parameters_at c.args.functions.now c.loop-function.function-index c.function-item.result c.deref.result.now c.loop-function-test.true c.function-item.is c.deref.ensures.value apart) (before.placed types g apart p)
 
 pub returns-clause-has : goal.returns-clause-has
 returns-clause-has c = λ types g.

@@ -46,5 +46,6 @@ returns c =
     } in
     record {
       ok = IfOk-weaker c.import.result _ _ (λ r h. all_imported root t r types interface ids fs filled h) (put_of c.import.result t types p.good w.good p.homes p.others p.only p.interfaces p.known p.begins p.same p.names p.items p.functions);
+      placed = IfOk-weaker c.import.result _ _ (λ r h labels parameters p. h (w.placed labels parameters (a.placed p))) p.placed;
       cause = IfErr-weaker c.import.result _ _ (λ e h. put_unready _ root t interface e set h) p.cause;
     }

@@ -23,6 +23,12 @@ returns-clause-named c =
 pub returns-clause-good : goal.returns-clause-good
 returns-clause-good c = c.export_functions.ensures.good c.args.types.now c.in_ok-write_types.ensures.good
 
+pub returns-clause-placed : goal.returns-clause-placed
+returns-clause-placed c = λ labels parameters p. c.export_functions.ensures.placed c.args.types.now c.in_ok-write_types.ensures.good parameters (c.in_ok-write_types.ensures.placed labels p)
+
+pub returns-in_err-write_types-clause-placed : goal.returns-in_err-write_types-clause-placed
+returns-in_err-write_types-clause-placed c = λ labels parameters p. c.in_err-write_types.ensures.placed labels p
+
 pub returns-clause-has : goal.returns-clause-has
 returns-clause-has c =
     let types = c.args.types.now in

@@ -1,10 +1,11 @@
 use Rattle.std.proofs.Common.{◌≡◌, ◌+◌, ◌++◌, ◌∷◌, [], sym, ap, refl, ◌∙◌, subst, Some, length, arith}
 use Rattle.std.specs.Prelude.{slice_get}
 use Rattle.wit_reach.specs.Types.{AreTypesThere}
-use Rattle.component_imports.specs.Functions.{functions_of}
+use Rattle.component_imports.specs.Functions.{functions_of, HaveParametersApart}
 use Rattle.component_imports.specs.Interfaces.{ids_of, linked_of}
 use Rattle.std.proofs.lemmas.Result.{err_from_is_err_and}
 use Rattle.type_writing.proofs.Refusals.{cause_weaker}
+use Rattle.component_imports.proofs.Exported.{each_get}
 use Rattle.component_imports.proofs.Readied.{ready_imported}
 use Rattle.component_imports.proofs.Turns.{ready_now}
 use Rattle.component_imports.proofs.Needing.{AreImportedTo, all_needed, needed_there, functions_there, linked_at, linked_count, imported_next, all_imported, taken_apart}
@@ -22,7 +23,7 @@ import_needed-requires-clause-functions_there c =
     (functions_there types c.args.others.now (linked_of vs) c.loop-index.index (functions_of v.items) c.requires.there (linked_at vs c.loop-index.index v c.loop-index-test.true c.index-linked-index.is))
 
 pub import_needed-requires-clause-apart : goal.import_needed-requires-clause-apart
-import_needed-requires-clause-apart c = taken_apart c.args.root c.loop-index.root c.args.types.now c.loop-index.instances.items c.in_ok-found.found (linked_of c.args.linked.now) c.loop-index.index c.from_index-interface.result c.from_index-interface.ensures c.requires.apart c.loop-index.invariant
+import_needed-requires-clause-apart c = taken_apart c.args.root c.loop-index.root c.args.types.now c.loop-index.instances.items c.in_ok-found.found (linked_of c.args.linked.now) c.loop-index.index c.from_index-interface.result c.from_index-interface.ensures c.requires.apart c.loop-index.invariant.imported
 
 pub loop-index-preserved : goal.loop-index-preserved
 loop-index-preserved c =
@@ -37,9 +38,12 @@ loop-index-preserved c =
     let at = linked_at vs n v c.loop-index-test.true c.index-linked-index.is ∙ ap (λ fs. Some (functions_of fs)) (sym c.as_slice-functions.ensures.value) in
     let ids = c.of_interface-of_interface.result.now in
     let fs = functions_of c.as_slice-functions.result.now in
-    subst (λ is. AreImportedTo c.args.root c.in_ok-root.root types is c.in_ok-found.found (linked_of vs) (n + 1))
-    (sym (c.in_ok-push.ensures.items ∙ ap (λ o. c.loop-index.instances.items ++ o ∷ []) c.next_instance-instance.ensures))
-    (imported_next c.args.root c.loop-index.root c.in_ok-root.root types c.loop-index.instances.items others c.in_ok-found.found (linked_of vs) n own ids fs c.from_index-interface.ensures all here at c.loop-index.invariant c.in_ok-root.ensures.ok)
+    record {
+      imported = subst (λ is. AreImportedTo c.args.root c.in_ok-root.root types is c.in_ok-found.found (linked_of vs) (n + 1))
+          (sym (c.in_ok-push.ensures.items ∙ ap (λ o. c.loop-index.instances.items ++ o ∷ []) c.next_instance-instance.ensures))
+          (imported_next c.args.root c.loop-index.root c.in_ok-root.root types c.loop-index.instances.items others c.in_ok-found.found (linked_of vs) n own ids fs c.from_index-interface.ensures all here at c.loop-index.invariant.imported c.in_ok-root.ensures.ok);
+      placed = λ labels parameters p. c.in_ok-root.ensures.placed labels (each_get HaveParametersApart (linked_of vs) n fs parameters at) (c.loop-index.invariant.placed labels parameters p);
+    }
 
 pub returns : goal.returns
 returns c =
@@ -55,8 +59,9 @@ returns c =
       ok = record {
         needed = found;
         are = all;
-        imported = all_imported c.args.root c.loop-index.root types c.loop-index.instances.items found (linked_of vs) c.loop-index.index count (all.size ∙ count) c.loop-index.invariant;
+        imported = all_imported c.args.root c.loop-index.root types c.loop-index.instances.items found (linked_of vs) c.loop-index.index count (all.size ∙ count) c.loop-index.invariant.imported;
       };
+      placed = c.loop-index.invariant.placed;
       written = λ can. tt;
     }
 
@@ -74,7 +79,7 @@ returns-in_err-root-clause-written c = λ can.
     let all = all_needed _ types vs others c.in_ok-ids.ids.items c.as_slice.result.now found refl c.as_slice.ensures.value c.in_ok-ids.ensures c.in_ok-found.ensures in
     let at = linked_at vs n v c.loop-index-test.true c.index-linked-index.is ∙ ap (λ l. Some (functions_of l)) (sym c.as_slice-functions.ensures.value) in
     let here : slice_get (linked_of vs) own ≡ Some fs = ap (slice_get (linked_of vs)) c.from_index-interface.ensures ∙ at in
-    let before = subst (AreImportedTo c.args.root c.loop-index.root types c.loop-index.instances.items found (linked_of vs)) (sym c.from_index-interface.ensures) c.loop-index.invariant in
+    let before = subst (AreImportedTo c.args.root c.loop-index.root types c.loop-index.instances.items found (linked_of vs)) (sym c.from_index-interface.ensures) c.loop-index.invariant.imported in
     let moved = err_from_is_err_and c.from_residual-in_err-root.result c.from_residual-in_err-root.ensures.1 in
     rw (moved.1, moved.2)
     (cause_weaker (λ h.

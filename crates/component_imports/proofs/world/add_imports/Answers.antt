@@ -12,7 +12,7 @@ use Rattle.type_writing.specs.Refusals.{AreUnready}
 use Rattle.type_writing.specs.Writing.{IsRemembered}
 use Rattle.type_writing.proofs.Refusals.{cause_weaker}
 use Rattle.type_sinks.specs.Kept.{index_of}
-use Rattle.component_imports.proofs.Exported.{names_next, functions_cause}
+use Rattle.component_imports.proofs.Exported.{names_next, parameters_at, functions_cause}
 use Rattle.component_imports.proofs.Worldly.{functions_at_stay, at_next}
 use Rattle.component_imports.proofs.world.add_imports.Goals as goal
 
@@ -44,6 +44,7 @@ loop-function-preserved c =
       functions = begins_on (root_scope start).functions (root_scope old).functions (root_scope new).functions before.functions a.functions;
       instances = a.instances ∙ before.instances;
       good = λ types g. a.good types (before.good types g);
+      placed = λ types g apart p. a.placed types (before.good types g) (parameters_at fs n f c.deref.result.now lt at params apart) (before.placed types g apart p);
       names = names_next fs n f c.as_str.result.now (root_names start) (root_names old) (root_names new) lt at name before.names a.names;
       count = omega (arith, count, here);
       are = λ types g.
@@ -53,6 +54,11 @@ loop-function-preserved c =
 
 pub returns-in_err-import_function-clause-good : goal.returns-in_err-import_function-clause-good
 returns-in_err-import_function-clause-good c = λ types g. c.in_err-import_function.ensures.good types (c.loop-function.invariant.good types g)
+
+pub returns-in_err-import_function-clause-placed : goal.returns-in_err-import_function-clause-placed
+returns-in_err-import_function-clause-placed c = λ types g apart p.
+    let before = c.loop-function.invariant in
+    c.in_err-import_function.ensures.placed types (before.good types g) (parameters_at c.args.functions.now c.loop-function.function-index c.function-item.result c.deref.result.now c.loop-function-test.true c.function-item.is c.deref.ensures.value apart) (before.placed types g apart p)
 
 pub returns-in_err-import_function-clause-cause : goal.returns-in_err-import_function-clause-cause
 returns-in_err-import_function-clause-cause c =

@@ -2,8 +2,8 @@ use Rattle.std.proofs.Common.{◌≡◌, ◌++◌, ◌+◌, List, length, take}
 use Rattle.wit_types.specs.declared.interface.TypeDef.{TypeDef}
 use Rattle.type_writing.specs.Writing.{Begins}
 use Rattle.type_sinks.specs.Kept.{index_of}
-use Rattle.type_sinks.specs.Views.{root_scope, root_names, interface_names, RootIsGood}
-use Rattle.component_imports.specs.Functions.{functions_of, function_names}
+use Rattle.type_sinks.specs.Views.{root_scope, root_names, interface_names, RootIsGood, RootIsPlaced}
+use Rattle.component_imports.specs.Functions.{functions_of, function_names, HaveParametersApart}
 use Rattle.component_imports.specs.World.{AreFunctionsAt}
 use Rattle.component_imports.proofs.world.add_imports.Given as goal
 
@@ -16,6 +16,7 @@ invariant-loop-function l = record {
   functions : Begins (root_scope l.initial.root).functions (root_scope l.root).functions;
   instances : (root_scope l.root).instances ≡ (root_scope l.initial.root).instances;
   good : (types : List TypeDef) → RootIsGood l.initial.root types → RootIsGood l.root types;
+  placed : (types : List TypeDef) → RootIsGood l.initial.root types → HaveParametersApart (functions_of l.functions) → RootIsPlaced l.initial.root → RootIsPlaced l.root;
   names : root_names l.root ≡ root_names l.initial.root ++ function_names (functions_of (take l.function-index l.functions));
   count : length (root_scope l.root).functions ≡ length (root_scope l.initial.root).functions + l.function-index;
   are : (types : List TypeDef) → RootIsGood l.initial.root types → AreFunctionsAt l.root (length (root_scope l.initial.root).functions) types (functions_of (take l.function-index l.functions));

@@ -60,6 +60,7 @@ returns c =
         names = a.names ∙ ap (λ l. l ++ function_names fs) given ∙ append_assoc (root_names old) (names_of_types (root_setting old) types ids) (function_names fs);
         has = subst (λ k. AreFunctionsAt new k types fs) (ap length functions) (a.are types w.good);
       };
+      placed = λ labels parameters p. a.placed types w.good parameters (w.placed labels p);
       cause = tt;
     }
 

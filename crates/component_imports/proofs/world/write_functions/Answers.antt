@@ -12,11 +12,12 @@ use Rattle.type_sinks.specs.Root.{root_label}
 use Rattle.type_sinks.specs.Views.{root_scope, interface_names}
 use Rattle.component_imports.specs.Functions.{functions_of}
 use Rattle.component_imports.specs.World.{AreTypesWritten}
+use Rattle.component_imports.proofs.Exported.{parameters_at}
 use Rattle.component_imports.proofs.Typed.{none_written, written_next, function_among}
 use Rattle.component_imports.proofs.world.write_functions.Goals as goal
 
 pub loop-function-init : goal.loop-function-init
-loop-function-init c = (none_written c.args.root c.args.types.now c.new-indices.result.items c.new-indices.ensures.items c.requires, refl)
+loop-function-init c = (none_written c.args.root c.args.types.now c.new-indices.result.items c.new-indices.ensures.items c.requires, refl, λ apart p. p)
 
 pub loop-function-preserved : goal.loop-function-preserved
 loop-function-preserved c =
@@ -33,6 +34,7 @@ loop-function-preserved c =
       written_next start old new types a.setting a.begins a.names (a.good types good) c.args.functions.now c.loop-function.function-index f c.loop-function.indices.items c.push.new.self.items i
           c.loop-function-test.true c.function-item.is c.in_ok-push.ensures.items stands before.0,
       ap (λ t. t) a.table ∙ before.1,
+      λ apart p. a.placed types good (parameters_at c.args.functions.now c.loop-function.function-index f c.deref.result.now c.loop-function-test.true c.function-item.is c.deref.ensures.value apart) (before.2 apart p),
     )
 
 pub returns-clause-ok : goal.returns-clause-ok

@@ -3,6 +3,7 @@ use Rattle.std.proofs.lemmas.Result.{IfOk-weaker, IfErr-weaker, err_from_is_err_
 use Rattle.component_value_types.specs.Types.{function, function_type_value}
 use Rattle.type_writing.specs.Writing.{Setting}
 use Rattle.type_writing.proofs.Standing.{begins_here, begins_same, in_either, function_stands}
+use Rattle.type_writing.proofs.Placing.{function_placed}
 use Rattle.type_writing.proofs.Refusals.{cause_weaker}
 use Rattle.type_writing.proofs.functions.write_function.Goals as goal
 
@@ -34,6 +35,7 @@ returns g c =
       begins = in_either c.define.result _ (λ i h. (_ ∷ [], h.1)) (λ e. begins_same (S.space sink) (S.space new) e) a.ok a.err;
       err = a.err;
       good = a.good;
+      placed = λ types good apart. a.placed (function_placed (S.setting sink).label types (S.space sink) c.args.params.now c.args.answer.now (function (function_type_value c.in_ok-function.function)) (c.in_ok-function.ensures.function types good) apart);
       stands = λ types good. IfOk-weaker c.define.result _ _ (λ i h.
           function_stands (S.setting sink).label (S.setting new).label types (S.space sink) (S.space new) c.args.params.now c.args.answer.now (function (function_type_value c.in_ok-function.function)) i (c.in_ok-function.ensures.function types good) label h.0 h.1) a.ok;
       cause = IfErr-weaker c.define.result _ _ (cause_weaker (λ h. absurd h) (λ h. h)) a.cause;

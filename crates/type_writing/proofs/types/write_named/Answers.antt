@@ -4,6 +4,7 @@ use Rattle.std.proofs.lemmas.Result.{IfOk-weaker, IfErr-weaker, on_ok_weaker}
 use Rattle.distinct_names.specs.Names.{is_new}
 use Rattle.type_writing.specs.Writing.{Setting, IsRemembered}
 use Rattle.type_writing.proofs.Standing.{begins_same, begins_on, in_either, on_ok_always, named_elsewhere, no_name, no_own_name, own_name, unnamed_stands, named_stands}
+use Rattle.type_writing.proofs.Placing.{kind_below, labels_at}
 use Rattle.type_writing.proofs.Refusals.{cause_weaker, unnamed_cause, own_name_cause, elsewhere_cause}
 use Rattle.type_writing.proofs.types.write_named.Goals as goal
 
@@ -41,6 +42,7 @@ returns-then-not-is_own g c =
       setting = a.setting;
       outside = a.outside;
       begins = a.begins types good;
+      placed = λ apart. a.placed types good;
       good = in_either c.foreign.result _ (λ i h. (h types def good c.get-def.ensures refl name).0) (λ e. e types good) a.ok a.err;
       table = a.table;
       names = on_ok_always c.foreign.result (a.names ∙ no_own_name (S.setting sink) types c.args.id def (S.names sink) c.get-def.ensures away);
@@ -68,6 +70,7 @@ returns g c =
       setting = a.setting ∙ body.setting;
       outside = begins_on (g.S.ValtypeEncoder.outside sink) (g.S.ValtypeEncoder.outside old) (g.S.ValtypeEncoder.outside new) body.outside a.outside;
       begins = begins_on (S.space sink) (S.space old) (S.space new) keeps.0 (in_either c.declare.result _ (λ i h. (_ ∷ [], h.1)) (λ e. begins_same (S.space old) (S.space new) e.0) a.ok a.err);
+      placed = λ apart p. a.placed (kind_below (S.setting old).label types (S.space old) def.kind c.in_ok-body.body stands) (body.placed types c.requires.good (labels_at types c.args.id def apart c.get-def.ensures) p);
       good = in_either c.declare.result _ (λ i h. h types def keeps.1 c.get-def.ensures refl name stands) (λ e. e.2 types keeps.1) a.good a.err;
       table = a.table ∙ body.table;
       names = on_ok_weaker c.declare.result (λ h. h ∙ ap (λ l. l ++ c.as_str-2.result.now ∷ []) body.names ∙ ap (λ l. S.names sink ++ l) (own_name (S.setting sink) types c.args.id def c.in-Some.name c.as_str-2.result.now c.get-def.ensures c.in-Some.is own c.as_str-2.ensures.value)) a.names;

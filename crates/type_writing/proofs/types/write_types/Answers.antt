@@ -28,6 +28,7 @@ loop-id-preserved g c =
       outside = begins_on (g.S.ValtypeEncoder.outside start) (g.S.ValtypeEncoder.outside old) (g.S.ValtypeEncoder.outside new) before.outside a.outside;
       begins = begins_on (S.space start) (S.space old) (S.space new) before.begins a.begins;
       good = a.good;
+      placed = λ apart p. a.placed apart (before.placed apart p);
       remembered = remembers_next (IsRemembered (S.table start)) (IsRemembered (S.table old)) (IsRemembered (S.table new)) ids i id lt at before.remembered a.remembers (c.in_ok-write_type.field-0, a.remembered);
       names = names_next (S.setting start) types (S.names start) (S.names old) (S.names new) ids i id lt at before.names (◌∙◌ {b = S.names old ++ name_of (S.setting old) (slice_get types id)} a.names (ap (λ (s : Setting). S.names old ++ name_of s (slice_get types id)) before.setting));
       given = λ k h. a.given k (before.given k h);

@@ -1,6 +1,7 @@
 use Rattle.std.proofs.Common.{◌≡◌, ◌⊎◌, ◌++◌, ℕ, take}
 use Rattle.std.specs.List.{AllByRecursion as Each}
 use Rattle.wit_order.specs.Order.{Has}
+use Rattle.type_writing.specs.Placing.{AreLabelsApart}
 use Rattle.type_writing.specs.Writing.{Begins, HasItsName, names_of_types, IsRemembered}
 use Rattle.type_writing.proofs.types.write_types.Given as goal
 
@@ -12,6 +13,7 @@ invariant-loop-id g l =
       outside : Begins (S.outside l.initial.sink) (S.outside l.sink);
       begins : Begins (S.space l.initial.sink) (S.space l.sink);
       good : S.good l.sink l.types;
+      placed : AreLabelsApart l.types → S.placed l.initial.sink → S.placed l.sink;
       remembered : (k : ℕ) → IsRemembered (S.table l.initial.sink) k ⊎ Has (take l.id-index l.ids) k → IsRemembered (S.table l.sink) k;
       names : S.names l.sink ≡ S.names l.initial.sink ++ names_of_types (S.setting l.initial.sink) l.types (take l.id-index l.ids);
       given : (k : ℕ) → S.given l.initial.sink k → S.given l.sink k;

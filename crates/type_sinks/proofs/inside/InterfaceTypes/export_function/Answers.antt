@@ -6,11 +6,13 @@ use Rattle.component_definitions.specs.declared.externs.Description.TheVariants 
 use Rattle.component_instances.specs.Declarators.{declared_type, declared_export}
 use Rattle.distinct_names.specs.Names.{is_new}
 use Rattle.type_sinks.specs.Inside.{exported_names}
-use Rattle.type_sinks.specs.Views.{inside_names, IsSameInside}
+use Rattle.type_sinks.specs.Views.{inside, inside_names, inside_setting, IsSameInside}
 use Rattle.type_writing.proofs.Standing.{in_either}
+use Rattle.type_writing.proofs.Placing.{function_placed}
 use Rattle.type_writing.proofs.Refusals.{cause_weaker}
 use Rattle.type_sinks.proofs.Rooted.{ok_always}
 use Rattle.type_sinks.proofs.Declared.{leaves_here, leaves_on, same_leaves, type_leaves, item_leaves, function_has, function_keeps, setting_same, names_after}
+use Rattle.type_sinks.proofs.PlacedInside.{declared_type_placed, export_function_placed, type_is_there, same_inside_placed}
 use Rattle.type_sinks.proofs.inside.InterfaceTypes.export_function.Goals as goal
 
 pub returns-in_err-function-clause-begins : goal.returns-in_err-function-clause-begins
@@ -33,6 +35,9 @@ returns-in_err-ty-clause-good c = (same_leaves c.args.self.now c.add.new.self c.
 
 pub returns-in_err-ty-clause-keeps : goal.returns-in_err-ty-clause-keeps
 returns-in_err-ty-clause-keeps c = λ types other params answer. function_keeps c.args.self.now c.add.new.self types other params answer (same_leaves c.args.self.now c.add.new.self c.in_err-ty.ensures.err)
+
+pub returns-in_err-ty-clause-placed : goal.returns-in_err-ty-clause-placed
+returns-in_err-ty-clause-placed c = λ types g apart. same_inside_placed c.args.self.now c.add.new.self c.in_err-ty.ensures.err
 
 pub returns-in_err-ty-clause-cause : goal.returns-in_err-ty-clause-cause
 returns-in_err-ty-clause-cause c =
@@ -62,6 +67,10 @@ returns c =
       err = on_err_weaker r (λ (s : IsSameInside mid new). ap exported_names s.declarators ∙ same) item.err;
       begins = a.begins;
       good = a.good;
+      placed = λ types g apart p.
+          let may = function_placed (inside_setting old).label types (inside old).types c.args.params.now c.args.answer.now d (c.in_ok-function.ensures.function types g) apart in
+          let before = declared_type_placed old mid d old.exports.items may ty.1 p in
+          in_either r _ (λ u h. export_function_placed mid new n i mid.exports.items h.0 (type_is_there old mid d i ty.0 ty.1) h.1 before) (λ s. same_inside_placed mid new s before) item.ok item.err;
       has = IfOk-weaker r _ _ (λ u h types g. function_has old mid new types c.args.params.now c.args.answer.now n d i ty.0 (c.in_ok-function.ensures.function types g) h.0 ty.1 h.1) item.ok;
       keeps = λ types other params answer. function_keeps old new types other params answer a;
       cause = IfErr-weaker r _ _ (cause_weaker (λ h. inr (ap (λ l. is_new l n) (sym same) ∙ h)) (λ h. absurd h)) item.cause;

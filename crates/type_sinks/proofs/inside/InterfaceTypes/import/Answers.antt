@@ -3,6 +3,7 @@ use Rattle.type_sinks.specs.Kept.{index_of}
 use Rattle.type_sinks.specs.Views.{root_scope, declarator_values, IsImported}
 use Rattle.type_sinks.proofs.Keeping.{each_at}
 use Rattle.type_sinks.proofs.Imported.{import_types, import_instances, import_functions, import_names, import_only, import_items, import_function, import_good}
+use Rattle.type_sinks.proofs.PlacedInside.{inside_imported}
 use Rattle.type_sinks.proofs.inside.InterfaceTypes.import.Goals as goal
 
 pub returns : goal.returns
@@ -15,6 +16,7 @@ returns c =
     record {
       imported = a;
       good = λ types. import_good t.root r t.interface (index_of t.known) ids ds types a;
+      placed = inside_imported t r ids a;
       homes = λ id given. each_at (λ x. index_of r.homes x ≡ Some (length (root_scope t.root).instances)) ids id given a.homes.here;
       interfaces = a.names;
       known = ap index_of a.known;

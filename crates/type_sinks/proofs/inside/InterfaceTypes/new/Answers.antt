@@ -2,6 +2,7 @@ use Rattle.std.proofs.Common.{ap}
 use Rattle.std.specs.Prelude.{map}
 use Rattle.component_instances.specs.Declarators.{declarator_value}
 use Rattle.type_sinks.proofs.Insides.{nothing_counted, nothing_named, inside_nothing}
+use Rattle.type_sinks.proofs.PlacedInside.{nothing_placed}
 use Rattle.type_sinks.proofs.inside.InterfaceTypes.new.Goals as goal
 
 pub invariant_of-result : goal.invariant_of-result
@@ -12,3 +13,6 @@ invariant_of-result c = record {
 
 pub returns-clause-good : goal.returns-clause-good
 returns-clause-good c = λ types root apart. inside_nothing _ _ _ _ _ c.new-3.result.items _ c.args.interface types c.new-2.ensures c.new-3.ensures.items (ap (map declarator_value) c.new.ensures.items) root apart
+
+pub returns-clause-placed : goal.returns-clause-placed
+returns-clause-placed c = nothing_placed c.args.root _ (ap (map declarator_value) c.new.ensures.items)

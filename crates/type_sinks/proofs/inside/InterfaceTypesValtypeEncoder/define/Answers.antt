@@ -9,6 +9,7 @@ use Rattle.type_sinks.specs.Kept.{index_of}
 use Rattle.type_sinks.specs.Views.{root_scope, declarator_values, inside, inside_names}
 use Rattle.type_sinks.proofs.Insides.{type_stays, unnamed_distinct}
 use Rattle.type_sinks.proofs.Declared.{inside_stays, types_after, setting_after, names_after, index_after, stepped, given_same, root_stays_outside}
+use Rattle.type_sinks.proofs.PlacedInside.{declared_type_placed, same_inside_placed}
 use Rattle.type_sinks.proofs.inside.InterfaceTypesValtypeEncoder.define.Goals as goal
 
 pub returns : goal.returns
@@ -28,6 +29,7 @@ returns c =
       names = in_either r _ (λ i h. names_after old new d ids h.1 ∙ append-nil (inside_names old)) (λ s. (stays s).names) a.ok a.err;
       keeps = λ k g. given_same old new k a.exports g;
       good = in_either r _ (λ i h types. stepped old new d types h.1 (unnamed_distinct (declarator_values old) (declarator_values new) d h.1.declarators refl) (type_stays (root_scope old.root).types (inside old) ty)) (λ s. (stays s).good) a.ok a.err;
+      placed = λ may p. in_either r _ (λ i h. declared_type_placed old new ty ids may h.1 p) (λ s. same_inside_placed old new s p) a.ok a.err;
       ok = IfOk-weaker r _ _ (λ i h. (index_after old i h.0, types_after old new d ids h.1)) a.ok;
       err = on_err_weaker r (λ s. (stays s).types) a.err;
       cause = IfErr-weaker r _ _ (cause_weaker (λ h. h) (λ h. inl h)) a.cause;

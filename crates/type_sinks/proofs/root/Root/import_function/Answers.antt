@@ -7,10 +7,11 @@ use Rattle.type_writing.specs.Writing.{Setting}
 use Rattle.type_writing.proofs.Standing.{begins_same, begins_on, in_either}
 use Rattle.type_writing.proofs.Refusals.{cause_weaker}
 use Rattle.type_sinks.specs.Kept.{index_of}
-use Rattle.type_sinks.specs.Root.{imported_names}
-use Rattle.type_sinks.specs.Views.{root_scope, IsSameRoot}
+use Rattle.type_sinks.specs.Root.{imported_names, root_label}
+use Rattle.type_sinks.specs.Views.{root_scope, interface_names, IsSameRoot}
 use Rattle.type_sinks.proofs.RootImports.{import_function_keeps}
 use Rattle.type_sinks.proofs.Rooted.{root_keeps, fresh_import, same_good, root_stays, ok_always, names_added, function_added, types_same, instances_same, functions_begin, import_is, import_counted}
+use Rattle.type_sinks.proofs.PlacedRoot.{import_function_placed, same_placed}
 use Rattle.type_sinks.proofs.root.Root.import_function.Goals as goal
 
 pub returns : goal.returns
@@ -32,6 +33,9 @@ returns c =
       functions = functions_begin old mid new (ap (λ (s : Setting). s.around.functions) w.setting) (in_either r _ (λ i h. function_added mid new e h.2) (λ s. begins_same (root_scope mid).functions (root_scope new).functions (ap (λ (t : Setting). t.around.functions) (root_stays mid new s).0)) a.ok a.err);
       instances = in_either r _ (λ i h. instances_same mid new e h.2 refl) (λ s. ap (λ (t : Setting). t.around.instances) (root_stays mid new s).0) a.ok a.err ∙ ap (λ (s : Setting). s.around.instances) w.setting;
       good = λ types g. in_either r _ (λ i h. root_keeps mid new e types h.2 (import_function_keeps (root_scope mid) n ty (fresh_import mid n h.1)) (w.good types g)) (λ s. same_good mid new types s (w.good types g)) a.ok a.err;
+      placed = λ types g apart p.
+          let before = w.placed types g apart p in
+          in_either r _ (λ i h. import_function_placed mid new n ty (root_label (interface_names mid)) types c.args.params.now c.args.answer.now h.1 (w.stands types g) h.2 before) (λ s. same_placed mid new s before) a.ok a.err;
       names = ok_always r _ (λ i h. names_added mid new e h.2 ∙ ap (λ l. l ++ n ∷ []) w.names) a.ok;
       index = IfOk-weaker r _ _ (λ i h. import_counted old mid new n ty i (ap (λ (s : Setting). s.around.functions) w.setting) h.0 h.2) a.ok;
       is = IfOk-weaker r _ _ (λ i h types g. import_is mid new n ty i types c.args.params.now c.args.answer.now h.0 h.2 (w.stands types g)) a.ok;

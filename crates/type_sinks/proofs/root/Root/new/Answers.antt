@@ -1,6 +1,7 @@
 use Rattle.std.proofs.Common.{ap, sym, length}
 use Rattle.type_meaning.specs.Scope.{Scope}
 use Rattle.type_sinks.proofs.Rooted.{nothing_good, nothing_written, nothing_imported}
+use Rattle.type_sinks.proofs.PlacedRoot.{none_placed}
 use Rattle.type_sinks.proofs.root.Root.new.Goals as goal
 
 pub invariant_of-result : goal.invariant_of-result
@@ -15,3 +16,6 @@ invariant_of-result c =
 
 pub returns-clause-good : goal.returns-clause-good
 returns-clause-good c = λ defs. nothing_good _ _ _ _ defs (nothing_written c.new.result.items c.new.ensures.items) c.new-3.ensures c.new-4.ensures
+
+pub returns-clause-placed : goal.returns-clause-placed
+returns-clause-placed c = none_placed c.new.result.items c.new.ensures.items

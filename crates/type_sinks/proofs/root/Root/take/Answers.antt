@@ -12,6 +12,7 @@ use Rattle.type_writing.specs.Writing.{Stands}
 use Rattle.type_sinks.specs.Views.{root_scope, root_names, interface_names}
 use Rattle.type_sinks.proofs.RootImports.{take_keeps}
 use Rattle.type_sinks.proofs.Rooted.{types_added, names_added, functions_same, instances_same, root_keeps, alias_stands}
+use Rattle.type_sinks.proofs.PlacedRoot.{type_there, home_there, alias_placed}
 use Rattle.type_sinks.proofs.root.Root.take.Goals as goal
 
 pub returns-clause-ok : goal.returns-clause-ok
@@ -30,6 +31,8 @@ returns-clause-ok c =
       functions = functions_same old new e h.1 refl;
       instances = instances_same old new e h.1 refl;
       home = (k, home);
+      there = type_there old new e i refl h.0 h.1;
+      placed = λ types g p. alias_placed old new sorts.Type_ k n (home_there (interface_names old) types (root_scope old).instances c.args.id k (g.instances c.args.id k home)) h.1 p;
       begins = ((adds (root_scope old) e).types, types_added old new e h.1);
       good = λ types. root_keeps old new e types h.1 (take_keeps (root_scope old) k n);
       stands = λ types d g at w.
