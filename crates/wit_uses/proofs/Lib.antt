@@ -1,0 +1,3 @@
+pub mod Using
+pub mod Growing
+pub mod Moving
