@@ -1,3 +1,5 @@
 pub mod Using
 pub mod Growing
+pub mod Behind
 pub mod Moving
+pub mod Worlds
