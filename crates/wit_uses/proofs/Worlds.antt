@@ -17,7 +17,7 @@ use Rattle.wit_moves.specs.Interfaces.{no_entries, one_goes, one_stays}
 use Rattle.wit_moves.specs.Plan.{is_owner_placed, moved_owner}
 use Rattle.wit_moves.specs.Worlds.{item_stays, is_item_placed, IsMovedItem, moved_interface, moved_function, moved_type, moved_entry, AreMovedItems, IsMovedSide, SideBreaks}
 use Rattle.wit_reach.specs.Ids.{item_ids, side_ids}
-use Rattle.wit_reach.specs.Lists.{item_type, type_items, item_types}
+use Rattle.wit_reach.specs.Lists.{item_type, type_items}
 use Rattle.wit_reach.specs.Made.{is_open}
 use Rattle.wit_reach.specs.Types.{IsOfItem}
 use Rattle.wit_reach.proofs.Lists.{has_append, has_parts}
@@ -115,7 +115,7 @@ module _ (features : FeatureSet) (places interfaces : Places) where
 
 pub worlds_take : MovedWorldsTakeByUse
 worlds_take features owners s owner foreign own graph fs others own_interfaces new_interfaces interfaces others_interfaces b others_are there v w world m stands only moved kept takes =
-    moved_takes features owners s owner foreign own graph fs others own_interfaces new_interfaces interfaces others_interfaces b others_are there (belongs.World v) (belongs.World w) (Has (item_types world)) (Has (moved_types m)) (IsOfItem world) (IsOfMoved m)
+    moved_takes features owners s owner foreign own graph fs others own_interfaces new_interfaces interfaces others_interfaces b others_are there (belongs.World v) (belongs.World w) (Has (type_items world.imports.entries)) (Has (moved_types m)) (IsOfItem world) (IsOfMoved m)
     takes owner_goes owner_came (λ p less into. cc) (λ o less same. cc) began listed_goes
   where
     owner_goes : (o : TypeOwner) → IsOwn (belongs.World v) o → IsOwn (belongs.World w) (moved_owner owners o)
@@ -135,8 +135,5 @@ worlds_take features owners s owner foreign own graph fs others own_interfaces n
     began j (inl h) = (let c = side_came features s.types s.interfaces world.imports.entries m.imports.items (λ at k. kept at (inl k)) moved.imports j h in record { id = c.id; goes = c.goes; starts = inl c.has })
     began j (inr h) = (let c = side_came features s.types s.interfaces world.exports.entries m.exports.items (λ at k. kept at (inr k)) moved.exports j h in record { id = c.id; goes = c.goes; starts = inr c.has })
 
-    listed_goes : (i j : ℕ) → Has (item_types world) i → place_of s.types i ≡ Some j → Has (moved_types m) j
-    listed_goes i j h goes = elim (has_parts (type_items world.imports.entries) (type_items world.exports.entries) i h) as (λ _. Has (moved_types m) j) [
-      | inl a ↦ has_was (type_items m.imports.items) (type_items m.exports.items) j (side_goes features s.types s.interfaces world.imports.entries m.imports.items moved.imports i j a goes)
-      | inr c ↦ has_append (type_items m.imports.items) (type_items m.exports.items) j (side_goes features s.types s.interfaces world.exports.entries m.exports.items moved.exports i j c goes)
-    ]
+    listed_goes : (i j : ℕ) → Has (type_items world.imports.entries) i → place_of s.types i ≡ Some j → Has (moved_types m) j
+    listed_goes i j h goes = side_goes features s.types s.interfaces world.imports.entries m.imports.items moved.imports i j h goes

@@ -15,7 +15,7 @@ use Rattle.wit_plans.specs.Moves.{IsMovedWorld}
 use Rattle.wit_plans.specs.declared.moves.MovedWorld.{MovedWorld}
 use Rattle.wit_reach.specs.Holding.{HoldTheirTypes}
 use Rattle.wit_reach.specs.Ids.{side_ids}
-use Rattle.wit_reach.specs.Lists.{type_items, item_types}
+use Rattle.wit_reach.specs.Lists.{type_items}
 use Rattle.wit_reach.specs.Types.{AreTypesBackward, IsOfItem}
 use Rattle.wit_placed.specs.There.{IsInterfaceThere}
 use Rattle.wit_placed.specs.Order.{AreBehind}
@@ -35,7 +35,7 @@ MovedInterfacesTakeByUse =
 
 -- what stays of a world without what it includes: the types that it lists, and those that its items are made of
 abbrev pub moved_types : MovedWorld → List ℕ
-moved_types m = type_items m.imports.items ++ type_items m.exports.items
+moved_types m = type_items m.imports.items
 
 abbrev pub IsOfMoved : MovedWorld → ℕ → Type 0
 IsOfMoved m i = Has (side_ids m.imports.items) i ⊎ Has (side_ids m.exports.items) i
@@ -47,7 +47,7 @@ MovedWorldsTakeByUse =
     → AreBehind features owners s owner foreign own graph moved others own_interfaces new_interfaces others_interfaces (length interfaces)
     → others ≡ map (type_found interfaces others_interfaces) foreign → HoldTheirTypes 0 graph interfaces
     → (v w : ℕ) (world : World) (m : MovedWorld) → place_of owners.worlds v ≡ Some w → ((u : ℕ) → place_of owners.worlds u ≡ Some w → u ≡ v) → IsMovedWorld features s world m → IsKept (SidesBreak features s world)
-    → TakesByUse (foreign ++ own) (belongs.World v) (Has (item_types world)) (IsOfItem world)
+    → TakesByUse (foreign ++ own) (belongs.World v) (Has (type_items world.imports.entries)) (IsOfItem world)
     → TakesByUse (graph ++ moved) (belongs.World w) (Has (moved_types m)) (IsOfMoved m)
 
 -- interfaces still do where more types come behind all that they are made of

@@ -11,7 +11,7 @@ use Rattle.wit_types.specs.declared.world.World.{World}
 use Rattle.wit_reach.specs.Deps.{AreUsed}
 use Rattle.wit_reach.specs.Holding.{listed_types, functions_ids}
 use Rattle.wit_reach.specs.Ids.{kind_ids}
-use Rattle.wit_reach.specs.Lists.{item_types}
+use Rattle.wit_reach.specs.Lists.{type_items}
 use Rattle.wit_reach.specs.Made.{is_open, IsMadeOfWithin}
 use Rattle.wit_reach.specs.Paths.{Reaches}
 use Rattle.wit_reach.specs.Types.{IsOfItem}
@@ -43,9 +43,9 @@ IsOfInterface d s = Has (listed_types d) s ⊎ Has (functions_ids d) s
 abbrev pub InterfacesTakeByUse : ℕ → List TypeDef → List Interface → Type 0
 InterfacesTakeByUse others types own = (k : ℕ) (d : Interface) → slice_get own k ≡ Some d → TakesByUse types (belongs.Interface (others + k)) (Has (listed_types d)) (IsOfInterface d)
 
--- and worlds
+-- and worlds, which import all that they list
 abbrev pub WorldsTakeByUse : List TypeDef → List World → Type 0
-WorldsTakeByUse types worlds = (i : ℕ) (w : World) → slice_get worlds i ≡ Some w → TakesByUse types (belongs.World i) (Has (item_types w)) (IsOfItem w)
+WorldsTakeByUse types worlds = (i : ℕ) (w : World) → slice_get worlds i ≡ Some w → TakesByUse types (belongs.World i) (Has (type_items w.imports.entries)) (IsOfItem w)
 
 pub record TakeByUse (types : List TypeDef) (interfaces : List Interface) (worlds : List World) : Type 0 where
   pub interfaces_take : InterfacesTakeByUse 0 types interfaces
