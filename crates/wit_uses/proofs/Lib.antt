@@ -3,3 +3,5 @@ pub mod Growing
 pub mod Behind
 pub mod Moving
 pub mod Worlds
+pub mod Brought
+pub mod Joining
