@@ -78,7 +78,7 @@ module _ (t : Tables) (i : ℕ) (n : Names) (imports : List ImportValue) (own : 
     type_entry k d x h at called its =
         let s = ends.only k h in
         let lists = from.listed t i n whole are in
-        let has : Has (type_items lists.imports.entries) k = named.listed i s.0 k lists d (from.listed_at t i n whole are) (start_listed s.0 s.1) s.2 at its in
+        let has : Has (type_items lists.imports.entries) k = (named.taken.worlds_take i lists (from.listed_at t i n whole are)).lists s.0 k d (start_listed s.0 s.1) s.2 at its in
         let e = from.type_imported t i n whole are k has in
         let is : IsNameOf t.types k (string_bytes e.0) = (plainly_named t i n whole are named).types_are e.0 k e.1 e.2 in
         let same : is.0 ≡ d = same_Some is.0 d (sym is.2 ∙ at) in

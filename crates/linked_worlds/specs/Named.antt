@@ -3,15 +3,11 @@ use Rattle.std.specs.Prelude.{◌≡◌, ℕ, List, Some, slice_get}
 use Rattle.wit_order.specs.Order.{Has}
 use Rattle.wit_types.specs.declared.interface.Interface.{Interface}
 use Rattle.wit_types.specs.declared.interface.TypeDef.{TypeDef}
-use Rattle.wit_types.specs.declared.interface.TypeOwner.TheVariants as belongs
 use Rattle.wit_types.specs.declared.world.World.{World}
 use Rattle.wit_types.specs.declared.world_key.WorldKey.TheVariants as key
 use Rattle.wit_types.specs.declared.«package».Package.{Package}
 use Rattle.wit_reach.specs.Deps.{AreUsed, IsInterfaceDep}
-use Rattle.wit_reach.specs.Lists.{item_types, listed_in, type_items}
-use Rattle.wit_reach.specs.Made.{IsMadeOfWithin}
-use Rattle.wit_reach.specs.Paths.{Reaches}
-use Rattle.wit_reach.specs.Types.{IsOfItem}
+use Rattle.wit_reach.specs.Lists.{item_types, listed_in}
 use Rattle.core_links.specs.Names.{Names}
 use Rattle.wit_uses.specs.Uses.{TakeByUse}
 use Rattle.wit_graph.specs.Graph.{AreWhole}
@@ -29,18 +25,12 @@ pub record AreUsedNamed (packages : List Package) (types : List TypeDef) (interf
   pub in_worlds : (i j : ℕ) (w : World) → slice_get worlds i ≡ Some w → AreUsed types (item_types w) j → IsNamed packages interfaces j
   pub imported : (i j : ℕ) (w : World) → slice_get worlds i ≡ Some w → Has (listed_in w.imports.entries) j → IsNamed packages interfaces j
 
--- a world imports each type of its own that its items are made of
-abbrev pub ListTheirTypes : List TypeDef → List World → Type 0
-ListTheirTypes types worlds = (i s k : ℕ) (w : World) (d : TypeDef) → slice_get worlds i ≡ Some w → IsOfItem w s → Reaches (IsMadeOfWithin (belongs.World i) types) s k → slice_get types k ≡ Some d → d.owner ≡ belongs.World i
-    → Has (type_items w.imports.entries) k
-
--- interfaces and worlds take types of others by use alone, names that have to tell things apart do, and worlds list their types
+-- interfaces and worlds take types of others by use alone, and names that have to tell things apart do
 pub record AreItemsNamed (t : Tables) : Type 0 where
   pub taken : TakeByUse t.types t.interfaces.all t.worlds.listed
   pub apart : AreNamedApart t.packages t.interfaces.all
   pub used : AreUsedNamed t.packages t.types t.interfaces.all t.worlds.listed
   pub plain : (i : ℕ) (w : World) → slice_get t.worlds.listed i ≡ Some w → ArePlainlyNamed t.types w.imports.entries
-  pub listed : ListTheirTypes t.types t.worlds.listed
 
 -- so it is of a world with all that it imports in the end
 abbrev pub WorldsHaveTextsApart : Type 0

@@ -1,5 +1,6 @@
 -- An owner of a package takes types by use where what stays of it stands behind a graph.
 use Rattle.std.proofs.Common.{◌≡◌, ℕ, ◌+◌, ◌<◌, true, List, [], ◌++◌, ◌⊎◌, inl, inr, Some, String, refl, sym, subst, ap, ◌∙◌, arith, length, map}
+use Rattle.std.proofs.lemmas.Bool.{eq-eqb, eqb-true}
 use Rattle.std.proofs.lemmas.Option.{same_Some, slice_get_within}
 use Rattle.std.specs.Prelude.{slice_get}
 use Rattle.std.specs.declared.alloc.Global.{Global}
@@ -37,6 +38,22 @@ use Rattle.wit_uses.specs.Uses.{IsOwn, IsUse, TakesByUse}
 alias_goes : (f : ℕ → ℕ) (k l : TypeDefKind) → IsMovedKind f k l → (i : ℕ) → k ≡ kind.Alias (ref.Id i) → l ≡ kind.Alias (ref.Id (f i))
 alias_goes f _ _ (moved.moved_alias r) i e = (let same : r ≡ ref.Id i = cc in ap (λ (x : Ref). kind.Alias (moved_ref f x)) same)
 alias_goes f _ _ _ i e = absurd cc
+
+-- an owner sees into itself
+self_open : (by : TypeOwner) → is_open by by ≡ true
+self_open belongs.None = refl
+self_open (belongs.World w) = eq-eqb w w refl
+self_open (belongs.Interface i) = eq-eqb i i refl
+
+-- and into nothing else but what belongs nowhere
+open_own : (by o : TypeOwner) → is_open by o ≡ true → (o ≡ belongs.None) ⊎ (o ≡ by)
+open_own by belongs.None e = inl refl
+open_own (belongs.Interface j) (belongs.Interface i) e = inr (ap (λ (n : ℕ). belongs.Interface n) (eqb-true i j e))
+open_own (belongs.World w) (belongs.World v) e = inr (ap (λ (n : ℕ). belongs.World n) (eqb-true v w e))
+open_own (belongs.World w) (belongs.Interface i) e = absurd cc
+open_own belongs.None (belongs.Interface i) e = absurd cc
+open_own (belongs.Interface j) (belongs.World v) e = absurd cc
+open_own belongs.None (belongs.World v) e = absurd cc
 
 -- where it begins it began
 pub record Began (places : Places) (start : ℕ → Type 0) (j : ℕ) : Type 0 where
@@ -78,7 +95,7 @@ module _ (features : FeatureSet) (owners : OwnerPlaces) (s : Standing) (owner : 
     module _ (by_was by : TypeOwner) (was_listed listed was_start start : ℕ → Type 0) (takes : TakesByUse (foreign ++ own) by_was was_listed was_start)
         (owner_goes : (o : TypeOwner) → IsOwn by_was o → IsOwn by (moved_owner owners o))
         (owner_came : (o : TypeOwner) → is_owner_placed owners o ≡ true → is_open by (moved_owner owners o) ≡ true → is_open by_was o ≡ true)
-        (closed_to : (p : ℕ) → p < length interfaces → is_open by (belongs.Interface p) ≡ true → ⊥)
+        (closed_to : (p : ℕ) → p < length interfaces → is_open by (belongs.Interface p) ≡ true → ⊥) (is_one : by ≡ belongs.None → ⊥)
         (others_not : (o : ℕ) → o < length others_interfaces → belongs.Interface o ≡ by_was → ⊥)
         (began : (j : ℕ) → start j → Began s.types was_start j) (listed_goes : (i m : ℕ) → was_listed i → place_of s.types i ≡ Some m → listed m)
       where
@@ -184,6 +201,24 @@ module _ (features : FeatureSet) (owners : OwnerPlaces) (s : Standing) (owner : 
                         inr (use_goes x.id m f.comes d f.same j part g.old c x.goes u (to owners.interfaces u.interface, its))
                   ]
             ]
+            -- ---- and lists what is its own
+
+        owner_back : (o : TypeOwner) → is_owner_placed owners o ≡ true → moved_owner owners o ≡ by → o ≡ by_was
+        owner_back o placed its = elim (open_own by_was o (owner_came o placed (ap (is_open by) its ∙ self_open by))) as (λ _. o ≡ by_was) [
+          | inl none ↦ absurd (is_one (sym its ∙ ap (moved_owner owners) none))
+          | inr same ↦ same
+        ]
+
+        lists_own : (a m : ℕ) (d : TypeDef) → start a → Reaches (IsMadeOfWithin by (graph ++ fs)) a m → slice_get (graph ++ fs) m ≡ Some d → d.owner ≡ by → listed m
+        lists_own a m d starts reach at_d its =
+            let x = came_from a m starts reach in
+            elim (sources.sources x.id m x.goes) as (λ _. listed m) [
+              | inl o ↦ (let r = other_owner x.id m o d at_d in absurd (closed_to r.0 r.1 (ap (is_open by) (sym r.2 ∙ its) ∙ self_open by)))
+              | inr f ↦
+                  let same : f.new ≡ d = same_Some f.new d (sym f.is ∙ at_d) in
+                  let back : f.old.owner ≡ by_was = owner_back f.old.owner f.owned (sym f.moved.owner_is ∙ ap (λ (y : TypeDef). y.owner) same ∙ its) in
+                  listed_goes x.id m (takes.lists x.first x.id f.old x.starts x.reaches (was_at x.id m f) back) x.goes
+            ]
 
         pub moved_takes : TakesByUse (graph ++ fs) by listed start
-        moved_takes = record { starts = starts_own; parts = parts_taken }
+        moved_takes = record { starts = starts_own; parts = parts_taken; lists = lists_own }

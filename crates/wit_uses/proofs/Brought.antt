@@ -1,6 +1,6 @@
 -- Copies of a world's types take types by use where the types do.
 use Rattle.std.proofs.Common.{◌≡◌, ℕ, zero, suc, ◌+◌, ◌<◌, true, false, Bool, List, [], ◌∷◌, ◌++◌, ◌⊎◌, inl, inr, Option, Some, None, String, length, map, refl, sym, subst, ap, ◌∙◌, arith}
-use Rattle.std.proofs.lemmas.Bool.{eq-eqb}
+use Rattle.std.proofs.lemmas.Bool.{eq-eqb, eqb-true}
 use Rattle.std.proofs.lemmas.List.{map-append}
 use Rattle.std.proofs.lemmas.Option.{same_Some, slice_get_within}
 use Rattle.std.specs.Prelude.{slice_get, if◌then◌else◌}
@@ -326,8 +326,31 @@ module _ (names : List IncludeName) (from into : ℕ) (types : List TypeDef) (wo
               })
         ]
 
+    -- ---- and lists what is its own
+
+    owner_back : (o : TypeOwner) → is_local from o ≡ true → copied_owner from into o ≡ belongs.World into → o ≡ belongs.World from
+    owner_back belongs.None local its = absurd cc
+    owner_back (belongs.Interface j) local its = absurd cc
+    owner_back (belongs.World v) local its = ap (λ (n : ℕ). belongs.World n) (eqb-true v from local)
+
+    lists_own : (a m : ℕ) (d : TypeDef) → IsOfBrought b a → Reaches (IsMadeOfWithin (belongs.World into) (types ++ new)) a m → slice_get (types ++ new) m ≡ Some d → d.owner ≡ belongs.World into → Has (brought_types b) m
+    lists_own a m d h reach at its =
+        let x = came_from a m h reach in
+        elim x.sort as (λ _. Has (brought_types b) m) [
+          | inl own_is ↦
+              let l = own_at x.id own_is in
+              let copied = is_copied x.id l.0 own_is l.1 in
+              let same : copied.copy_of ≡ d = same_Some copied.copy_of d (sym copied.at ∙ ap (slice_get (types ++ new)) x.goes_is ∙ at) in
+              let back : l.0.owner ≡ belongs.World from = owner_back l.0.owner l.2 (sym copied.owner_is ∙ ap (λ (z : TypeDef). z.owner) same ∙ its) in
+              subst (Has (brought_types b)) x.goes_is (listed_goes x.id (takes.lists x.first x.id l.0 x.starts x.reaches l.1 back))
+          | inr other ↦
+              let same : other.0 ≡ d = same_Some other.0 d (sym (other_at x.id other) ∙ ap (slice_get (types ++ new)) x.goes_is ∙ at) in
+              let e : belongs.Interface other.2.0 ≡ belongs.World into = sym other.2.1 ∙ ap (λ (z : TypeDef). z.owner) same ∙ its in
+              absurd cc
+        ]
+
     brought : TakesByUse (types ++ new) (belongs.World into) (Has (brought_types b)) (IsOfBrought b)
-    brought = record { starts = starts_own; parts = parts_taken }
+    brought = record { starts = starts_own; parts = parts_taken; lists = lists_own }
 
 pub brought_takes : BroughtTakesByUse
 brought_takes names from into types world b backward there is takes = brought names from into types world b backward there is takes

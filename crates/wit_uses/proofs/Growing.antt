@@ -34,6 +34,8 @@ module _ (types more : List TypeDef) (back : AreTypesBackward types) (by : TypeO
         let down : i < k = back k i (d, here, has) in
         let low : k < length types = so.0 in
         takes.parts s k i d e h so.1 here into has (at_was i e (omega (arith, down, low)) at_i));
+    lists = λ s k d h reach at its.
+        (let so = closed_ends (IsMadeOfWithin by (types ++ more)) (λ (j : ℕ). (j < length types) × Reaches (IsMadeOfWithin by types) s j) (step s) s reach.0 k (there s h, ([], refl)) reach.1 in takes.lists s k d h so.1 (at_was k d so.0 at) its);
   }
     where
       step : (s k j : ℕ) → (k < length types) × Reaches (IsMadeOfWithin by types) s k → IsMadeOfWithin by (types ++ more) k j → (j < length types) × Reaches (IsMadeOfWithin by types) s j

@@ -246,6 +246,7 @@ module _ (types : List TypeDef) (by : TypeOwner) where
         | inr u ↦ inr (record { is_listed = inr u.is_listed; kind_is = u.kind_is; interface = u.interface; of = u.of })
       ]
     ];
+    lists = λ s k d h reach at its. elim h as (λ _. listed k ⊎ more k) [ inl x ↦ inl (a.lists s k d x reach at its) | inr y ↦ inr (b.lists s k d y reach at its) ];
   }
 
   fewer : (listed more start less : ℕ → Type 0) → ((i : ℕ) → listed i → more i) → ((i : ℕ) → less i → start i) → TakesByUse types by listed start → TakesByUse types by more less
@@ -255,6 +256,7 @@ module _ (types : List TypeDef) (by : TypeOwner) where
       | inl is_own ↦ inl is_own
       | inr u ↦ inr (record { is_listed = widens k u.is_listed; kind_is = u.kind_is; interface = u.interface; of = u.of })
     ];
+    lists = λ s k d h reach at its. widens k (a.lists s k d (narrows s h) reach at its);
   }
 
 -- ---- worlds that are there

@@ -137,6 +137,7 @@ module _ (features : FeatureSet) (owners : OwnerPlaces) (s : Standing) (owner : 
           moved_takes features owners s owner foreign own graph fs others own_interfaces new_interfaces interfaces others_interfaces b others_are there by_was by (Has (listed_types from.old)) (Has (listed_types e)) (IsOfInterface from.old) (IsOfInterface e)
           (takes_own from.place from.old from.was) owner_goes owner_came
           (λ p less into. (let same : p ≡ base + k = eqb-true p (base + k) into in omega (arith, same, less)))
+          (λ none. cc)
           (λ o less same. (let one : o ≡ was = same_interface o was same in omega (arith, one, less)))
           began listed_goes
 

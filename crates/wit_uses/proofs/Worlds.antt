@@ -116,7 +116,7 @@ module _ (features : FeatureSet) (places interfaces : Places) where
 pub worlds_take : MovedWorldsTakeByUse
 worlds_take features owners s owner foreign own graph fs others own_interfaces new_interfaces interfaces others_interfaces b others_are there v w world m stands only moved kept takes =
     moved_takes features owners s owner foreign own graph fs others own_interfaces new_interfaces interfaces others_interfaces b others_are there (belongs.World v) (belongs.World w) (Has (type_items world.imports.entries)) (Has (moved_types m)) (IsOfItem world) (IsOfMoved m)
-    takes owner_goes owner_came (λ p less into. cc) (λ o less same. cc) began listed_goes
+    takes owner_goes owner_came (λ p less into. cc) (λ none. cc) (λ o less same. cc) began listed_goes
   where
     owner_goes : (o : TypeOwner) → IsOwn (belongs.World v) o → IsOwn (belongs.World w) (moved_owner owners o)
     owner_goes o (inl none) = inl (ap (moved_owner owners) none)

@@ -29,11 +29,13 @@ pub record IsUse (listed : ℕ → Type 0) (k i : ℕ) (d e : TypeDef) : Type 0 
   pub interface : ℕ
   pub of : e.owner ≡ belongs.Interface interface
 
--- an owner begins with what is its own, and all of its own that it sees that this is made of is made of its own, but for uses that it lists
+-- an owner begins with what is its own, and all of its own that it sees that this is made of is made of its own, but for uses that it lists; it
+-- lists what is its and doesn't belong nowhere
 pub record TakesByUse (types : List TypeDef) (by : TypeOwner) (listed start : ℕ → Type 0) : Type 0 where
   pub starts : (s : ℕ) (d : TypeDef) → start s → slice_get types s ≡ Some d → IsOwn by d.owner
   pub parts : (s k i : ℕ) (d e : TypeDef) → start s → Reaches (IsMadeOfWithin by types) s k → slice_get types k ≡ Some d → is_open by d.owner ≡ true → Has (kind_ids d.kind) i → slice_get types i ≡ Some e
       → IsOwn by e.owner ⊎ IsUse listed k i d e
+  pub lists : (s k : ℕ) (d : TypeDef) → start s → Reaches (IsMadeOfWithin by types) s k → slice_get types k ≡ Some d → d.owner ≡ by → listed k
 
 -- a type of the interface, or one that a function of it takes or gives
 abbrev pub IsOfInterface : Interface → ℕ → Type 0
