@@ -10,3 +10,4 @@ mod Importable
 mod Distinct
 mod Own
 mod Ready
+mod Taken

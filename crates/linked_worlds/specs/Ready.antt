@@ -1,6 +1,6 @@
 -- Functions of a world of a graph itself are imported behind its interfaces, but for sizes and memory (WIT, Item: `world`; Component Model,
 -- Explainer, Import and Export Definitions).
-use Rattle.std.specs.Prelude.{◌≡◌, ◌⊎◌, ℕ, List, ◌++◌, Option, Some, String, slice_get, string_bytes}
+use Rattle.std.specs.Prelude.{◌≡◌, ◌⊎◌, ℕ, List, ◌++◌, Option, Some, String, length, slice_get, string_bytes}
 use Rattle.std.specs.declared.alloc.Global.{Global}
 use Rattle.wasm_types.specs.Entries.{ImportValue}
 use Rattle.wit_order.specs.Order.{Has}
@@ -11,7 +11,8 @@ use Rattle.wit_types.specs.declared.interface.TypeOwner.TheVariants as belongs
 use Rattle.wit_types.specs.declared.world.WorldItem.TheVariants as item
 use Rattle.wit_types.specs.declared.world_key.WorldKey.{WorldKey}
 use Rattle.wit_reach.specs.Made.{IsMadeOfWithin}
-use Rattle.wit_reach.specs.Needed.{BelongsTo}
+use Rattle.wit_reach.specs.Lists.{AreOwnersThere}
+use Rattle.wit_reach.specs.Needed.{BelongsTo, AreNeeded}
 use Rattle.wit_reach.specs.Paths.{AreEnds}
 use Rattle.wit_core_names.specs.Texts.{IsNameOf}
 use Rattle.type_writing.specs.Writing.{IsRemembered}
@@ -21,7 +22,7 @@ use Rattle.core_links.specs.Names.{Names}
 use Rattle.core_links.specs.Needed.{AreOwnNeeded, AreLinkedNeeded}
 use Rattle.link_table.specs.Linking.{exported_functions}
 use Rattle.linked_types.specs.Reached.{ids_of, MayBeLinked}
-use Rattle.component_imports.specs.Interfaces.{AreNeededImported}
+use Rattle.component_imports.specs.Interfaces.{asked, AreNeededImported}
 use Rattle.component_imports.specs.Ready.{IsAsked}
 use Rattle.component_imports.specs.World.{IsWorldUnready}
 use Rattle.linked_interfaces.specs.Writable.{all_linked}
@@ -55,6 +56,16 @@ OwnTypesAreListed =
 -- each type with a name that is asked for and is of an interface may be taken from an instance
 abbrev pub MayBeTaken : Root → List TypeDef → List ℕ → List (List Function) → Type 0
 MayBeTaken r types others linked = (j id : ℕ) (d : TypeDef) (x : String Global) → BelongsTo types id j → IsAsked types others linked id → slice_get types id ≡ Some d → d.name ≡ Some x → IsRemembered (index_of r.homes) id
+
+-- so it is where each type with a name that is needed of an interface is remembered with an instance
+abbrev pub NeededAreRemembered : Root → List TypeDef → List (List ℕ) → List (List Function) → Type 0
+NeededAreRemembered r types needed linked = (j : ℕ) (ids : List ℕ) (fs : List Function) (id : ℕ) (d : TypeDef) (x : String Global) → slice_get needed j ≡ Some ids → slice_get linked j ≡ Some fs → Has ids id → slice_get types id ≡ Some d → d.name ≡ Some x
+    → IsRemembered (index_of r.homes) id
+
+abbrev pub RememberedMayBeTaken : Type 0
+RememberedMayBeTaken =
+    (r : Root) (types : List TypeDef) (others : List ℕ) (linked : List (List Function)) (needed : List (List ℕ)) → AreOwnersThere (length linked) types → AreNeeded (length linked) types (asked others linked) needed → NeededAreRemembered r types needed linked
+    → MayBeTaken r types others linked
 
 -- the interfaces are imported of which these functions, others of the world and those that it exports need something
 pub record AreInterfacesImported (n : Names) (old new : Root) (own : List Function) (linked : List (List Function)) : Type 0 where

@@ -5,7 +5,7 @@ ghost use Rattle.linked_worlds.specs.Needed.{NeededAreLinked};
 ghost use Rattle.linked_worlds.specs.Asked.{AskedAreImported};
 ghost use Rattle.linked_worlds.specs.Named.{WorldsHaveTextsApart};
 ghost use Rattle.linked_worlds.specs.Importable.{WorldsAreImportable, WorldsAreWritable};
-ghost use Rattle.linked_worlds.specs.Ready.{OwnAreImported, OwnTypesAreListed};
+ghost use Rattle.linked_worlds.specs.Ready.{OwnAreImported, OwnTypesAreListed, RememberedMayBeTaken};
 
 use component_imports::law_ready_functions_are_imported;
 use linked_interfaces::law_linked_interfaces_are_writable;
@@ -67,3 +67,8 @@ pub fn law_own_are_imported()
 {
     law_ready_functions_are_imported();
 }
+
+/// All types of interfaces that are asked for may be taken where each that is needed of one is remembered with an instance.
+pub fn law_remembered_may_be_taken()
+    ensures { RememberedMayBeTaken }
+{}
