@@ -260,6 +260,7 @@ all_imported start new types instances needed linked n count_linked count h = re
   long = h.long ∙ sym count_linked;
   has = λ i ids fs a b there. h.has i ids fs (let k = got_below linked i fs b in omega (arith, k, count_linked)) a b there;
   none = λ i ids fs a b unneeded. h.none i ids fs (let k = got_below linked i fs b in omega (arith, k, count_linked)) a b unneeded;
+  homes = λ i ids fs id d x a b. h.homes i ids fs id d x (let k = got_below linked i fs b in omega (arith, k, count_linked)) a b;
 }
 
 -- what may be taken is of earlier interfaces

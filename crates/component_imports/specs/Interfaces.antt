@@ -114,6 +114,8 @@ pub record AreImported (old new : Root) (types : List TypeDef) (instances : List
   pub long : length instances ≡ length linked
   pub has : (i : ℕ) (ids : List ℕ) (fs : List Function) → slice_get needed i ≡ Some ids → slice_get linked i ≡ Some fs → is_needed ids fs ≡ true → HasInterfaceAt new types instances i ids fs
   pub none : (i : ℕ) (ids : List ℕ) (fs : List Function) → slice_get needed i ≡ Some ids → slice_get linked i ≡ Some fs → is_needed ids fs ≡ false → slice_get instances i ≡ Some None
+  pub homes : (i : ℕ) (ids : List ℕ) (fs : List Function) (id : ℕ) (d : TypeDef) (x : String Global) → slice_get needed i ≡ Some ids → slice_get linked i ≡ Some fs → Has ids id → slice_get types id ≡ Some d → d.name ≡ Some x
+      → IsRemembered (index_of new.homes) id
 
 pub record AreNeededImported (old new : Root) (types : List TypeDef) (instances : List (Option ℕ)) (others : List ℕ) (linked : List (List Function)) : Type 0 where
   pub needed : List (List ℕ)

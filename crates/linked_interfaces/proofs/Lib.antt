@@ -1,3 +1,3 @@
 mod Linked
-mod Unready
-mod Writable
+pub mod Unready
+pub mod Writable

@@ -19,12 +19,12 @@ use Rattle.linked_interfaces.proofs.Unready.{type_written, function_written}
 
 -- ---- functions of interfaces, and others, among all
 
-among_first : (fs gs : List Function) (f : Function) → Has fs f → Has (fs ++ gs) f
+pub among_first : (fs gs : List Function) (f : Function) → Has fs f → Has (fs ++ gs) f
 among_first [] gs f h = absurd h
 among_first (g ∷ fs) gs f (inl here) = inl here
 among_first (g ∷ fs) gs f (inr later) = inr (among_first fs gs f later)
 
-among_second : (fs gs : List Function) (f : Function) → Has gs f → Has (fs ++ gs) f
+pub among_second : (fs gs : List Function) (f : Function) → Has gs f → Has (fs ++ gs) f
 among_second [] gs f h = h
 among_second (g ∷ fs) gs f h = inr (among_second fs gs f h)
 
@@ -34,7 +34,7 @@ among_linked (gs ∷ linked) fs f (inl here) h = among_first gs (all_linked link
 among_linked (gs ∷ linked) fs f (inr later) h = among_second gs (all_linked linked) f (among_linked linked fs f later h)
 
 module _ (types : List TypeDef) (others : List Function) (linked : List (List Function)) where
-  one_linked : (fs : List Function) (f : Function) → Has linked fs → Has fs f → Has (all_linked linked ++ others) f
+  pub one_linked : (fs : List Function) (f : Function) → Has linked fs → Has fs f → Has (all_linked linked ++ others) f
   one_linked fs f at has = among_first (all_linked linked) others f (among_linked linked fs f at has)
 
   start_reached : (s : ℕ) → Has (asked (ids_of others) linked) s → Has (ids_of (all_linked linked ++ others)) s
@@ -43,7 +43,7 @@ module _ (types : List TypeDef) (others : List Function) (linked : List (List Fu
     | inr own ↦ (let fs = has_flat ids_of linked s own in let f = has_flat function_ids fs.0 s fs.2 in flat_has function_ids (all_linked linked ++ others) f.0 s (one_linked fs.0 f.0 fs.1 f.1) f.2)
   ]
 
-  asked_reached : (i : ℕ) → IsAsked types (ids_of others) linked i → IsReached types (all_linked linked ++ others) i
+  pub asked_reached : (i : ℕ) → IsAsked types (ids_of others) linked i → IsReached types (all_linked linked ++ others) i
   asked_reached i a = (a.0, start_reached a.0 a.1, a.2)
 
 pub interfaces_writable : EarlierTypesAreUsed → ApartAreDistinct → LinkedInterfacesAreWritable

@@ -1,2 +1,13 @@
 mod Linked
 mod Needed
+mod Seeing
+mod Listing
+mod Alike
+mod Asked
+mod Told
+mod Naming
+mod Importable
+mod Distinct
+mod Own
+mod Ready
+mod Taken

@@ -32,7 +32,7 @@ use Rattle.linked_worlds.specs.Linked.{AreNamesOf, FunctionsAreThere}
 
 -- ---- what holds of all in a list
 
-all_parts : {X : Type 0} (P : X → Type 0) (xs ys : List X) → ((x : X) → Has xs x → P x) → ((x : X) → Has ys x → P x) → (x : X) → Has (xs ++ ys) x → P x
+pub all_parts : {X : Type 0} (P : X → Type 0) (xs ys : List X) → ((x : X) → Has xs x → P x) → ((x : X) → Has ys x → P x) → (x : X) → Has (xs ++ ys) x → P x
 all_parts P [] ys a b x h = b x h
 all_parts P (z ∷ xs) ys a b x (inl here) = a x (inl here)
 all_parts P (z ∷ xs) ys a b x (inr later) = all_parts P xs ys (λ y g. a y (inr g)) b x later
@@ -42,7 +42,7 @@ all_mapped P f [] a y h = absurd h
 all_mapped P f (x ∷ xs) a y (inl here) = subst P (sym here) (a x (inl refl))
 all_mapped P f (x ∷ xs) a y (inr later) = all_mapped P f xs (λ z g. a z (inr g)) y later
 
-all_flat : {X Y : Type 0} (P : Y → Type 0) (f : X → List Y) (xs : List X) → ((x : X) → Has xs x → (y : Y) → Has (f x) y → P y) → (y : Y) → Has (flat_map f xs) y → P y
+pub all_flat : {X Y : Type 0} (P : Y → Type 0) (f : X → List Y) (xs : List X) → ((x : X) → Has xs x → (y : Y) → Has (f x) y → P y) → (y : Y) → Has (flat_map f xs) y → P y
 all_flat P f [] a y h = absurd h
 all_flat P f (x ∷ xs) a y h = all_parts P (f x) (flat_map f xs) (a x (inl refl)) (all_flat P f xs (λ z g. a z (inr g))) y h
 

@@ -1,7 +1,7 @@
 -- What is needed of interfaces are functions of them, each once.
-use Rattle.std.proofs.Common.{◌≡◌, ℕ, zero, suc, ◌<◌, List, [], ◌∷◌, inl, inr, Option, Some, String, map, length, refl, sym, subst, ap, ◌∙◌, arith}
+use Rattle.std.proofs.Common.{◌≡◌, ℕ, zero, suc, ◌<◌, List, [], ◌∷◌, inl, inr, Some, String, map, length, refl, sym, ap, ◌∙◌, arith}
 use Rattle.std.proofs.lemmas.Option.{same_Some, slice_get_within}
-use Rattle.std.specs.Prelude.{slice_get, option_map, string_bytes}
+use Rattle.std.specs.Prelude.{slice_get, string_bytes}
 use Rattle.std.specs.declared.alloc.Global.{Global}
 use Rattle.wit_order.specs.Order.{Has}
 use Rattle.wit_types.specs.declared.function.Function.{Function}
@@ -13,7 +13,7 @@ use Rattle.linked_worlds.specs.Needed.{NeededAreLinked}
 
 -- ---- parts of a list
 
-part_has : {X : Type 0} (xs ys : List X) (x : X) → IsPartOf xs ys → Has xs x → Has ys x
+pub part_has : {X : Type 0} (xs ys : List X) (x : X) → IsPartOf xs ys → Has xs x → Has ys x
 part_has _ _ x empty h = h
 part_has _ _ x (with_it y xs ys p) (inl here) = inl here
 part_has _ _ x (with_it y xs ys p) (inr later) = inr (part_has xs ys x p later)

@@ -3,4 +3,8 @@
 
 mod law;
 
-pub use law::{law_functions_are_there, law_needed_are_linked};
+pub use law::{
+    law_asked_are_imported, law_functions_are_there, law_needed_are_linked, law_own_are_imported,
+    law_own_types_are_listed, law_remembered_may_be_taken, law_worlds_are_importable,
+    law_worlds_are_writable, law_worlds_have_texts_apart,
+};

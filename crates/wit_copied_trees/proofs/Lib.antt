@@ -1,4 +1,4 @@
-mod Members
+pub mod Members
 pub mod Owners
 mod Backward
 mod Renaming
@@ -7,5 +7,5 @@ mod Definitions
 mod Named
 mod Copying
 mod Functions
-mod MovedIds
+pub mod MovedIds
 mod Standing

@@ -39,14 +39,14 @@ use Rattle.wit_placed.proofs.Sources.{all_sources, AreSources, IsFrom}
 -- ---- what is found
 
 -- a type of an interface of another package, found in the interface where that stands
-record IsFound (interfaces : List Interface) (places : Places) (d : TypeDef) (j : ℕ) : Type 0 where
-  interface : ℕ
-  owner_is : d.owner ≡ belongs.Interface interface
-  place : ℕ
-  stands : place_of places interface ≡ Some place
-  here : Interface
-  there : slice_get interfaces place ≡ Some here
-  listed : Has (listed_types here) j
+pub record IsFound (interfaces : List Interface) (places : Places) (d : TypeDef) (j : ℕ) : Type 0 where
+  pub interface : ℕ
+  pub owner_is : d.owner ≡ belongs.Interface interface
+  pub place : ℕ
+  pub stands : place_of places interface ≡ Some place
+  pub here : Interface
+  pub there : slice_get interfaces place ≡ Some here
+  pub listed : Has (listed_types here) j
 
 module _ (interfaces : List Interface) (places : Places) (d : TypeDef) (j : ℕ) where
   found_in : (i : ℕ) → d.owner ≡ belongs.Interface i → (p : ℕ) → place_of places i ≡ Some p → (o : Option Interface) → slice_get interfaces p ≡ o → (n : Option (String Global)) → type_in o n ≡ Some j → IsFound interfaces places d j
@@ -65,7 +65,7 @@ module _ (interfaces : List Interface) (places : Places) (d : TypeDef) (j : ℕ)
   found_of (belongs.World w) of h = absurd cc
   found_of belongs.None of h = absurd cc
 
-found : (interfaces : List Interface) (places : Places) (defs : List TypeDef) (i j : ℕ) → place_of (map (type_found interfaces places) defs) i ≡ Some j → (d : TypeDef) × (slice_get defs i ≡ Some d) × IsFound interfaces places d j
+pub found : (interfaces : List Interface) (places : Places) (defs : List TypeDef) (i j : ℕ) → place_of (map (type_found interfaces places) defs) i ≡ Some j → (d : TypeDef) × (slice_get defs i ≡ Some d) × IsFound interfaces places d j
 found interfaces places [] i j h = absurd cc
 found interfaces places (d ∷ ds) zero j h = (d, refl, found_of interfaces places d j d.owner refl h)
 found interfaces places (d ∷ ds) (suc i) j h = found interfaces places ds i j h
@@ -73,19 +73,19 @@ found interfaces places (d ∷ ds) (suc i) j h = found interfaces places ds i j 
 -- ---- what stays of an interface
 
 -- it stands where it is moved
-goes_to : (places : Places) (i j : ℕ) → is_placed places i ≡ true → to places i ≡ j → place_of places i ≡ Some j
+pub goes_to : (places : Places) (i j : ℕ) → is_placed places i ≡ true → to places i ≡ j → place_of places i ≡ Some j
 goes_to places i j p is = (let s = placed_some (place_of places i) p in s.1 ∙ ap (λ (n : ℕ). Some n) (sym (ap (λ (o : Option ℕ). unwrap_or o i) s.1) ∙ is))
 
 -- a name that stands there was one
-name_was : (places : Places) (old new : List (String Global × ℕ)) (e : String Global × ℕ) → AreMovedNames places old new → Has new e → (i : ℕ) × Has old (e.0, i) × (place_of places i ≡ Some e.1)
+pub name_was : (places : Places) (old new : List (String Global × ℕ)) (e : String Global × ℕ) → AreMovedNames places old new → Has new e → (i : ℕ) × Has old (e.0, i) × (place_of places i ≡ Some e.1)
 name_was places old new e kept h = (let r = entry_was (is_placed places) (λ (i j : ℕ). j ≡ to places i) old new kept e h in (r.0, r.1, goes_to places r.0 e.1 r.2 (sym r.3)))
 
 -- so was a function
-function_was : (features : FeatureSet) (places : Places) (old new : List (String Global × Function)) (e : String Global × Function) → AreMovedFunctions features places old new → Has new e
+pub function_was : (features : FeatureSet) (places : Places) (old new : List (String Global × Function)) (e : String Global × Function) → AreMovedFunctions features places old new → Has new e
     → (f : String Global × Function) × Has old f × (function_stays features places f.1 ≡ true) × IsMovedFunction (to places) f.1 e.1
 function_was features places old new e kept h = (let r = entry_was (function_stays features places) (IsMovedFunction (to places)) old new kept e h in ((e.0, r.0), r.1, r.2, r.3))
 
-interface_kept : (features : FeatureSet) (s : Standing) (ds : List Interface) → IsKept (AnyOf (InterfaceBreaks features s) ds) → (k : ℕ) (d : Interface) → slice_get ds k ≡ Some d → gate_stays features d.stability ≡ true → IsKept (FunctionsBreak features s.types d.functions.entries)
+pub interface_kept : (features : FeatureSet) (s : Standing) (ds : List Interface) → IsKept (AnyOf (InterfaceBreaks features s) ds) → (k : ℕ) (d : Interface) → slice_get ds k ≡ Some d → gate_stays features d.stability ≡ true → IsKept (FunctionsBreak features s.types d.functions.entries)
 interface_kept features s [] kept k d at st = absurd cc
 interface_kept features s (x ∷ ds) kept zero d at st = λ where_ b. kept where_ (inl (subst (λ (y : Interface). InterfaceBreaks features s y where_) (sym (same_Some x d at)) (st, b)))
 interface_kept features s (x ∷ ds) kept (suc k) d at st = interface_kept features s ds (λ where_ b. kept where_ (inr b)) k d at st

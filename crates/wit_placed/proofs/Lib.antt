@@ -1,10 +1,10 @@
 pub mod Members
-mod Sides
+pub mod Sides
 mod Standing
-mod Sources
-mod Own
+pub mod Sources
+pub mod Own
 mod Order
-mod Entries
+pub mod Entries
 pub mod Holding
 mod Finding
 mod Listing

@@ -1,0 +1,4 @@
+pub mod Uses
+pub mod Moved
+pub mod Included
+pub mod Joined

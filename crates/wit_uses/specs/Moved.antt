@@ -1,0 +1,57 @@
+-- What stays of a package takes types of other interfaces by use, too (WIT, Use, Feature Gates, Packages).
+use Rattle.std.specs.Prelude.{◌≡◌, ◌⊎◌, ℕ, List, ◌++◌, Some, length, map}
+use Rattle.wit_order.specs.Order.{Has}
+use Rattle.wit_types.specs.declared.interface.Interface.{Interface}
+use Rattle.wit_types.specs.declared.interface.TypeDef.{TypeDef}
+use Rattle.wit_types.specs.declared.interface.TypeOwner.TheVariants as belongs
+use Rattle.wit_types.specs.declared.world.World.{World}
+use Rattle.wit_features.specs.Features.{FeatureSet}
+use Rattle.wit_moves.specs.Breaks.{AnyOf, IsKept}
+use Rattle.wit_moves.specs.Moved.{Places, place_of}
+use Rattle.wit_moves.specs.Plan.{OwnerPlaces}
+use Rattle.wit_finding.specs.Types.{type_found}
+use Rattle.wit_plans.specs.Checks.{Standing, InterfaceBreaks, SidesBreak}
+use Rattle.wit_plans.specs.Moves.{IsMovedWorld}
+use Rattle.wit_plans.specs.declared.moves.MovedWorld.{MovedWorld}
+use Rattle.wit_reach.specs.Holding.{HoldTheirTypes}
+use Rattle.wit_reach.specs.Ids.{side_ids}
+use Rattle.wit_reach.specs.Lists.{type_items}
+use Rattle.wit_reach.specs.Types.{AreTypesBackward, IsOfItem}
+use Rattle.wit_placed.specs.There.{IsInterfaceThere}
+use Rattle.wit_placed.specs.Order.{AreBehind}
+use Rattle.wit_uses.specs.Uses.{TakesByUse, InterfacesTakeByUse}
+
+-- where interfaces of a package take types by use, and so do those of a graph, among which types of other packages are found, so do all of them
+abbrev pub MovedInterfacesTakeByUse : Type 0
+MovedInterfacesTakeByUse =
+    (features : FeatureSet) (owners : OwnerPlaces) (s : Standing) (owner : ℕ) (foreign own graph moved : List TypeDef) (others : Places) (own_interfaces new_interfaces interfaces : List Interface) (others_interfaces : Places)
+    → AreBehind features owners s owner foreign own graph moved others own_interfaces new_interfaces others_interfaces (length interfaces)
+    → IsKept (AnyOf (InterfaceBreaks features s) own_interfaces)
+    → others ≡ map (type_found interfaces others_interfaces) foreign
+    → ((d : Interface) → Has interfaces d → IsInterfaceThere graph d) → HoldTheirTypes 0 graph interfaces
+    → InterfacesTakeByUse 0 graph interfaces
+    → InterfacesTakeByUse (length others_interfaces) (foreign ++ own) own_interfaces
+    → InterfacesTakeByUse 0 (graph ++ moved) (interfaces ++ new_interfaces)
+
+-- what stays of a world without what it includes: the types that it lists, and those that its items are made of
+abbrev pub moved_types : MovedWorld → List ℕ
+moved_types m = type_items m.imports.items
+
+abbrev pub IsOfMoved : MovedWorld → ℕ → Type 0
+IsOfMoved m i = Has (side_ids m.imports.items) i ⊎ Has (side_ids m.exports.items) i
+
+-- where a world of a package, which is the only one to take its place, takes types by use, so does what stays of it
+abbrev pub MovedWorldsTakeByUse : Type 0
+MovedWorldsTakeByUse =
+    (features : FeatureSet) (owners : OwnerPlaces) (s : Standing) (owner : ℕ) (foreign own graph moved : List TypeDef) (others : Places) (own_interfaces new_interfaces interfaces : List Interface) (others_interfaces : Places)
+    → AreBehind features owners s owner foreign own graph moved others own_interfaces new_interfaces others_interfaces (length interfaces)
+    → others ≡ map (type_found interfaces others_interfaces) foreign → HoldTheirTypes 0 graph interfaces
+    → (v w : ℕ) (world : World) (m : MovedWorld) → place_of owners.worlds v ≡ Some w → ((u : ℕ) → place_of owners.worlds u ≡ Some w → u ≡ v) → IsMovedWorld features s world m → IsKept (SidesBreak features s world)
+    → TakesByUse (foreign ++ own) (belongs.World v) (Has (type_items world.imports.entries)) (IsOfItem world)
+    → TakesByUse (graph ++ moved) (belongs.World w) (Has (moved_types m)) (IsOfMoved m)
+
+-- interfaces still do where more types come behind all that they are made of
+abbrev pub InterfacesStillTakeByUse : Type 0
+InterfacesStillTakeByUse =
+    (others : ℕ) (types more : List TypeDef) (interfaces : List Interface) → AreTypesBackward types → ((d : Interface) → Has interfaces d → IsInterfaceThere types d)
+    → InterfacesTakeByUse others types interfaces → InterfacesTakeByUse others (types ++ more) interfaces
