@@ -1,0 +1,6 @@
+pub mod Given
+pub mod Growing
+pub mod Instances
+pub mod Exports
+pub mod Component
+pub mod Placing
