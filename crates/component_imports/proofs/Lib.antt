@@ -1,11 +1,11 @@
-mod Exported
+pub mod Exported
 mod Imported
 mod Asked
 mod Walked
-mod Staying
+pub mod Staying
 mod Needing
-mod Worldly
-mod Typed
+pub mod Worldly
+pub mod Typed
 mod Readied
 mod Turns
 mod Ordered

@@ -1,0 +1,5 @@
+mod Found
+mod Taken
+mod Entries
+mod Needed
+mod Written
