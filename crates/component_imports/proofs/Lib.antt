@@ -6,7 +6,7 @@ pub mod Staying
 mod Needing
 pub mod Worldly
 pub mod Typed
-mod Readied
+pub mod Readied
 mod Turns
 mod Ordered
 mod Apart

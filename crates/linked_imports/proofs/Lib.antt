@@ -3,3 +3,4 @@ mod Taken
 mod Entries
 mod Needed
 mod Written
+mod Importable

@@ -1,3 +1,2 @@
 mod Linked
-mod Unready
 mod Writable
