@@ -4,3 +4,5 @@ mod Entries
 mod Needed
 mod Written
 mod Importable
+mod Names
+mod Listed

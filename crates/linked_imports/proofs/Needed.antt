@@ -119,7 +119,7 @@ world_names a b types (id ∷ ids) = (λ i. one (slice_get types id) i ++ world_
     one None = refl
     one (Some d) = refl
 
-interface_name_same : (old new : Root) → interface_names new ≡ interface_names old → interface_name old ≡ interface_name new
+pub interface_name_same : (old new : Root) → interface_names new ≡ interface_names old → interface_name old ≡ interface_name new
 interface_name_same old new e = let of : InterfaceNames → ℕ → List ℕ = λ ns i. get_or ns i [] in ap of (sym e)
 
 -- ---- all is imported

@@ -66,7 +66,7 @@ function_there name (g ∷ own) p at = elim (cases_Bool (bytes_eq name (string_b
       (r.0, ap (slice_get (g ∷ own)) q.2 ∙ r.1, r.2))
 ]
 
-function_at_place : (r : Root) (first : ℕ) (types : List TypeDef) (own : List Function) (p : ℕ) (g : Function) → AreFunctionsAt r first types own → slice_get own p ≡ Some g → IsFunctionAt r (first + p) (import_label (string_bytes g.name)) types g.params.items g.result
+pub function_at_place : (r : Root) (first : ℕ) (types : List TypeDef) (own : List Function) (p : ℕ) (g : Function) → AreFunctionsAt r first types own → slice_get own p ≡ Some g → IsFunctionAt r (first + p) (import_label (string_bytes g.name)) types g.params.items g.result
 function_at_place r first types [] p g all at = absurd cc
 function_at_place r first types (f ∷ own) zero g all at =
     let same : f ≡ g = same_Some f g at in

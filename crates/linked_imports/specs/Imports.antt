@@ -1,15 +1,18 @@
 -- What a component imports for a link table, and which of its functions and types are linked (Component Model, Explainer, Import and Export
 -- Definitions; WIT, Worlds).
-use Rattle.std.specs.Prelude.{◌≡◌, ℕ, List, [], ◌++◌, length, map, slice_get, Option, Some, None, string_bytes}
+use Rattle.std.specs.Prelude.{◌≡◌, ℕ, List, [], ◌++◌, length, map, slice_get, Option, Some, None, String, string_bytes}
+use Rattle.std.specs.declared.alloc.Global.{Global}
 use Rattle.std.specs.List.{AllByRecursion as Each}
 use Rattle.wasm_types.specs.Entries.{ImportValue}
 use Rattle.wit_order.specs.Order.{Has}
 use Rattle.wit_types.specs.declared.function.Function.{Function}
+use Rattle.wit_types.specs.declared.interface.Interface.{Interface}
 use Rattle.wit_types.specs.declared.interface.TypeDef.{TypeDef}
 use Rattle.wit_types.specs.declared.interface.TypeOwner.TheVariants as belongs
 use Rattle.wit_types.specs.declared.world.WorldItem.TheVariants as item
 use Rattle.wit_types.specs.declared.world_key.WorldKey.{WorldKey}
 use Rattle.wit_core_names.specs.Texts.{IsNameOf}
+use Rattle.wit_reach.specs.Holding.{AreTheirs, AreListed as AreTypesOfInterfacesListed}
 use Rattle.wit_reach.specs.Made.{IsMadeOfWithin}
 use Rattle.wit_reach.specs.Paths.{AreEnds}
 use Rattle.type_meaning.specs.Words.{root_import, Label}
@@ -31,7 +34,7 @@ use Rattle.link_table.specs.Linking.{Linking, types_of, exported_functions}
 use Rattle.link_table.specs.Pairwise.{Pairwise}
 use Rattle.link_table.specs.Table.{ImportEntry, Table}
 use Rattle.link_table.specs.Types.{HasTree}
-use Rattle.right_components.specs.Outside.{IsListed}
+use Rattle.right_components.specs.Outside.{IsTextOf, IsListed}
 use Rattle.right_components.specs.Ends.{IsImportOf}
 
 -- ---- what is linked
@@ -71,6 +74,14 @@ pub record AreListed (l : Linking) (world : ℕ) (own : List Function) (linked :
   pub interfaces : (j : ℕ) → IsInterfaceAsked (types_of l) (own_types l own) linked j → (key : WorldKey) × IsKeyOf l.names key j
   pub types : (ids : List ℕ) (id : ℕ) (d : TypeDef) (name : List ℕ) → AreEnds (IsMadeOfWithin (belongs.World world) (types_of l)) (Has (own_types l own)) ids → Has ids id → slice_get (types_of l) id ≡ Some d
       → IsNameOf (types_of l) id name → ((j : ℕ) → d.owner ≡ belongs.Interface j → ⊥) → (key : WorldKey) × (span : _) × Has l.names.world.imports.entries (key, item.TypeItem id span)
+
+-- what interfaces and what they have are known by: each key of an interface that the world imports has a text, all types of interfaces stand
+-- in them under their names, and so do functions
+pub record AreNamed (n : Names) : Type 0 where
+  pub keys : (key : WorldKey) (id : ℕ) → IsKeyOf n key id → (text : List ℕ) × IsTextOf n key text
+  pub types : AreTheirs 0 n.known.types n.known.interfaces
+  pub all_types : AreTypesOfInterfacesListed 0 n.known.types n.known.interfaces
+  pub functions : (j : ℕ) (d : Interface) (e : String Global × Function) → slice_get n.known.interfaces j ≡ Some d → Has d.functions.entries e → string_bytes e.0 ≡ string_bytes e.1.name
 
 -- ---- all
 

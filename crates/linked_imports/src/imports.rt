@@ -302,6 +302,7 @@ pub fn write_imports<'e>(
     requires owners { AreOwnersThere (length (linking_value linking.now).names.known.interfaces) (types_of (linking_value linking.now)) }
     requires apart { EarlierAreApart (types_of (linking_value linking.now)) }
     ensures written { (is : IsTableOf (linking_value linking.entry.now) table.now) → IfOk result (λ w. spec.AreImportsWritten (linking_value linking.entry.now) is.table (map string_bytes names.entry.now) (meaning (map entry_value w.entries.items)) w.lowered.items w.lifted.items) }
+    ensures listed { spec.AreNamed (linking_value linking.entry.now).names → ((own : List Func) (linked : List (List Func)) → spec.AreNeeded (linking_value linking.entry.now) own linked → spec.AreListed (linking_value linking.entry.now) world own linked) → IfOk result (λ w. spec.AreImportsListed (linking_value linking.entry.now) (map string_bytes names.entry.now) (meaning (map entry_value w.entries.items))) }
     ensures importable { spec.IsImportable (linking_value linking.entry.now) world (map string_bytes names.entry.now) → IfErr result (IsCause ⊥ (Unit {0})) }
 {
     let imports = linking.main.imports.as_slice();

@@ -12,10 +12,12 @@ use Rattle.component_imports.specs.Functions.{functions_of}
 use Rattle.component_imports.specs.Interfaces.{ids_of, linked_of, asked}
 use Rattle.component_imports.specs.World.{HasUnwrittenType}
 use Rattle.link_table.specs.Linking.{linking_value, types_of, exported_functions}
-use Rattle.linked_imports.specs.Imports.{AreImportsWritten}
+use Rattle.linked_imports.specs.Imports.{AreImportsWritten, AreImportsListed}
 use Rattle.linked_imports.proofs.Importable.{needed_of, can_import, exported_ready}
+use Rattle.linked_imports.proofs.Listed.{imports_listed}
 use Rattle.linked_imports.proofs.Needed.{types_there, owners_there, all_may_be_taken}
-use Rattle.linked_imports.proofs.Written.{all_written}
+use Rattle.linked_imports.proofs.Taken.{keeps_on}
+use Rattle.linked_imports.proofs.Written.{typed_keeps, all_written}
 use Rattle.linked_imports.proofs.imports.write_imports.Goals as goal
 
 pub import_needed-requires-clause-there : goal.import_needed-requires-clause-there
@@ -82,3 +84,18 @@ returns-clause-written c is =
     let all = all_written l is.table names old written.root (functions_of c.args.exported.now) lowered written.indices.items is.is c.requires.names (keeps.interfaces ∙ c.in_ok-imported.ensures.ok.interfaces) c.requires.exported
     (c.in_ok-lowered.ensures.ok is.table is.is) c.in_ok-written.ensures.ok in
     subst (λ (s : Scope). AreImportsWritten l is.table names s lowered written.indices.items) (sym (ap meaning c.into_entries.ensures)) all
+
+pub returns-clause-listed : goal.returns-clause-listed
+returns-clause-listed c called all =
+    let l = linking_value c.args.linking.now in
+    let names = map string_bytes c.args.names.now in
+    let own = functions_of c.in_ok-needed.needed.own.items in
+    let linked = linked_of c.in_ok-needed.needed.linked.items in
+    let needed = needed_of l c.as_slice-imports.result.now c.args.linking.now.main.now.imports.items own linked c.as_slice-imports.ensures.value refl c.in_ok-needed.ensures.own c.in_ok-needed.ensures.linked in
+    let are = c.as_slice.ensures.value ∙ c.in_ok-ids.ensures ∙ ap ids_of c.requires.exported in
+    let imported = c.in_ok-imported.imported in
+    let written = c.in_ok-written.written in
+    let keeps = keeps_on imported.root c.indices.new.self.root written.root (types_of l) c.in_ok-lowered.ensures.keeps
+    (typed_keeps c.indices.new.self.root written.root (types_of l) (functions_of c.args.exported.now) written.indices.items c.in_ok-written.ensures.ok) in
+    subst (AreImportsListed l names) (sym (ap meaning c.into_entries.ensures))
+    (imports_listed l c.args.world names imported written.root c.as_slice.result.now own linked c.in_ok-imported.ensures.ok are keeps needed (all own linked needed) called c.requires.names)
