@@ -1,18 +1,15 @@
 -- Entries of a link table, and what their core imports stand for.
-use Rattle.std.proofs.Common.{◌≡◌, ℕ, ◌+◌, ◌<◌, ◌≤◌, List, ◌∷◌, ◌++◌, length, map, take, [], Option, Some, None, sym, subst, ap, ◌∙◌, arith}
+use Rattle.std.proofs.Common.{◌≡◌, ℕ, ◌+◌, ◌<◌, List, ◌∷◌, ◌++◌, length, take, [], Some, sym, subst, ap, ◌∙◌, arith}
 use Rattle.std.proofs.lemmas.List.{length-map}
 use Rattle.std.proofs.lemmas.Option.{slice_get_within}
 use Rattle.std.specs.Prelude.{slice_get}
-use Rattle.wasm_types.specs.Entries.{ImportValue}
 use Rattle.wit_types.specs.declared.function.Function.{Function}
-use Rattle.wit_types.specs.declared.world_key.WorldKey.{WorldKey}
 use Rattle.wit_reach.proofs.Holding.{got}
 use Rattle.linked_types.proofs.Walks.{has_at}
 use Rattle.wit_core_items.specs.ImportPlaces.{import_at}
 use Rattle.wit_core_items.specs.declared.import_places.ImportPlace.{ImportPlace}
 use Rattle.wit_core_names.specs.Items.{CoreImport}
 use Rattle.core_links.specs.Imports.{StandsAt}
-use Rattle.core_links.specs.Names.{Names}
 use Rattle.core_links.specs.Needed.{IsNeeded}
 use Rattle.link_table.specs.Linking.{Linking, types_of, StandsForFunction}
 use Rattle.link_table.specs.Pairwise.{Pairwise}
@@ -22,7 +19,7 @@ use Rattle.link_table.proofs.Rows.{each_at, entry_import}
 use Rattle.link_table.proofs.Standing.{stands_for_one}
 use Rattle.link_table.proofs.Walks.{take_step}
 use Rattle.type_sinks.specs.declared.root.Root.{Root}
-use Rattle.linked_imports.specs.Roots.{IsFound, IsInterfaceOf, Keeps, StaysBeside, IsThere, AreThere, IsIndexOf, IsIndexOfEntry}
+use Rattle.linked_imports.specs.Roots.{IsFound, Keeps, StaysBeside, IsThere, AreThere, IsIndexOf, IsIndexOfEntry}
 use Rattle.linked_imports.specs.declared.imports.Found.{Found}
 use Rattle.linked_imports.specs.declared.imports.Imported.{Imported}
 use Rattle.linked_imports.proofs.Taken.{there_keeps, index_keeps}

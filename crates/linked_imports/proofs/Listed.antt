@@ -1,8 +1,8 @@
 -- All that is imported is listed by the world.
-use Rattle.std.proofs.Common.{◌≡◌, ◌⊎◌, ℕ, ◌+◌, ◌<◌, true, false, List, [], ◌∷◌, ◌++◌, length, get_or, Option, Some, None, String, inl, inr, refl, sym, subst, ap, ◌∙◌, arith, zero-add}
+use Rattle.std.proofs.Common.{◌≡◌, ℕ, ◌+◌, true, false, List, [], ◌∷◌, ◌++◌, Option, Some, None, String, inl, inr, refl, sym, subst, ap, ◌∙◌, arith, zero-add}
 use Rattle.std.proofs.lemmas.Option.{same_Some, slice_get_within}
-use Rattle.std.specs.List.{AllByRecursion as Each, flat_map}
-use Rattle.std.specs.Prelude.{map, slice_get, option_to_list, string_bytes}
+use Rattle.std.specs.List.{AllByRecursion as Each}
+use Rattle.std.specs.Prelude.{slice_get, option_to_list, string_bytes}
 use Rattle.std.specs.declared.alloc.Global.{Global}
 use Rattle.component_value_types.specs.declared.values.ValueType.TheVariants.{Index}
 use Rattle.wit_order.specs.Order.{Has}
@@ -24,19 +24,17 @@ use Rattle.wit_reach.specs.Paths.{AreEnds}
 use Rattle.wit_reach.proofs.Holding.{got, mapped_has}
 use Rattle.wit_reach.proofs.Lists.{has_append, has_parts}
 use Rattle.wit_core_items.specs.Places.{own_function}
-use Rattle.wit_core_names.specs.Texts.{IsNameOf}
 use Rattle.type_meaning.specs.Tree.{named}
 use Rattle.type_meaning.specs.Words.{root_import, imported, Label, BinaryTree}
-use Rattle.type_meaning.specs.Items.{from_import, Item, Items, a_type, a_function, an_instance, item_at, item_named, Entry}
-use Rattle.type_meaning.specs.Scope.{import_label, Scope}
-use Rattle.type_writing.specs.Functions.{FunctionUnfolds}
+use Rattle.type_meaning.specs.Items.{from_import, Item, Items, a_type, a_function, an_instance, item_named, Entry}
+use Rattle.type_meaning.specs.Scope.{import_label}
 use Rattle.type_writing.specs.Unfolding.{OwnName, WitTree, under_name, Unfolds, unfolds_primitive, unfolds_type, primitive_of}
-use Rattle.type_writing.specs.Writing.{written, Stands, Begins, HasItsName, names_of_types}
+use Rattle.type_writing.specs.Writing.{written, HasItsName, names_of_types}
 use Rattle.type_writing.proofs.Standing.{stands_keeps, value_inside}
-use Rattle.type_sinks.specs.Imports.{entry_names, entries_of}
+use Rattle.type_sinks.specs.Imports.{entries_of}
 use Rattle.type_sinks.specs.Inside.{is_of}
 use Rattle.type_sinks.specs.Root.{InterfaceNames, site_of, root_label, is_of_world, IsHome}
-use Rattle.type_sinks.specs.Views.{entry_values, root_scope, root_names, root_setting, setting_over, interface_names, IsFunctionAt, InstanceHasFunction}
+use Rattle.type_sinks.specs.Views.{entry_values, root_scope, root_names, root_setting, setting_over, interface_names, InstanceHasFunction}
 use Rattle.type_sinks.specs.declared.root.Root.{Root}
 use Rattle.type_sinks.proofs.Names.{entries_apart, items_found}
 use Rattle.type_sinks.proofs.RootImports.{imports_named}
@@ -44,10 +42,8 @@ use Rattle.component_imports.specs.Functions.{function_names}
 use Rattle.component_imports.specs.Interface.{interface_name}
 use Rattle.component_imports.specs.Interfaces.{ids_of, is_needed, names_from, owned_names, HasInterface}
 use Rattle.component_imports.specs.Ready.{IsInterfaceAsked}
-use Rattle.component_imports.specs.World.{AreFunctionsAt}
 use Rattle.component_imports.proofs.Worldly.{functions_at_stay}
-use Rattle.core_links.specs.Names.{Names}
-use Rattle.core_links.specs.Needed.{own_functions, functions_of, AreOwnNeeded}
+use Rattle.core_links.specs.Needed.{own_functions, functions_of}
 use Rattle.link_table.specs.Linking.{Linking, types_of, exported_functions}
 use Rattle.link_table.proofs.Pairwise.{placed}
 use Rattle.right_components.specs.Outside.{AreInterfaceNames, IsTextOf, IsFunction, IsType, IsOfInterface, its_function as function_inside, its_type as type_inside, IsListed, an_interface, its_function, its_type}

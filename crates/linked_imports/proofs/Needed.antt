@@ -1,7 +1,7 @@
 -- What core imports need is imported.
-use Rattle.std.proofs.Common.{◌≡◌, ℕ, ◌+◌, ◌<◌, true, List, [], ◌∷◌, ◌++◌, length, get_or, Option, Some, None, Vec, inl, inr, refl, sym, subst, ap, ◌∙◌, arith}
+use Rattle.std.proofs.Common.{◌≡◌, ℕ, ◌<◌, true, List, [], ◌∷◌, ◌++◌, length, get_or, Option, Some, None, Vec, inl, inr, refl, sym, subst, ap, ◌∙◌, arith}
 use Rattle.std.proofs.lemmas.List.{length-map}
-use Rattle.std.proofs.lemmas.Option.{same_Some, slice_get_within}
+use Rattle.std.proofs.lemmas.Option.{slice_get_within}
 use Rattle.std.specs.Borrow.{Bor}
 use Rattle.std.specs.List.{AllByRecursion as Each, flat_map}
 use Rattle.std.specs.Prelude.{slice_get, string_bytes}
@@ -32,12 +32,11 @@ use Rattle.component_imports.specs.Functions.{function_names}
 use Rattle.component_imports.specs.Interface.{interface_name}
 use Rattle.component_imports.specs.Interfaces.{ids_of, linked_of, asked, is_needed, names_from, HasInterfaceAt, AreNeededImported}
 use Rattle.component_imports.specs.World.{AreFunctionsAt, AreWorldItemsImported}
-use Rattle.core_links.specs.Names.{Names}
 use Rattle.core_links.specs.Needed.{IsNeeded, AreLinkedNeeded}
 use Rattle.link_table.specs.Linking.{Linking, types_of, exported_functions, AreFunctionsThere}
 use Rattle.link_table.proofs.Pairwise.{placed}
 use Rattle.linked_imports.specs.Imports.{AreNeeded, own_types}
-use Rattle.linked_imports.specs.Roots.{IsInterfaceOf, HasImports, HoldsImports, IsThere, AreThere}
+use Rattle.linked_imports.specs.Roots.{HasImports, HoldsImports, IsThere, AreThere}
 use Rattle.linked_imports.specs.declared.imports.Imported.{Imported}
 use Rattle.linked_imports.proofs.Taken.{instance_keeps}
 

@@ -1,10 +1,10 @@
 -- Functions that a root has are taken by their indices.
-use Rattle.std.proofs.Common.{◌≡◌, ℕ, zero, suc, ◌+◌, true, Bool, List, [], ◌∷◌, ◌++◌, length, get_or, Option, Some, None, Result, Ok, Err, inl, inr, refl, sym, subst, ap, ◌∙◌, arith, add-zero}
+use Rattle.std.proofs.Common.{◌≡◌, ℕ, zero, suc, ◌+◌, Bool, List, [], ◌∷◌, length, get_or, Option, Some, None, Result, Ok, Err, inl, inr, refl, sym, subst, ap, ◌∙◌, arith, add-zero}
 use Rattle.std.proofs.lemmas.Bool.{cases_Bool}
 use Rattle.std.proofs.lemmas.List.{append-nil}
 use Rattle.std.proofs.lemmas.Option.{same_Some, slice_get_within, slice_get-get_or}
 use Rattle.std.proofs.lemmas.Slice.Eq.{bytes_eq-Decides}
-use Rattle.std.specs.Prelude.{slice_get, bytes_eq, option_map, string_bytes, IfOk, OnErr, OnOk}
+use Rattle.std.specs.Prelude.{slice_get, bytes_eq, option_map, string_bytes, IfOk, OnErr}
 use Rattle.component_definitions.specs.declared.sorts.ComponentSort.TheVariants as sorts
 use Rattle.component_definitions.specs.Aliases.{instance_export}
 use Rattle.component_entries.specs.Entries.{EntryValue, an_alias}
@@ -12,26 +12,23 @@ use Rattle.name_places.specs.FirstPlaces.{place_of}
 use Rattle.wit_order.specs.Order.{Has}
 use Rattle.wit_types.specs.declared.function.Function.{Function}
 use Rattle.wit_types.specs.declared.interface.TypeDef.{TypeDef}
-use Rattle.wit_types.specs.declared.world_key.WorldKey.{WorldKey}
-use Rattle.type_meaning.specs.Words.{root_import, imported, Label, BinaryTree}
-use Rattle.type_meaning.specs.Items.{Origin, from_import, Item, Items, a_function, an_instance, or_nothing, item_at, item_named, Entry}
-use Rattle.type_meaning.specs.Scope.{Scope, import_label, adds, meaning, of_sort, exported}
+use Rattle.type_meaning.specs.Words.{imported, Label, BinaryTree}
+use Rattle.type_meaning.specs.Items.{Origin, from_import, Item, a_function, an_instance, or_nothing, item_at, Entry}
+use Rattle.type_meaning.specs.Scope.{import_label, meaning, of_sort, exported}
 use Rattle.type_writing.specs.declared.fault.Fault.{Fault}
 use Rattle.type_writing.specs.Writing.{written, Begins}
 use Rattle.type_writing.proofs.Standing.{get_begin, new_item, begins_here, begins_on, begins_same}
-use Rattle.type_sinks.specs.Imports.{entry_names}
-use Rattle.type_sinks.specs.Kept.{index_of}
 use Rattle.type_sinks.specs.Root.{InterfaceNames, root_label, imported_names}
 use Rattle.type_sinks.specs.Views.{root_scope, root_names, interface_names, RootIsGood, IsSameRoot, IsAdded, IsFunctionAt, InstanceHasFunction}
 use Rattle.type_sinks.specs.declared.root.Root.{Root}
 use Rattle.type_sinks.proofs.Names.{entries_apart}
-use Rattle.type_sinks.proofs.Rooted.{types_added, functions_added, instances_added, instances_same, names_added}
+use Rattle.type_sinks.proofs.Rooted.{types_added, functions_added, instances_same, names_added}
 use Rattle.component_imports.specs.Functions.{function_names}
 use Rattle.component_imports.specs.Interface.{interface_name}
 use Rattle.component_imports.specs.World.{AreFunctionsAt}
 use Rattle.component_imports.proofs.Worldly.{functions_at_stay}
 use Rattle.link_table.proofs.Pairwise.{placed}
-use Rattle.linked_imports.specs.Roots.{Keeps, StaysBeside, IsThere, AreThere, label_of, ComesFrom, of_root, of_instance, IsIndexOf, IsIndexOfEntry}
+use Rattle.linked_imports.specs.Roots.{Keeps, StaysBeside, IsThere, label_of, ComesFrom, of_root, of_instance, IsIndexOf}
 use Rattle.linked_imports.specs.declared.imports.Imported.{Imported}
 
 -- ---- functions of the world itself

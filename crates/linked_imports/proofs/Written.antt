@@ -1,5 +1,5 @@
 -- What is imported, as the indices of a component tell it.
-use Rattle.std.proofs.Common.{◌≡◌, ℕ, zero, suc, List, [], ◌∷◌, length, get_or, Option, Some, None, Bor, inl, inr, refl, sym, subst, ap, ◌∙◌}
+use Rattle.std.proofs.Common.{◌≡◌, ℕ, zero, suc, List, [], ◌∷◌, get_or, Option, Some, None, inl, inr, refl, sym, subst, ap, ◌∙◌}
 use Rattle.std.proofs.lemmas.Option.{same_Some}
 use Rattle.std.specs.Prelude.{slice_get, string_bytes}
 use Rattle.wasm_types.specs.Entries.{ImportValue}
@@ -14,18 +14,16 @@ use Rattle.wit_types.specs.declared.world_key.WorldKey.TheVariants as key
 use Rattle.wit_types.specs.declared.interface.Interface.{Interface}
 use Rattle.wit_types.specs.declared.mangling.Mangling.TheVariants.{Standard32, Legacy}
 use Rattle.wit_names.specs.Names.{IsKeyText, text_of, named_in, text_at}
-use Rattle.wit_core_names.specs.Imports.{IsImportName}
 use Rattle.wit_core_names.specs.Items.{CoreImport}
 use Rattle.wit_core_names.specs.Texts.{interface_text_in}
 use Rattle.wit_core_items.specs.World.{IsImportedAs}
-use Rattle.type_meaning.specs.Words.{root_import, imported, Label, BinaryTree}
-use Rattle.type_meaning.specs.Items.{from_import, Item, Items, a_function, an_instance, item_at, Entry}
-use Rattle.type_meaning.specs.Scope.{import_label, meaning}
-use Rattle.type_writing.specs.Functions.{FunctionStands}
+use Rattle.type_meaning.specs.Words.{imported, Label, BinaryTree}
+use Rattle.type_meaning.specs.Items.{from_import, Item, a_function, an_instance, item_at}
+use Rattle.type_meaning.specs.Scope.{import_label}
 use Rattle.type_writing.specs.Writing.{written}
 use Rattle.type_writing.proofs.Standing.{begins_same}
 use Rattle.type_sinks.specs.Root.{InterfaceNames, root_label}
-use Rattle.type_sinks.specs.Views.{entry_values, root_scope, interface_names, RootIsGood}
+use Rattle.type_sinks.specs.Views.{root_scope, interface_names, RootIsGood}
 use Rattle.type_sinks.specs.declared.root.Root.{Root}
 use Rattle.component_imports.specs.World.{AreTypesOf, AreTypesWritten}
 use Rattle.core_links.specs.Names.{Names, counts_legacy}

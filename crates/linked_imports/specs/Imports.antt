@@ -1,9 +1,8 @@
 -- What a component imports for a link table, and which of its functions and types are linked (Component Model, Explainer, Import and Export
 -- Definitions; WIT, Worlds).
-use Rattle.std.specs.Prelude.{◌≡◌, ℕ, List, [], ◌++◌, length, map, slice_get, Option, Some, None, String, string_bytes}
+use Rattle.std.specs.Prelude.{◌≡◌, ℕ, List, [], ◌++◌, slice_get, Option, Some, String, string_bytes}
 use Rattle.std.specs.declared.alloc.Global.{Global}
 use Rattle.std.specs.List.{AllByRecursion as Each}
-use Rattle.wasm_types.specs.Entries.{ImportValue}
 use Rattle.wit_order.specs.Order.{Has}
 use Rattle.wit_types.specs.declared.function.Function.{Function}
 use Rattle.wit_types.specs.declared.interface.Interface.{Interface}
@@ -22,7 +21,6 @@ use Rattle.type_writing.specs.Functions.{FunctionStands}
 use Rattle.type_writing.specs.Unfolding.{WitTree}
 use Rattle.type_writing.specs.Writing.{written}
 use Rattle.type_sinks.specs.Root.{InterfaceNames, root_label}
-use Rattle.type_sinks.specs.Kept.{index_of}
 use Rattle.type_sinks.specs.Views.{root_names, interface_names}
 use Rattle.type_sinks.specs.declared.root.Root.{Root}
 use Rattle.component_imports.specs.Interfaces.{ids_of, AreNeededImported}

@@ -61,7 +61,7 @@ fn exported_function(world: &World, entry: usize) -> Option<&Function>
     }
 }
 
-/// The functions that a world exports itself, in its order.
+/// The functions that a world exports itself, in its order. Fails only for want of memory.
 pub fn exported_functions<'e>(
     alloc: Global,
     world: &'e World,
@@ -285,7 +285,12 @@ impl<'e> Imported<'e> {
     }
 }
 
-/// What a component imports for a link table.
+/// What a component imports for the link table of a module and this world: interfaces, as far as core imports need them, under these names,
+/// which are by the interfaces' ids; the world's own functions that are needed, and its types; and the types of the functions that the world
+/// exports, which are these. With it goes the index of the function for which each core import stands, and of the type of each exported
+/// function (Component Model, Explainer, Import and Export Definitions, Alias Definitions; WIT, Worlds). Answers `NotYet` only where what is
+/// needed isn't all written, as a resource, a handle, a future, a stream or an error context, or two names are one; `TooLarge` where 32 bits
+/// can't say an index; and `OutOfMemory` where memory is wanting.
 pub fn write_imports<'e>(
     alloc: Global,
     linking: &Linking<'e, '_, '_>,

@@ -2,7 +2,6 @@ use Rattle.std.proofs.Common.{◌++◌, sym, subst, ap, ◌∙◌}
 use Rattle.std.proofs.lemmas.Result.{err_from_is_err_and}
 use Rattle.wit_reach.specs.Types.{AreTypesThere}
 use Rattle.type_writing.proofs.Refusals.{cause_weaker}
-use Rattle.type_sinks.specs.Views.{root_scope}
 use Rattle.component_imports.specs.Functions.{functions_of, function_names}
 use Rattle.component_imports.specs.Interfaces.{ids_of, linked_of, AreNeededImported}
 use Rattle.component_imports.specs.Ready.{AreWritable}

@@ -1,7 +1,6 @@
-use Rattle.std.proofs.Common.{◌≡◌, ℕ, refl, sym, subst, ap, ◌∙◌}
+use Rattle.std.proofs.Common.{ℕ, refl, sym, subst, ap, ◌∙◌}
 use Rattle.std.proofs.lemmas.Result.{err_from_is_err_and}
 use Rattle.std.specs.Prelude.{◌++◌, List, Option, map, string_bytes}
-use Rattle.component_entries.specs.Entries.{entry_value}
 use Rattle.type_meaning.specs.Scope.{meaning, Scope}
 use Rattle.type_writing.proofs.Refusals.{cause_weaker}
 use Rattle.type_writing.specs.Writing.{IsRemembered}

@@ -1,4 +1,4 @@
-use Rattle.std.proofs.Common.{None, sym, ◌∙◌, arith}
+use Rattle.std.proofs.Common.{arith}
 use Rattle.std.proofs.lemmas.Option.{slice_get_within}
 use Rattle.std.proofs.lemmas.Result.{IfOk-weaker}
 use Rattle.linked_imports.proofs.Taken.{own_place, own_index, instance_within, instance_is, take_index, took_keeps}

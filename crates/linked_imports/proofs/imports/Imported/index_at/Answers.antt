@@ -1,4 +1,3 @@
-use Rattle.std.proofs.Common.{Some}
 use Rattle.std.proofs.lemmas.Result.{IfOk-weaker}
 use Rattle.link_table.specs.Linking.{linking_value, types_of}
 use Rattle.linked_imports.proofs.Entries.{entry_there, entry_within, entry_at, found_there, entry_index}
