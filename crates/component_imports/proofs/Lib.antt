@@ -1,12 +1,12 @@
-mod Exported
+pub mod Exported
 mod Imported
 mod Asked
 mod Walked
-mod Staying
+pub mod Staying
 mod Needing
-mod Worldly
-mod Typed
-mod Readied
+pub mod Worldly
+pub mod Typed
+pub mod Readied
 mod Turns
 mod Ordered
 mod Apart

@@ -29,7 +29,7 @@ use Rattle.type_sinks.specs.Views.{setting_over}
 use Rattle.component_imports.specs.Interface.{AreItemsUnready, IsUnready}
 use Rattle.component_imports.specs.Ready.{IsWrittenHere, AreReady, IsReady}
 
-abbrev All : ℕ → Type 0
+abbrev pub All : ℕ → Type 0
 All i = Unit {0}
 
 -- ---- parts that aren't ready
@@ -75,7 +75,7 @@ parts_id ready (p ∷ ps) h never = elim (any_split (IsPartUnready ready) p ps h
 ]
 
 -- of these ids one isn't ready
-abbrev OneUnready : (ℕ → Type 0) → List ℕ → Type 0
+abbrev pub OneUnready : (ℕ → Type 0) → List ℕ → Type 0
 OneUnready ready ids = (k : ℕ) × Has ids k × (ready k → ⊥)
 
 one_of : (ready : ℕ → Type 0) (xs ys : List ℕ) → xs ≡ ys → OneUnready ready xs → OneUnready ready ys
@@ -98,7 +98,7 @@ kind_id ready (kinds.Stream x) h never = absurd (never tt)
 kind_id ready (kinds.Alias r) h never = part_id ready (Some r) h never
 kind_id ready kinds.Unknown h never = absurd (never tt)
 
-signature_id : (ready : ℕ → Type 0) (f : Function) → AreUnready ready (function_form f.params.items f.result).parts → (AreUnready All (function_form f.params.items f.result).parts → ⊥) → OneUnready ready (signature_ids f)
+pub signature_id : (ready : ℕ → Type 0) (f : Function) → AreUnready ready (function_form f.params.items f.result).parts → (AreUnready All (function_form f.params.items f.result).parts → ⊥) → OneUnready ready (signature_ids f)
 signature_id ready f h never =
     let ps = map (λ (p : Param). Some p.ty) f.params.items in
     let one = parts_id ready (f.result ∷ ps) h never in

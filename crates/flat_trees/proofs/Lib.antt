@@ -2,3 +2,4 @@ pub mod Parts
 mod Unfolding
 mod Unfolded
 mod Written
+pub mod Unready

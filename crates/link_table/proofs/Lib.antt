@@ -3,11 +3,11 @@ mod Found
 mod Here
 mod One
 mod Opposed
-mod Pairwise
+pub mod Pairwise
 mod Parts
-mod Rows
-mod Standing
-mod There
+pub mod Rows
+pub mod Standing
+pub mod There
 mod Typed
-mod Walks
+pub mod Walks
 mod Whole

@@ -1,3 +1,2 @@
 mod Linked
-pub mod Unready
 pub mod Writable

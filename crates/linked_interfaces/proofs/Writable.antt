@@ -15,7 +15,7 @@ use Rattle.component_imports.specs.Order.{EarlierTypesAreUsed}
 use Rattle.component_imports.specs.Ready.{IsAsked}
 use Rattle.linked_interfaces.specs.Writable.{all_linked, LinkedInterfacesAreWritable}
 use Rattle.linked_interfaces.proofs.Linked.{names_apart, functions_up_to}
-use Rattle.linked_interfaces.proofs.Unready.{type_written, function_written}
+use Rattle.flat_trees.proofs.Unready.{type_written, function_written}
 
 -- ---- functions of interfaces, and others, among all
 

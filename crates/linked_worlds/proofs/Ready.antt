@@ -38,7 +38,7 @@ use Rattle.component_imports.specs.Interfaces.{asked, is_needed, names_from, Are
 use Rattle.component_imports.specs.Ready.{IsWrittenHere, IsNeverWritten, AreReady, IsAsked, IsInterfaceAsked, ReadyFunctionsAreImported}
 use Rattle.component_imports.specs.World.{AreWorldItemsUnready}
 use Rattle.linked_interfaces.specs.Writable.{all_linked}
-use Rattle.linked_interfaces.proofs.Unready.{type_written, function_written}
+use Rattle.flat_trees.proofs.Unready.{type_written, function_written}
 use Rattle.linked_interfaces.proofs.Writable.{among_first, among_second, asked_reached}
 use Rattle.wit_uses.specs.Uses.{IsTaken}
 use Rattle.wit_graph.specs.Graph.{AreWhole}

@@ -17,11 +17,11 @@ use Rattle.linked_types.specs.Kinds.{is_error_context, part_is, if_async, unless
 use Rattle.linked_types.specs.Reached.{function_kind_fault, or_else, function_fault}
 use Rattle.linked_types.specs.declared.fault.TypeFault.{TypeFault}
 use Rattle.linked_types.specs.declared.fault.TypeFault.TheVariants.{AsyncReached, EmptyTypeReached}
+use Rattle.type_writing.specs.Functions.{function_form}
 use Rattle.type_writing.specs.Refusals.{IsUnready, AreUnready, IsKindUnready}
-use Rattle.component_imports.specs.Ready.{IsNeverWritten, HasUnwrittenParts}
 
 -- every type is ready
-abbrev every : ℕ → Type 0
+abbrev pub every : ℕ → Type 0
 every _ = Unit {0}
 
 -- ---- faults
@@ -87,12 +87,12 @@ kind_written kind.Resource ok u = absurd cc
 kind_written (kind.Handle h) ok u = absurd cc
 kind_written kind.Unknown ok u = absurd cc
 
-pub type_written : (d : TypeDef) → kind_fault d.kind ≡ None → IsNeverWritten d → ⊥
+pub type_written : (d : TypeDef) → kind_fault d.kind ≡ None → IsKindUnready every d.kind → ⊥
 type_written d ok u = kind_written d.kind ok u
 
 -- ---- functions
 
-pub function_written : (f : Function) → function_fault f ≡ None → HasUnwrittenParts f → ⊥
+pub function_written : (f : Function) → function_fault f ≡ None → AreUnready every (function_form f.params.items f.result).parts → ⊥
 function_written f ok u =
     let any : (part_is f.result || list_any part_is (map (λ (p : Param). Some p.ty) f.params.items)) ≡ true = any_unwritten (f.result ∷ map (λ (p : Param). Some p.ty) f.params.items) u in
     let here : (part_is f.result || list_any (λ (p : Param). is_error_context p.ty) f.params.items) ≡ true = ap (λ (b : Bool). part_is f.result || b) (sym (any_of_map part_is (λ (p : Param). Some p.ty) f.params.items)) ∙ any in

@@ -1,0 +1,8 @@
+mod Found
+mod Taken
+mod Entries
+mod Needed
+mod Written
+mod Importable
+mod Names
+mod Listed
