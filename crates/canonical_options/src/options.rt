@@ -41,11 +41,7 @@ impl Iter {
     ghost use Rattle.canonical_options.specs.View.{left_of};
 
     /// The options that are given.
-    pub fn new(
-        memory: Option<u32>,
-        realloc: Option<u32>,
-        encoding: Option<StringEncoding>,
-    ) -> Iter
+    pub fn new(memory: Option<u32>, realloc: Option<u32>, encoding: Option<StringEncoding>) -> Iter
         ensures { left_of result ≡ spec.options_with memory realloc encoding }
     {
         Iter {

@@ -10,12 +10,13 @@ use Rattle.link_table.specs.Table.{Table}
 use Rattle.right_components.specs.Main.{main_of}
 use Rattle.right_components.specs.Right.{IsRightFor}
 use Rattle.type_sinks.specs.Placing.{ArePlaced as EntriesArePlaced}
-use Rattle.linked_imports.specs.Imports.{AreNeeded, AreListed}
+use Rattle.linked_imports.specs.Imports.{AreNeeded, AreListed, AreNamed}
 use Rattle.component_encoding.specs.Placing.{ArePlaced, function_names}
 
--- whatever the table needs, the world lists what that is made of
-abbrev pub AreNeededListed : Linking → ℕ → Type 0
-AreNeededListed l world = (own : List Function) (linked : List (List Function)) → AreNeeded l own linked → AreListed l world own linked
+-- items are known by their names, and whatever the table needs, the world lists what that is made of
+pub record AreNeededListed (l : Linking) (world : ℕ) : Type 0 where
+  pub named : AreNamed l.names
+  pub listed : (own : List Function) (linked : List (List Function)) → AreNeeded l own linked → AreListed l world own linked
 
 -- all that is written may stand where it does, if what is imported may, and the functions that are exported differ in their names
 abbrev pub ArePlacedBehind : List EntryValue → List Function → List DefinitionValue → Type 0

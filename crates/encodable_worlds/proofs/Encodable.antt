@@ -1,11 +1,13 @@
 -- Worlds of a graph are encodable.
 use Rattle.std.proofs.Common.{◌≡◌, ◌⊎◌, ℕ, List, [], ◌∷◌, ◌++◌, length, Option, Some, refl, sym, ap, subst, ◌∙◌, inl, inr}
+use Rattle.std.specs.Prelude.{slice_get}
 use Rattle.std.proofs.lemmas.List.Concat.{flat_map-append}
 use Rattle.wit_order.specs.Order.{Has}
 use Rattle.wit_order.proofs.Lists.{has_was}
 use Rattle.wit_types.specs.declared.function.Function.{Function}
 use Rattle.wit_types.specs.declared.interface.Interface.{Interface}
 use Rattle.wit_types.specs.declared.interface.TypeDef.{TypeDef}
+use Rattle.wit_types.specs.declared.world.WorldItem.TheVariants as item
 use Rattle.wit_reach.specs.Ids.{function_ids}
 use Rattle.wit_reach.specs.Lists.{AreOwnersThere}
 use Rattle.wit_reach.specs.Paths.{AreEnds}
@@ -19,17 +21,17 @@ use Rattle.component_imports.specs.Ready.{IsInterfaceAsked, AreWritable}
 use Rattle.link_table.specs.Linking.{Linking, types_of, exported_functions}
 use Rattle.link_table.specs.Table.{Table, IsTable}
 use Rattle.right_components.specs.Outside.{AreInterfaceNames}
-use Rattle.linked_imports.specs.Imports.{AreNeeded, own_types, AreListed, IsImportable}
-use Rattle.wit_reach.specs.Holding.{TypesUseEarlier}
+use Rattle.linked_imports.specs.Imports.{AreNeeded, own_types, AreListed, AreNamed, IsImportable}
+use Rattle.wit_reach.specs.Holding.{AreTheirs, AreListed as AreTypesOfInterfacesListed, TypesUseEarlier}
 use Rattle.wit_graph.specs.Graph.{items_of, AreWhole, TypesOfItemsUseEarlier}
 use Rattle.wit_graph.specs.declared.tables.Tables.{Tables}
 use Rattle.linked_worlds.specs.Asked.{AskedAreImported}
 use Rattle.linked_worlds.specs.Importable.{IsEmptyRoot, own_and_exported, WorldsAreWritable}
 use Rattle.linked_worlds.specs.Linked.{AreNamesOf, FunctionsAreThere}
-use Rattle.linked_worlds.specs.Named.{AreItemsNamed}
+use Rattle.linked_worlds.specs.Named.{AreItemsNamed, WorldsHaveTextsApart}
 use Rattle.linked_worlds.specs.Ready.{OwnTypesAreListed, OwnAreImported, RememberedMayBeTaken}
 use Rattle.encodable_worlds.specs.Encodable.{IsEncodable, WorldsAreEncodable}
-use Rattle.encodable_worlds.proofs.Linked.{needed_may_be_linked}
+use Rattle.encodable_worlds.proofs.Linked.{got, needed_may_be_linked}
 
 -- ---- ends of paths from the same starts
 
@@ -60,6 +62,14 @@ module _ (t : Tables) (world : ℕ) (l : Linking) (names : InterfaceNames) (whol
 
   empty : (r : Root) → interface_names r ≡ names → root_names r ≡ [] → IsEmptyRoot l.names r
   empty r same none = record { named = subst (AreInterfaceNames l.names) (sym same) called; so_many = ap length same ∙ so_many; empty = none }
+
+  items_named : WorldsHaveTextsApart → AreNamed l.names
+  items_named texts = record {
+    keys = λ key id is. (texts t world l.names whole named of).0 key (item.Interface id is.0 is.1) is.2;
+    types = subst (AreTheirs 0 (types_of l)) (sym of.interfaces_are) (subst (λ types. AreTheirs 0 types t.interfaces.all) (sym of.types_are) whole.whole.holds.theirs);
+    all_types = subst (AreTypesOfInterfacesListed 0 (types_of l)) (sym of.interfaces_are) (subst (λ types. AreTypesOfInterfacesListed 0 types t.interfaces.all) (sym of.types_are) whole.whole.listed);
+    functions = λ j d e at has. sym ((whole.whole.names d (got t.interfaces.all j d (ap (λ is. slice_get is j) (sym of.interfaces_are) ∙ at))).named e has);
+  }
 
   needed_listed : AskedAreImported → OwnTypesAreListed → (own : List Function) (linked : List (List Function)) → AreNeeded l own linked → AreListed l world own linked
   needed_listed asked own_listed own linked needed = record {
@@ -92,14 +102,14 @@ module _ (t : Tables) (world : ℕ) (l : Linking) (names : InterfaceNames) (whol
         );
   }
 
-  pub encodable : EarlierTypesAreApart → TypesOfItemsUseEarlier → FunctionsAreThere → AskedAreImported → OwnTypesAreListed → WorldsAreWritable → OwnAreImported → RememberedMayBeTaken → IsEncodable l world names
-  encodable earlier upward functions asked own_listed writable own_imported remembered =
+  pub encodable : EarlierTypesAreApart → TypesOfItemsUseEarlier → FunctionsAreThere → WorldsHaveTextsApart → AskedAreImported → OwnTypesAreListed → WorldsAreWritable → OwnAreImported → RememberedMayBeTaken → IsEncodable l world names
+  encodable earlier upward functions texts asked own_listed writable own_imported remembered =
       let ready = functions t world l.names whole of in
       record {
         backward = ready.backward;
         there = ready.there;
         owners = owners;
         apart = earlier (types_of l) (subst TypesUseEarlier (sym of.types_are) (upward (items_of t) whole.whole));
-        listed = needed_listed asked own_listed;
+        listed = record { named = items_named texts; listed = needed_listed asked own_listed };
         importable = needed_importable writable own_imported remembered;
       }

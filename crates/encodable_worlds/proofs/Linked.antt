@@ -25,7 +25,7 @@ placed [] x h = absurd h
 placed (y ∷ xs) x (inl e) = (zero, ap Some (sym e))
 placed (y ∷ xs) x (inr h) = (let r = placed xs x h in (suc r.0, r.1))
 
-got : {X : Type 0} (xs : List X) (k : ℕ) (x : X) → slice_get xs k ≡ Some x → Has xs x
+pub got : {X : Type 0} (xs : List X) (k : ℕ) (x : X) → slice_get xs k ≡ Some x → Has xs x
 got [] k x at = absurd cc
 got (y ∷ xs) zero x at = inl (let e : y ≡ x = cc in sym e)
 got (y ∷ xs) (suc k) x at = inr (got xs k x at)

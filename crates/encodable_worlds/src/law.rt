@@ -6,6 +6,7 @@ use component_imports::law_earlier_types_are_apart;
 use linked_worlds::{
     law_asked_are_imported, law_functions_are_there, law_own_are_imported,
     law_own_types_are_listed, law_remembered_may_be_taken, law_worlds_are_writable,
+    law_worlds_have_texts_apart,
 };
 use wit_graph::law_types_use_earlier;
 
@@ -19,6 +20,7 @@ pub fn law_worlds_are_encodable()
     law_earlier_types_are_apart();
     law_types_use_earlier();
     law_functions_are_there();
+    law_worlds_have_texts_apart();
     law_asked_are_imported();
     law_own_types_are_listed();
     law_worlds_are_writable();

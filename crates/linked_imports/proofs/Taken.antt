@@ -1,5 +1,5 @@
 -- Functions that a root has are taken by their indices.
-use Rattle.std.proofs.Common.{◌≡◌, ℕ, zero, suc, ◌+◌, Bool, List, [], ◌∷◌, length, get_or, Option, Some, None, Result, Ok, Err, inl, inr, refl, sym, subst, ap, ◌∙◌, arith, add-zero}
+use Rattle.std.proofs.Common.{◌≡◌, ◌<◌, ℕ, zero, suc, ◌+◌, Bool, List, [], ◌∷◌, length, get_or, Option, Some, None, Result, Ok, Err, inl, inr, refl, sym, subst, ap, ◌∙◌, arith, add-zero}
 use Rattle.std.proofs.lemmas.Bool.{cases_Bool}
 use Rattle.std.proofs.lemmas.List.{append-nil}
 use Rattle.std.proofs.lemmas.Option.{same_Some, slice_get_within, slice_get-get_or}
@@ -12,8 +12,8 @@ use Rattle.name_places.specs.FirstPlaces.{place_of}
 use Rattle.wit_order.specs.Order.{Has}
 use Rattle.wit_types.specs.declared.function.Function.{Function}
 use Rattle.wit_types.specs.declared.interface.TypeDef.{TypeDef}
-use Rattle.type_meaning.specs.Words.{imported, Label, BinaryTree}
-use Rattle.type_meaning.specs.Items.{Origin, from_import, Item, a_function, an_instance, or_nothing, item_at, Entry}
+use Rattle.type_meaning.specs.Words.{Site, imported, Label, BinaryTree}
+use Rattle.type_meaning.specs.Items.{Origin, from_import, Item, Items, a_function, an_instance, or_nothing, item_at, Entry}
 use Rattle.type_meaning.specs.Scope.{import_label, meaning, of_sort, exported}
 use Rattle.type_writing.specs.declared.fault.Fault.{Fault}
 use Rattle.type_writing.specs.Writing.{written, Begins}
@@ -150,6 +150,20 @@ take_index i new types interface f name id at instance n x is named here one som
     let k : instance ≡ r.0 = same_Some instance r.0 (sym some ∙ instance_is i.instances.items id at r.0 x r.1 here one) in
     let added : IsAdded i.root new (taking r.0 (string_bytes f.name)) = subst (λ (j : ℕ). IsAdded i.root new (taking j (string_bytes f.name))) k (subst (λ (m : List ℕ). IsAdded i.root new (taking instance m)) named took.1) in
     subst (λ (o : Option ℕ). IsIndexOf new types o f n) (sym is) (taken_is i.root new types id f r.0 n took.0 added r.2)
+
+-- the instance that it is taken from is there
+instance_there : (xs : List Item) (k : ℕ) (site : Site) (items : Items) → item_at xs k ≡ an_instance site items → k < length xs
+instance_there [] k site items h = absurd cc
+instance_there (y ∷ ys) zero site items h = omega arith
+instance_there (y ∷ ys) (suc k) site items h = (let less = instance_there ys k site items h in omega (arith, less))
+
+pub taken_below : (i : Imported) (types : List TypeDef) (interface : Option ℕ) (f : Function) (id at instance : ℕ) (x : Option ℕ) → interface ≡ Some id → at ≡ id → x ≡ get_or i.instances.items at x → x ≡ Some instance → IsThere i types interface f
+    → instance < length (root_scope i.root).instances
+taken_below i types interface f id at instance x is here one some there =
+    let r = subst (λ (o : Option ℕ). IsThere i types o f) is there in
+    let k : instance ≡ r.0 = same_Some instance r.0 (sym some ∙ instance_is i.instances.items id at r.0 x r.1 here one) in
+    let less = instance_there (root_scope i.root).instances r.0 (imported (interface_name i.root id)) r.2.items r.2.is in
+    omega (arith, k, less)
 
 -- ---- what stays
 

@@ -20,9 +20,11 @@ use Rattle.type_meaning.specs.Scope.{Scope}
 use Rattle.type_writing.specs.Functions.{FunctionStands}
 use Rattle.type_writing.specs.Unfolding.{WitTree}
 use Rattle.type_writing.specs.Writing.{written}
+use Rattle.type_writing.specs.Placing.{AreLabelsApart}
 use Rattle.type_sinks.specs.Root.{InterfaceNames, root_label}
 use Rattle.type_sinks.specs.Views.{root_names, interface_names}
 use Rattle.type_sinks.specs.declared.root.Root.{Root}
+use Rattle.component_imports.specs.Functions.{HaveParametersApart}
 use Rattle.component_imports.specs.Interfaces.{ids_of, AreNeededImported}
 use Rattle.component_imports.specs.World.{IsWorldUnready}
 use Rattle.component_imports.specs.Ready.{IsInterfaceAsked, AreWritable}
@@ -98,3 +100,11 @@ pub record IsImportable (l : Linking) (world : ℕ) (names : InterfaceNames) : T
   pub interfaces : (own : List Function) (linked : List (List Function)) (r : Root) → AreNeeded l own linked → interface_names r ≡ names → root_names r ≡ [] → AreWritable r (types_of l) (own_types l own) linked
   pub functions : (own : List Function) (linked : List (List Function)) (r s : Root) (instances : List (Option ℕ)) → AreNeeded l own linked → interface_names r ≡ names → root_names r ≡ []
       → AreNeededImported r s (types_of l) instances (own_types l own) linked → IsWorldUnready s (types_of l) world (ids_of (exported_functions l.names.world)) own → ⊥
+
+-- ---- names
+
+-- labels of types differ, and parameters of functions that are needed or exported
+pub record ArePartsApart (l : Linking) : Type 0 where
+  pub types : AreLabelsApart (types_of l)
+  pub needed : (own : List Function) (linked : List (List Function)) → AreNeeded l own linked → HaveParametersApart own × Each HaveParametersApart linked
+  pub exported : HaveParametersApart (exported_functions l.names.world)

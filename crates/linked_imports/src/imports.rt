@@ -14,7 +14,7 @@ ghost use Rattle.name_places.specs.FirstPlaces.{place_of};
 ghost use Rattle.right_components.specs.Outside.{AreInterfaceNames};
 ghost use Rattle.type_meaning.specs.Scope.{meaning};
 ghost use Rattle.type_sinks.specs.Kept.{index_of};
-ghost use Rattle.type_sinks.specs.Views.{RootIsGood};
+ghost use Rattle.type_sinks.specs.Views.{RootIsGood, RootIsPlaced};
 ghost use Rattle.type_writing.specs.Refusals.{IsCause};
 ghost use Rattle.wit_core_items.specs.ImportPlaces.{import_at};
 ghost use Rattle.wit_core_items.specs.declared.import_places.ImportPlace.TheVariants as place;
@@ -24,6 +24,10 @@ ghost use Rattle.wit_reach.specs.Types.{AreTypesBackward, AreTypesThere};
 ghost use Rattle.wit_types.specs.declared.function.Function.{Function as Func};
 ghost use Rattle.wit_types.specs.declared.interface.TypeDef.{TypeDef as Def};
 ghost use Rattle.wit_types.specs.declared.world_key.WorldKey.{WorldKey as Key};
+ghost use Rattle.std.specs.List.{AllByRecursion as Each};
+ghost use Rattle.component_imports.specs.Functions.{HaveParametersApart};
+ghost use Rattle.type_sinks.specs.Placing.{ArePlaced};
+ghost use Rattle.type_writing.specs.Placing.{AreLabelsApart};
 ghost use Rattle.linked_imports.specs.Imports as spec;
 ghost use Rattle.linked_imports.specs.Roots as roots;
 
@@ -126,6 +130,7 @@ fn import_needed<'e>(
     requires owners { AreOwnersThere (length needed.now.linked.items) types.now }
     requires apart { EarlierAreApart types.now }
     ensures ok { IfOk result (λ i. roots.HoldsImports i (map string_bytes names.entry.now) types.entry.now world exported.now (functions_of needed.now.own.items) (linked_of needed.now.linked.items)) }
+    ensures placed { IfOk result (λ i. AreLabelsApart types.entry.now → HaveParametersApart (functions_of needed.now.own.items) → Each HaveParametersApart (linked_of needed.now.linked.items) → RootIsPlaced i.root) }
     ensures cause { roots.CanImport (map string_bytes names.entry.now) types.entry.now world exported.now (functions_of needed.now.own.items) (linked_of needed.now.linked.items) → IfErr result (IsCause ⊥ (Unit {0})) }
 {
     let own = needed.own.as_slice();
@@ -224,6 +229,7 @@ impl<'e> Imported<'e> {
         requires { (types : List Def) × roots.IsThere self.old types found.interface found.function.now }
         ensures keeps { (types : List Def) → RootIsGood self.old.root types → roots.Keeps self.old.root self.new.root types }
         ensures beside { roots.StaysBeside self.old self.new }
+        ensures placed { RootIsPlaced self.old.root → RootIsPlaced self.new.root }
         ensures ok { (types : List Def) → RootIsGood self.old.root types → roots.IsThere self.old types found.entry.interface found.entry.function.now → IfOk result (roots.IsIndexOf self.new.root types found.entry.interface found.entry.function.now) }
         ensures cause { IfErr result (IsCause ⊥ (Unit {0})) }
     {
@@ -252,6 +258,7 @@ impl<'e> Imported<'e> {
         requires good { RootIsGood self.old.root (types_of (linking_value linking.now)) }
         ensures keeps { roots.Keeps self.old.root self.new.root (types_of (linking_value linking.entry.now)) }
         ensures beside { roots.StaysBeside self.old self.new }
+        ensures placed { RootIsPlaced self.old.root → RootIsPlaced self.new.root }
         ensures ok { (t : Table) (e : ImportEntry) → IsTable (linking_value linking.entry.now) t → slice_get t.imports index ≡ Some e → IfOk result (roots.IsIndexOfEntry (linking_value linking.entry.now) self.new.root e) }
         ensures cause { IfErr result (IsCause ⊥ (Unit {0})) }
     {
@@ -274,6 +281,7 @@ impl<'e> Imported<'e> {
         requires good { RootIsGood self.old.root (types_of (linking_value linking.now)) }
         ensures keeps { roots.Keeps self.old.root self.new.root (types_of (linking_value linking.entry.now)) }
         ensures beside { roots.StaysBeside self.old self.new }
+        ensures placed { RootIsPlaced self.old.root → RootIsPlaced self.new.root }
         ensures ok { (t : Table) → IsTable (linking_value linking.entry.now) t → IfOk result (λ v. Pairwise (roots.IsIndexOfEntry (linking_value linking.entry.now) self.new.root) t.imports v.items) }
         ensures cause { IfErr result (IsCause ⊥ (Unit {0})) }
     {
@@ -308,6 +316,7 @@ pub fn write_imports<'e>(
     requires apart { EarlierAreApart (types_of (linking_value linking.now)) }
     ensures written { (is : IsTableOf (linking_value linking.entry.now) table.now) → IfOk result (λ w. spec.AreImportsWritten (linking_value linking.entry.now) is.table (map string_bytes names.entry.now) (meaning (map entry_value w.entries.items)) w.lowered.items w.lifted.items) }
     ensures listed { spec.AreNamed (linking_value linking.entry.now).names → ((own : List Func) (linked : List (List Func)) → spec.AreNeeded (linking_value linking.entry.now) own linked → spec.AreListed (linking_value linking.entry.now) world own linked) → IfOk result (λ w. spec.AreImportsListed (linking_value linking.entry.now) (map string_bytes names.entry.now) (meaning (map entry_value w.entries.items))) }
+    ensures placed { spec.ArePartsApart (linking_value linking.entry.now) → IfOk result (λ w. ArePlaced (map entry_value w.entries.items)) }
     ensures importable { spec.IsImportable (linking_value linking.entry.now) world (map string_bytes names.entry.now) → IfErr result (IsCause ⊥ (Unit {0})) }
 {
     let imports = linking.main.imports.as_slice();

@@ -186,4 +186,4 @@ module _ (t : Tables) (i : ℕ) (n : Names) (whole : AreWhole t) (are : AreNames
   ]
 
 pub worlds_apart : WorldsHaveTextsApart
-worlds_apart t i n whole named are = texts t i n whole are named
+worlds_apart t i n whole named are = (have_texts t i n whole are named, texts t i n whole are named)

@@ -13,7 +13,7 @@ use Rattle.wit_uses.specs.Uses.{TakeByUse}
 use Rattle.wit_graph.specs.Graph.{AreWhole}
 use Rattle.wit_graph.specs.declared.tables.Tables.{Tables}
 use Rattle.linked_worlds.specs.Linked.{AreNamesOf}
-use Rattle.linked_worlds.specs.Texts.{AreNamedApart, ArePlainlyNamed, HasText, AreTextsApart}
+use Rattle.linked_worlds.specs.Texts.{AreNamedApart, ArePlainlyNamed, HasText, HaveTexts, AreTextsApart}
 
 -- the interface has a package and a name
 abbrev pub IsNamed : List Package → List Interface → ℕ → Type 0
@@ -34,4 +34,4 @@ pub record AreItemsNamed (t : Tables) : Type 0 where
 
 -- so it is of a world with all that it imports in the end
 abbrev pub WorldsHaveTextsApart : Type 0
-WorldsHaveTextsApart = (t : Tables) (i : ℕ) (n : Names) → AreWhole t → AreItemsNamed t → AreNamesOf t i n → AreTextsApart n.known.packages n.known.interfaces n.world.imports.entries
+WorldsHaveTextsApart = (t : Tables) (i : ℕ) (n : Names) → AreWhole t → AreItemsNamed t → AreNamesOf t i n → HaveTexts n.known.packages n.known.interfaces n.world.imports.entries × AreTextsApart n.known.packages n.known.interfaces n.world.imports.entries

@@ -34,8 +34,8 @@ pub fn law_asked_are_imported()
 {}
 
 /// Where packages of a graph differ by their texts, interfaces of a package by their names and plain names of a world from each other, and no
-/// part of these has a mark that stands between them, the texts of a world's keys tell its interfaces apart, and from its functions and types
-/// (WIT, Package Names; Component Model, Import and Export Definitions).
+/// part of these has a mark that stands between them, the keys of a world have texts that tell its interfaces apart, and from its functions and
+/// types (WIT, Package Names; Component Model, Import and Export Definitions).
 pub fn law_worlds_have_texts_apart()
     ensures { WorldsHaveTextsApart }
 {}

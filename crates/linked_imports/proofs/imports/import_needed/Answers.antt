@@ -2,7 +2,8 @@ use Rattle.std.proofs.Common.{◌++◌, sym, subst, ap, ◌∙◌}
 use Rattle.std.proofs.lemmas.Result.{err_from_is_err_and}
 use Rattle.wit_reach.specs.Types.{AreTypesThere}
 use Rattle.type_writing.proofs.Refusals.{cause_weaker}
-use Rattle.component_imports.specs.Functions.{functions_of, function_names}
+use Rattle.std.specs.List.{AllByRecursion as Each}
+use Rattle.component_imports.specs.Functions.{functions_of, function_names, HaveParametersApart}
 use Rattle.component_imports.specs.Interfaces.{ids_of, linked_of, AreNeededImported}
 use Rattle.component_imports.specs.Ready.{AreWritable}
 use Rattle.component_imports.specs.World.{AreWorldItemsImported, IsWorldUnready}
@@ -70,3 +71,8 @@ returns-clause-ok c =
       has = all_imported start found.root last types c.args.world found.instances.items others ids own linked bare are first second c.function_count-first.result c.function_count-first.ensures;
       remembered = others_remembered start found.root last types c.args.world found.instances.items others ids own linked bare are first second;
     }
+
+pub returns-clause-placed : goal.returns-clause-placed
+returns-clause-placed c = λ labels own linked.
+    c.in_ok-root.ensures.placed labels (subst (λ fs. HaveParametersApart (functions_of fs)) (sym c.as_slice-own.ensures.value) own)
+    (c.in_ok-found.ensures.placed labels (subst (λ vs. Each HaveParametersApart (linked_of vs)) (sym c.as_slice-2.ensures.value) linked) c.new-start.ensures.placed)

@@ -7,7 +7,8 @@ use Rattle.type_writing.specs.Writing.{IsRemembered}
 use Rattle.type_sinks.specs.Kept.{index_of}
 use Rattle.wit_order.specs.Order.{Has}
 use Rattle.wit_reach.specs.Types.{AreTypesThere}
-use Rattle.component_imports.specs.Functions.{functions_of}
+use Rattle.type_sinks.specs.Placing.{ArePlaced}
+use Rattle.component_imports.specs.Functions.{functions_of, HaveParametersApart}
 use Rattle.component_imports.specs.Interfaces.{ids_of, linked_of, asked}
 use Rattle.component_imports.specs.World.{HasUnwrittenType}
 use Rattle.link_table.specs.Linking.{linking_value, types_of, exported_functions}
@@ -98,3 +99,13 @@ returns-clause-listed c called all =
     (typed_keeps c.indices.new.self.root written.root (types_of l) (functions_of c.args.exported.now) written.indices.items c.in_ok-written.ensures.ok) in
     subst (AreImportsListed l names) (sym (ap meaning c.into_entries.ensures))
     (imports_listed l c.args.world names imported written.root c.as_slice.result.now own linked c.in_ok-imported.ensures.ok are keeps needed (all own linked needed) called c.requires.names)
+
+pub returns-clause-placed : goal.returns-clause-placed
+returns-clause-placed c apart =
+    let l = linking_value c.args.linking.now in
+    let own = functions_of c.in_ok-needed.needed.own.items in
+    let linked = linked_of c.in_ok-needed.needed.linked.items in
+    let needed = needed_of l c.as_slice-imports.result.now c.args.linking.now.main.now.imports.items own linked c.as_slice-imports.ensures.value refl c.in_ok-needed.ensures.own c.in_ok-needed.ensures.linked in
+    let parameters = apart.needed own linked needed in
+    let first = c.in_ok-imported.ensures.placed apart.types parameters.0 parameters.1 in
+    subst ArePlaced (sym c.into_entries.ensures) (c.in_ok-written.ensures.placed (subst HaveParametersApart (sym c.requires.exported) apart.exported) (c.in_ok-lowered.ensures.placed first))

@@ -1,7 +1,7 @@
 use Rattle.std.proofs.Common.{arith}
 use Rattle.std.proofs.lemmas.Option.{slice_get_within}
 use Rattle.std.proofs.lemmas.Result.{IfOk-weaker}
-use Rattle.linked_imports.proofs.Taken.{own_place, own_index, instance_within, instance_is, take_index, took_keeps}
+use Rattle.linked_imports.proofs.Taken.{own_place, own_index, instance_within, instance_is, take_index, took_keeps, taken_below}
 use Rattle.linked_imports.proofs.imports.Imported.index.Goals as goal
 
 pub own_index-requires : goal.own_index-requires
@@ -30,3 +30,6 @@ pub returns-in-Some-index-clause-ok : goal.returns-in-Some-index-clause-ok
 returns-in-Some-index-clause-ok c types good there =
     IfOk-weaker c.take_function.result _ _ (λ n h. take_index c.args.self.now c.take_function.new.self types c.args.found.interface c.args.found.function.now c.as_str-name.result.now c.in-Some.id c.index.result c.in-Some-index.instance n
     c.index-in-Some.result.now c.in-Some.is c.as_str-name.ensures.value c.index.ensures c.index-in-Some.ensures c.in-Some-index.is there h) c.take_function.ensures.ok
+
+pub returns-in-Some-index-clause-placed : goal.returns-in-Some-index-clause-placed
+returns-in-Some-index-clause-placed c = c.take_function.ensures.placed (taken_below c.args.self.now c.requires.0 c.args.found.interface c.args.found.function.now c.in-Some.id c.index.result c.in-Some-index.instance c.index-in-Some.result.now c.in-Some.is c.index.ensures c.index-in-Some.ensures c.in-Some-index.is c.requires.1)

@@ -33,6 +33,7 @@ loop-index-preserved c =
     record {
       keeps = keeps_on c.args.self.now.root old.root new.root (types_of l) before.keeps a.keeps;
       beside = beside_on c.args.self.now old new before.beside a.beside;
+      placed = λ h. a.placed (before.placed h);
       are = λ t is.
           let r = entry_got l t k is (omega (arith, n, e, lt)) in
           entries_next l old.root new.root t k c.in_ok-index_at.field-0 c.loop-index.indices.items c.push.new.self.items r.0 r.1 a.keeps c.in_ok-push.ensures.items (before.are t is) (a.ok t r.0 is r.1);
