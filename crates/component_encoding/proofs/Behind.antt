@@ -1,17 +1,16 @@
 -- What is known behind definitions: as many of each sort as index spaces have.
-use Rattle.std.proofs.Common.{◌≡◌, ◌<◌, ℕ, ◌+◌, Bool, false, ◌&&◌, List, [], ◌∷◌, ◌++◌, length, Option, Some, None, refl, sym, ap, subst, ◌∙◌, arith, true, zero, suc}
-use Rattle.std.proofs.lemmas.List.Sums.{fold-append}
+use Rattle.std.proofs.Common.{◌≡◌, ◌<◌, ℕ, ◌+◌, Bool, false, ◌&&◌, List, [], ◌∷◌, ◌++◌, length, Option, Some, refl, sym, ap, subst, ◌∙◌, arith, true, zero, suc}
+use Rattle.std.proofs.lemmas.Option.{slice_get_within}
 use Rattle.std.specs.Prelude.{slice_get, option_and_then, string_bytes}
 use Rattle.binary_grammar.specs.Several.{grown}
 use Rattle.distinct_names.specs.Names.{is_new, with_name, all_new}
 use Rattle.wit_types.specs.declared.function.Function.{Function}
 use Rattle.wasm_types.specs.declared.types.ExportKind.TheVariants as kinds
-use Rattle.component_value_types.specs.declared.scope.Scope.{Scope as Counted}
 use Rattle.component_entries.specs.Entries.{DefinedValue, nothing}
 use Rattle.component_sections.specs.Component.{DefinitionValue, with_definition, exports_behind, Follows, Follow}
-use Rattle.component_builder.specs.Builder.{with_space, scope_of}
-use Rattle.component_meaning.specs.Core.{MainModule, CoreItem, CoreInstance}
-use Rattle.component_meaning.specs.Spaces.{Spaces, meaning, core_at}
+use Rattle.component_builder.specs.Builder.{with_space}
+use Rattle.component_meaning.specs.Core.{MainModule, CoreItem}
+use Rattle.component_meaning.specs.Spaces.{meaning, core_at}
 use Rattle.component_encoding.specs.Growing.{IsMainInstance}
 use Rattle.component_encoding.specs.Placing.{ArePlaced, known_behind, names_exported, StayPlaced, StayPlacedWith, function_names}
 use Rattle.component_encoding.proofs.Counts.{Lengths, counted, lengths, counts}
@@ -25,11 +24,6 @@ scope_from k (d ∷ ds) = scope_from (with_definition k d) ds
 pub known_counts : (main : MainModule) (ds : List DefinitionValue) → counted (known_behind ds).scope ≡ lengths (meaning main ds)
 known_counts main ds = ap counted (scope_from nothing ds) ∙ counts main ds
 
-got_below : {A : Type 0} (xs : List A) (k : ℕ) (x : A) → slice_get xs k ≡ Some x → k < length xs
-got_below [] k x at = absurd cc
-got_below (y ∷ xs) zero x at = omega arith
-got_below (y ∷ xs) (suc k) x at = (let h = got_below xs k x at in omega (arith, h))
-
 core_below : (xs : List (Option CoreItem)) (k : ℕ) (x : CoreItem) → option_and_then (λ y. y) (slice_get xs k) ≡ Some x → k < length xs
 core_below [] k x at = absurd cc
 core_below (y ∷ xs) zero x at = omega arith
@@ -38,7 +32,7 @@ core_below (y ∷ xs) (suc k) x at = (let h = core_below xs k x at in omega (ari
 module _ (main : MainModule) (ds : List DefinitionValue) where
   pub instance_below : (i : ℕ) → IsMainInstance main (meaning main ds) i → i < (known_behind ds).scope.core_instances
   instance_below i m =
-      let below = got_below (meaning main ds).core_instances i m.instance m.there in
+      let below = slice_get_within (meaning main ds).core_instances i m.instance m.there in
       let same = ap (λ (l : Lengths). l.core_instances) (known_counts main ds) in
       omega (arith, below, same)
 

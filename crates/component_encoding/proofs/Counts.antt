@@ -1,7 +1,6 @@
 -- As many of each sort are counted as index spaces have.
-use Rattle.std.proofs.Common.{◌≡◌, ℕ, ◌+◌, suc, List, [], ◌∷◌, ◌++◌, length, Bool, true, false, Option, Some, None, refl, sym, ap, ◌∙◌, arith}
+use Rattle.std.proofs.Common.{◌≡◌, ℕ, ◌+◌, suc, List, [], ◌∷◌, ◌++◌, length, Bool, true, false, Option, refl, sym, ap, ◌∙◌, arith}
 use Rattle.std.proofs.lemmas.List.{length-append}
-use Rattle.std.proofs.lemmas.List.Sums.{fold-append}
 use Rattle.std.specs.Prelude.{fold}
 use Rattle.binary_grammar.specs.Several.{grown}
 use Rattle.wasm_types.specs.declared.types.ExportKind.TheVariants as kinds
@@ -16,10 +15,10 @@ use Rattle.component_definitions.specs.declared.counting.IndexSpace.TheVariants 
 use Rattle.component_definitions.specs.declared.externs.Description.{Description}
 use Rattle.component_definitions.specs.declared.externs.Description.TheVariants as descriptions
 use Rattle.component_definitions.specs.Aliases.{AliasValue, instance_export, core_instance_export, outer}
-use Rattle.component_definitions.specs.Canonical.{CanonicalValue, lift, lower, resource_new, resource_drop, resource_rep}
+use Rattle.component_definitions.specs.Canonical.{lift, lower, resource_new, resource_drop, resource_rep}
 use Rattle.component_definitions.specs.Counting.{with_one}
-use Rattle.component_instances.specs.Instances.{CoreInstanceValue, core_instantiate, core_inline}
-use Rattle.component_entries.specs.Entries.{EntryValue, an_alias, a_type, an_import, an_export}
+use Rattle.component_instances.specs.Instances.{core_instantiate, core_inline}
+use Rattle.component_entries.specs.Entries.{an_alias, a_type, an_import, an_export}
 use Rattle.component_sections.specs.Component.{DefinitionValue, a_core_module, a_core_instance, a_component, an_instance, a_canonical, an_entry, space_of}
 use Rattle.component_builder.specs.Builder.{with_space, scope_of}
 use Rattle.component_meaning.specs.Core.{MainModule}

@@ -1,6 +1,6 @@
 -- What imports, types and aliases stand for, as definitions of a component.
-use Rattle.std.proofs.Common.{◌≡◌, List, [], ◌∷◌, ◌++◌, Option, refl, sym, ap, ◌∙◌, append_assoc}
-use Rattle.std.proofs.lemmas.List.{append-nil, map-append}
+use Rattle.std.proofs.Common.{◌≡◌, List, [], ◌∷◌, ◌++◌, refl, sym, ap, ◌∙◌, append_assoc}
+use Rattle.std.proofs.lemmas.List.{map-append}
 use Rattle.std.specs.Prelude.{fold, map}
 use Rattle.wasm_types.specs.declared.types.ExportKind.TheVariants as kinds
 use Rattle.component_definitions.specs.declared.sorts.Sort.{Sort}

@@ -1,5 +1,5 @@
 -- One function that is exported, and one more.
-use Rattle.std.proofs.Common.{◌≡◌, ◌<◌, ℕ, zero, suc, ◌+◌, List, [], ◌∷◌, ◌++◌, length, map, get_or, Option, Some, None, refl, sym, ap, subst, ◌∙◌, arith, append_assoc, inl, inr, ◌⊎◌}
+use Rattle.std.proofs.Common.{◌≡◌, ◌<◌, ℕ, zero, suc, ◌+◌, List, [], ◌∷◌, ◌++◌, length, map, get_or, Some, None, refl, sym, ap, subst, ◌∙◌, arith, append_assoc, inl, inr}
 use Rattle.std.proofs.lemmas.List.{append-nil, length-append}
 use Rattle.std.specs.Prelude.{slice_get, string_bytes}
 use Rattle.std.specs.List.{AllByRecursion as Each}
@@ -23,7 +23,8 @@ use Rattle.wit_arena.proofs.Lists.{get_more}
 use Rattle.component_encoding.specs.Growing.{Grows, AddsCoreItems, IsMainInstance, export_item}
 use Rattle.component_encoding.specs.declared.exports.Shared.{Shared}
 use Rattle.component_encoding.specs.Exports.{AreShared, IsEntryOffered, IsExportOf, AddsExport, lifted, IsOneExported, AreTypes, AreExported}
-use Rattle.component_encoding.proofs.Staying.{each_at, export_stays}
+use Rattle.component_encoding.proofs.Lists.{get_there, get_map, each_at}
+use Rattle.component_encoding.proofs.Staying.{export_stays}
 use Rattle.component_encoding.specs.Placing.{StayPlacedWith}
 use Rattle.component_encoding.proofs.Behind.{StayPlacedTo, placed_next}
 use Rattle.component_encoding.proofs.Growth.{grows, main_stays}
@@ -150,16 +151,6 @@ abbrev pub ExportsOne : List ExportValue → ExportLink → Function → ℕ →
 ExportsOne exports link f ty instance old new shared next = (l : Linking) (main : MainModule) (e : ExportEntry) (tree : BinaryTree) → exports ≡ l.main.exports → IsLinkOf l.main.exports link e → e.function ≡ f → IsEntryOffered l main e
     → IsMainInstance main (meaning main old) instance → type_at is_function (meaning main old).scope.types ty ≡ Some tree → AreShared l.main.exports (meaning main old) instance shared
     → IsOneExported l (meaning main old) (meaning main new) e ty × AreShared l.main.exports (meaning main new) instance next × StayPlacedWith old new (string_bytes f.name)
-
-pub get_there : {A : Type 0} (xs : List A) (k : ℕ) → k < length xs → (x : A) × (slice_get xs k ≡ Some x)
-get_there [] k lt = absurd (omega (arith, lt))
-get_there (x ∷ xs) zero lt = (x, refl)
-get_there (x ∷ xs) (suc k) lt = get_there xs k (omega (arith, lt))
-
-pub get_map : {A B : Type 0} (f : A → B) (xs : List A) (k : ℕ) (x : A) → slice_get xs k ≡ Some x → slice_get (map f xs) k ≡ Some (f x)
-get_map f [] k x at = absurd cc
-get_map f (y ∷ xs) zero x at = (let e : y ≡ x = cc in ap (λ z. Some (f z)) e)
-get_map f (y ∷ xs) (suc k) x at = get_map f xs k x at
 
 pub exports_next : (exports : List ExportValue) (links : List ExportLink) (functions : List Function) (types : List ℕ) (instance : ℕ) (start old new : List DefinitionValue) (shared next : Shared) (n : ℕ) (link : ExportLink) (f : Function) (ty : ℕ)
     → n < length links → slice_get links n ≡ Some link → slice_get functions n ≡ Some f → slice_get types n ≡ Some ty → Begins old new

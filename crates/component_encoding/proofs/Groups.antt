@@ -1,9 +1,8 @@
 -- Core functions under module texts, by the places of the texts.
-use Rattle.std.proofs.Common.{◌≡◌, ◌<◌, ℕ, zero, suc, ◌+◌, List, [], ◌∷◌, ◌++◌, length, map, take, get_or, Bool, true, false, Option, Some, None, refl, sym, ap, subst, ◌∙◌, arith, append_assoc, inl, inr}
+use Rattle.std.proofs.Common.{◌≡◌, ◌<◌, ℕ, zero, suc, ◌+◌, List, [], ◌∷◌, ◌++◌, length, map, take, get_or, Bool, true, false, Option, Some, None, refl, sym, ap, subst, ◌∙◌, arith, append_assoc}
 use Rattle.std.proofs.Math.ListN.{set}
-use Rattle.std.proofs.lemmas.List.{append-nil, length-append, length-map, map-append, map-set, get_or-map, take_more}
-use Rattle.std.proofs.lemmas.Bool.{cases_Bool}
-use Rattle.std.specs.Prelude.{option_map, bytes_eq, if◌then◌else◌}
+use Rattle.std.proofs.lemmas.List.{length-map, map-append, map-set, get_or-map, take_more}
+use Rattle.std.specs.Prelude.{if◌then◌else◌, option_map, bytes_eq}
 use Rattle.binary_grammar.specs.Several.{grown}
 use Rattle.component_builder.specs.Builder.{with_space, scope_of, index_behind}
 use Rattle.component_instances.specs.declared.instances.CoreItem.{CoreItem as CoreIndex}

@@ -1,15 +1,14 @@
 -- What index spaces have stays there, whatever follows.
-use Rattle.std.proofs.Common.{◌≡◌, ℕ, zero, suc, List, [], ◌∷◌, ◌++◌, length, Bool, true, false, Option, Some, None, refl, sym, ap, subst, ◌∙◌, append_assoc}
+use Rattle.std.proofs.Common.{◌≡◌, ℕ, zero, suc, List, [], ◌∷◌, ◌++◌, Option, Some, sym, ap, subst, ◌∙◌, append_assoc}
 use Rattle.std.proofs.lemmas.List.Sums.{fold-append}
-use Rattle.std.specs.Prelude.{fold, slice_get, option_and_then}
+use Rattle.std.specs.Prelude.{slice_get, option_and_then}
 use Rattle.wasm_types.specs.declared.types.ExportKind.{ExportKind}
 use Rattle.wasm_types.specs.declared.types.ExportKind.TheVariants as kinds
 use Rattle.component_sections.specs.Component.{DefinitionValue}
-use Rattle.component_meaning.specs.Core.{MainModule, CoreItem, CoreInstance}
-use Rattle.component_meaning.specs.Spaces.{Spaces, no_spaces, joined, adds, after, meaning, core_at}
+use Rattle.component_meaning.specs.Core.{MainModule, CoreItem}
+use Rattle.component_meaning.specs.Spaces.{Spaces, no_spaces, after, meaning, core_at}
 use Rattle.component_meaning.proofs.Staying.{stays}
 use Rattle.type_writing.specs.Writing.{Begins}
-use Rattle.wit_arena.proofs.Lists.{get_kept}
 use Rattle.component_encoding.specs.Growing.{Grows, AddsCoreItems, IsMainInstance}
 
 -- ---- definitions

@@ -1,11 +1,12 @@
 -- The main module is instantiated with the lowerings that it asks for.
-use Rattle.std.proofs.Common.{◌≡◌, ◌⊎◌, ℕ, zero, suc, ◌+◌, ◌<◌, List, [], ◌∷◌, ◌++◌, length, Bool, true, false, Option, Some, None, refl, sym, ap, subst, ◌∙◌, arith, append_assoc, inl, inr}
-use Rattle.std.proofs.lemmas.List.{append-nil, length-append, length-map}
+use Rattle.std.proofs.Common.{◌≡◌, ◌⊎◌, ℕ, zero, suc, ◌+◌, ◌<◌, List, [], ◌∷◌, ◌++◌, length, true, Option, Some, None, refl, sym, ap, subst, ◌∙◌, arith, inl, inr}
+use Rattle.std.proofs.lemmas.Option.{slice_get_within}
+use Rattle.std.proofs.lemmas.List.{append-nil, length-map}
 use Rattle.std.proofs.lemmas.List.Sums.{fold-append}
 use Rattle.std.proofs.lemmas.Grind.{flat_map-append}
 use Rattle.std.proofs.lemmas.Slice.Eq.{bytes_eq-Decides}
-use Rattle.std.specs.Prelude.{fold, map, slice_get, option_and_then, option_map, is_some, bytes_eq, if◌then◌else◌}
-use Rattle.std.specs.List.{flat_map, list_all}
+use Rattle.std.specs.Prelude.{if◌then◌else◌, fold, map, slice_get, option_and_then, option_map, is_some}
+use Rattle.std.specs.List.{list_all}
 use Rattle.wasm_types.specs.declared.types.ExportKind.TheVariants as kinds
 use Rattle.wasm_types.specs.Entries.{ImportValue}
 use Rattle.wasm_format.specs.Module.{ModuleValue}
@@ -13,14 +14,13 @@ use Rattle.wit_order.specs.Order.{Has}
 use Rattle.component_sections.specs.Component.{DefinitionValue, a_core_module}
 use Rattle.component_builder.specs.Builder.{index_behind}
 use Rattle.component_value_types.specs.Combinators.{NamedValue}
-use Rattle.component_meaning.specs.Core.{matches, CoreImport, MainModule, CoreItem, Source, of_main, of_items, CoreInstance}
-use Rattle.component_meaning.specs.Spaces.{Spaces, no_spaces, joined, adds, after, meaning, core_at, given_for, if_matches, all_there, exports_of, main_instance, is_main, instantiated, given_by, all_given, argument_named, core_export}
+use Rattle.component_meaning.specs.Core.{matches, CoreImport, MainModule, CoreItem, of_main, of_items, CoreInstance}
+use Rattle.component_meaning.specs.Spaces.{Spaces, no_spaces, joined, after, meaning, given_for, if_matches, exports_of, main_instance, is_main, instantiated, given_by, all_given}
 use Rattle.component_meaning.proofs.Staying.{spaces_end}
 use Rattle.core_links.specs.Imports.{RepeatsPair}
-use Rattle.link_table.specs.Pairwise.{Pairwise}
 use Rattle.right_components.specs.Main.{core_import, main_of}
-use Rattle.wit_arena.proofs.Lists.{get_kept, get_last}
-use Rattle.component_encoding.specs.Given.{Under, given_as, first_from, AreGivenFor}
+use Rattle.wit_arena.proofs.Lists.{get_last}
+use Rattle.component_encoding.specs.Given.{Under, given_as, AreGivenFor}
 use Rattle.component_encoding.specs.Instances.{lowering_of, instance_of, arguments_from, instantiation, lowered, AreLowerable, IsInstantiated}
 use Rattle.component_encoding.proofs.Counts.{Lengths, counts}
 use Rattle.component_encoding.proofs.Growth.{next}
@@ -69,11 +69,6 @@ get_or_not : {A : Type 0} (xs : List A) (k : ℕ) → k < length xs → (x : A) 
 get_or_not [] k lt = absurd (omega (arith, lt))
 get_or_not (x ∷ xs) zero lt = (x, refl)
 get_or_not (x ∷ xs) (suc k) lt = get_or_not xs k (omega (arith, lt))
-
-got_below : {A : Type 0} (xs : List A) (k : ℕ) (x : A) → slice_get xs k ≡ Some x → k < length xs
-got_below [] k x at = absurd cc
-got_below (y ∷ xs) zero x at = omega arith
-got_below (y ∷ xs) (suc k) x at = (let h = got_below xs k x at in omega (arith, h))
 
 behind : {A : Type 0} (xs ys : List A) (n k : ℕ) → n ≡ length xs + k → slice_get (xs ++ ys) n ≡ slice_get ys k
 behind [] ys n k e = ap (slice_get ys) (let h : n ≡ k = omega (arith, e) in h)
@@ -162,7 +157,7 @@ module _ (m : ModuleValue) (bytes : List ℕ) (s : Spaces) (fs : List ℕ) (us :
 are_there : (main : MainModule) (s : Spaces) (fs : List ℕ) → AreLowerable main s fs → AreThere (map (lowered s) fs)
 are_there main s fs low k x at =
     let function = map_got (lowered s) fs k x at in
-    let import = get_or_not main.imports k (let a = got_below fs k function.0 function.1 in let n = low.so_many in omega (arith, a, n)) in
+    let import = get_or_not main.imports k (let a = slice_get_within fs k function.0 function.1 in let n = low.so_many in omega (arith, a, n)) in
     let can = low.each k import.0 function.0 import.1 function.1 in
     (can.0, function.2 ∙ can.1)
 

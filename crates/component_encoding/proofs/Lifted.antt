@@ -1,7 +1,6 @@
 -- A core function is lifted and exported.
-use Rattle.std.proofs.Common.{◌≡◌, ℕ, List, [], ◌∷◌, ◌++◌, length, Option, Some, None, refl, sym, ap, subst, ◌∙◌}
+use Rattle.std.proofs.Common.{◌≡◌, ℕ, List, [], ◌∷◌, ◌++◌, length, Option, Some, None, sym, ap, subst, ◌∙◌}
 use Rattle.std.proofs.lemmas.List.{append-nil}
-use Rattle.std.specs.Prelude.{slice_get}
 use Rattle.component_definitions.specs.declared.canonical.CanonicalOption.{CanonicalOption}
 use Rattle.component_definitions.specs.declared.sorts.ComponentSort.TheVariants as components
 use Rattle.component_definitions.specs.declared.sorts.Sort.TheVariants as sorts
@@ -10,7 +9,7 @@ use Rattle.component_entries.specs.Entries.{an_export}
 use Rattle.component_sections.specs.Component.{DefinitionValue, a_canonical, an_entry}
 use Rattle.component_builder.specs.Builder.{index_behind}
 use Rattle.type_meaning.specs.Words.{BinaryTree}
-use Rattle.type_meaning.specs.Items.{Item, from_lift, a_function, or_nothing, item_at, Entry, type_at, is_function}
+use Rattle.type_meaning.specs.Items.{Item, from_lift, a_function, or_nothing, item_at, type_at, is_function}
 use Rattle.type_meaning.specs.Scope.{renamed}
 use Rattle.component_meaning.specs.Core.{MainModule}
 use Rattle.component_meaning.specs.Spaces.{Spaces, after, meaning, lifting}

@@ -1,8 +1,8 @@
 -- What the main module is given, by looking up.
-use Rattle.std.proofs.Common.{◌≡◌, ℕ, zero, suc, ◌+◌, ◌<◌, List, [], ◌∷◌, ◌++◌, length, Bool, true, false, Option, Some, None, refl, sym, ap, subst, ◌∙◌, arith, inl, inr}
+use Rattle.std.proofs.Common.{◌≡◌, ℕ, zero, suc, ◌+◌, ◌<◌, List, [], ◌∷◌, ◌++◌, length, Bool, true, false, Option, Some, None, refl, sym, ap, ◌∙◌, arith, inl, inr}
 use Rattle.std.proofs.lemmas.Bool.{cases_Bool}
 use Rattle.std.proofs.lemmas.Slice.Eq.{bytes_eq-Decides}
-use Rattle.std.specs.Prelude.{map, slice_get, option_map, bytes_eq, ◌&&◌, if◌then◌else◌}
+use Rattle.std.specs.Prelude.{slice_get, option_map, bytes_eq, ◌&&◌, if◌then◌else◌}
 use Rattle.wasm_types.specs.declared.types.ExportKind.TheVariants.{Func}
 use Rattle.wasm_types.specs.Entries.{ImportValue}
 use Rattle.component_value_types.specs.Combinators.{NamedValue}

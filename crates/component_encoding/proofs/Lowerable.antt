@@ -1,21 +1,19 @@
 -- Functions that are imported are lowered to the core types that core imports have.
-use Rattle.std.proofs.Common.{◌≡◌, ℕ, zero, suc, ◌<◌, List, [], ◌∷◌, length, map, Bool, true, false, Option, Some, None, refl, sym, ap, subst, ◌∙◌, arith, eq-eqb}
+use Rattle.std.proofs.Common.{◌≡◌, ℕ, List, [], ◌∷◌, length, true, Option, Some, refl, sym, ap, subst, ◌∙◌, arith, eq-eqb}
 use Rattle.std.proofs.lemmas.List.{length-map}
-use Rattle.std.specs.Prelude.{slice_get, ◌&&◌, ◌==◌}
-use Rattle.std.specs.List.{AllByRecursion as Each}
+use Rattle.std.proofs.lemmas.Option.{slice_get_within}
+use Rattle.std.specs.Prelude.{slice_get, ◌&&◌}
 use Rattle.wasm_types.specs.declared.types.ValType.{ValType}
 use Rattle.wasm_types.specs.Entries.{ImportValue}
 use Rattle.wasm_types.specs.Types.{FuncTypeValue}
 use Rattle.wasm_format.specs.Module.{imported_type}
 use Rattle.wit_types.specs.declared.mangling.AbiVariant.TheVariants.{GuestImport}
 use Rattle.wit_reach.specs.Types.{AreTypesBackward}
-use Rattle.type_meaning.specs.Scope.{Scope}
-use Rattle.type_meaning.specs.Items.{Item, from_import, a_function, item_at}
 use Rattle.type_writing.specs.Writing.{written}
 use Rattle.type_sinks.specs.Root.{InterfaceNames, root_label}
 use Rattle.flat_trees.specs.Flat.{signature, core_type as flat_type}
 use Rattle.flat_trees.specs.Law.{UnfoldedFunctionsAreFlat, WrittenTreesKeepCoreTypes}
-use Rattle.component_meaning.specs.Core.{CoreType, of_function, value_code, same_values, same_function_type, matches, CoreImport, MainModule, of_lower, CoreItem}
+use Rattle.component_meaning.specs.Core.{of_function, value_code, same_values, same_function_type, matches, CoreImport, of_lower, CoreItem}
 use Rattle.component_meaning.specs.Spaces.{Spaces, lowering}
 use Rattle.link_table.specs.Linking.{Linking, types_of}
 use Rattle.link_table.specs.Pairwise.{Pairwise}
@@ -23,8 +21,7 @@ use Rattle.link_table.specs.Table.{ImportEntry, IsImportEntry, Table, IsTable}
 use Rattle.right_components.specs.Main.{core_type, core_import, main_of, kind_of}
 use Rattle.linked_imports.specs.Imports.{IsLowered}
 use Rattle.component_encoding.specs.Instances.{lowered, AreLowerable}
-use Rattle.component_encoding.proofs.Staying.{each_at}
-use Rattle.component_encoding.proofs.Exported.{get_there, get_map}
+use Rattle.component_encoding.proofs.Lists.{get_there, get_map, each_at}
 
 -- ---- equal core types match
 
@@ -57,7 +54,7 @@ module _ (flat : UnfoldedFunctionsAreFlat) (keep : WrittenTreesKeepCoreTypes) (l
     so_many = low.so_many ∙ sym (length-map t.imports (λ (e : ImportEntry). e.import)) ∙ ap length table.imports ∙ sym (length-map l.main.imports (core_import l.main));
     each = λ k i f at of. (
         let size = low.so_many in
-        let below = got_below fs k f of in
+        let below = slice_get_within fs k f of in
         let there = get_there t.imports k (omega (arith, size, below)) in
         let import = get_map (λ (e : ImportEntry). e.import) t.imports k there.0 there.1 in
         let is_import : slice_get l.main.imports k ≡ Some there.0.import = ap (λ xs. slice_get xs k) (sym table.imports) ∙ import in
@@ -67,8 +64,3 @@ module _ (flat : UnfoldedFunctionsAreFlat) (keep : WrittenTreesKeepCoreTypes) (l
         subst (λ (x : CoreImport). (c : CoreItem) × (lowered s f ≡ Some c) × (matches x.ty c.ty ≡ true)) same one
         );
   }
-    where
-      got_below : (xs : List ℕ) (k x : ℕ) → slice_get xs k ≡ Some x → k < length xs
-      got_below [] k x at = absurd cc
-      got_below (y ∷ xs) zero x at = omega arith
-      got_below (y ∷ xs) (suc k) x at = (let h = got_below xs k x at in omega (arith, h))

@@ -9,18 +9,18 @@ use Rattle.wasm_types.specs.declared.types.ExportKind.TheVariants as kinds
 use Rattle.wasm_types.specs.Entries.{ExportValue}
 use Rattle.wasm_types.specs.Types.{FuncTypeValue}
 use Rattle.wasm_format.specs.Module.{ModuleValue, exported_type}
-use Rattle.wit_order.specs.Order.{Has}
-use Rattle.component_meaning.specs.Core.{CoreType, of_function, of_kind, is_of_kind, CoreExport}
+use Rattle.component_meaning.specs.Core.{of_function, of_kind}
 use Rattle.core_links.specs.Names.{Names}
 use Rattle.core_links.specs.Exports.{IsAt}
 use Rattle.link_table.specs.Linking.{Linking}
-use Rattle.link_table.specs.Options.{IsMemory, IsMemoryIf, IsRealloc, IsReallocIf, IsReallocAt, AreOptions, realloc_type}
+use Rattle.link_table.specs.Options.{IsMemory, IsMemoryIf, IsRealloc, IsReallocIf, IsReallocAt, realloc_type}
 use Rattle.link_table.specs.Table.{ExportEntry, IsExportEntry}
 use Rattle.wit_types.specs.declared.mangling.AbiVariant.{AbiVariant}
 use Rattle.right_components.specs.Main.{core_type, core_export, main_of}
 use Rattle.right_components.specs.Ends.{IsNameOfMemory}
+use Rattle.component_encoding.proofs.Lists.{get_has}
 use Rattle.component_encoding.specs.Growing.{export_named, Offers}
-use Rattle.component_encoding.specs.Exports.{IsOffered, AreOffered, IsEntryOffered}
+use Rattle.component_encoding.specs.Exports.{IsOffered, IsEntryOffered}
 
 -- ---- by a name that no other has
 
@@ -35,11 +35,6 @@ named_first m (x ∷ xs) (suc k) e at only = elim (cases_Bool (bytes_eq e.name x
       ap (λ b. if b then Some (core_export m x).ty else export_named (map (core_export m) xs) e.name) differ
       ∙ named_first m xs k e at (λ j y there named. (let z : suc j ≡ suc k = only (suc j) y there named in omega (arith, z)))
 ]
-
-get_has : {A : Type 0} (xs : List A) (k : ℕ) (x : A) → slice_get xs k ≡ Some x → Has xs x
-get_has [] k x at = absurd cc
-get_has (y ∷ ys) zero x at = inl (let e : y ≡ x = cc in sym e)
-get_has (y ∷ ys) (suc k) x at = inr (get_has ys k x at)
 
 module _ (l : Linking) (bytes : List ℕ) where
   -- the core export at a place, whose name no other has

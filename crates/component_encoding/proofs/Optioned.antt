@@ -1,5 +1,5 @@
 -- Core exports that options name, one by one.
-use Rattle.std.proofs.Common.{◌≡◌, ℕ, List, Option, Some, None, refl, sym, ap, subst, ◌∙◌}
+use Rattle.std.proofs.Common.{◌≡◌, ℕ, List, Option, Some, None, sym, ap, subst, ◌∙◌}
 use Rattle.std.specs.Prelude.{option_map, option_and_then}
 use Rattle.std.specs.Borrow.{Bor}
 use Rattle.wasm_types.specs.declared.types.ExportKind.TheVariants as kinds
@@ -10,12 +10,12 @@ use Rattle.component_meaning.specs.Spaces.{Spaces}
 use Rattle.link_table.specs.Linking.{Linking}
 use Rattle.link_table.specs.Options.{Options}
 use Rattle.link_table.specs.View.{name_at}
-use Rattle.right_components.specs.Ends.{IsNameOfMemory, IsCoreExport, the_memory, the_realloc, is_there, IsOptionOf}
+use Rattle.right_components.specs.Ends.{IsNameOfMemory, IsCoreExport, the_memory, the_realloc, is_there}
 use Rattle.component_encoding.specs.Growing.{Grows}
 use Rattle.component_encoding.specs.Exports.{IsTaken, AreShared, IsOptionFor}
 use Rattle.component_encoding.specs.declared.exports.Taken.{Taken}
 use Rattle.component_encoding.specs.declared.exports.Shared.{Shared}
-use Rattle.component_encoding.proofs.Staying.{taken_stays, shared_stay}
+use Rattle.component_encoding.proofs.Staying.{shared_stay}
 
 -- the name at a place that was found
 pub found_at : (es : List ExportValue) (place : Option ℕ) (p : ℕ) (found : Option (Bor (List ℕ))) (name : Bor (List ℕ)) → option_map (λ (n : Bor (List ℕ)). n.now) found ≡ option_and_then (name_at es) place → place ≡ Some p → found ≡ Some name → name_at es p ≡ Some name.now

@@ -1,5 +1,5 @@
 -- A lift with its export may stand where it does.
-use Rattle.std.proofs.Common.{◌≡◌, ◌<◌, ℕ, suc, List, [], ◌∷◌, ◌++◌, length, Bool, true, false, Option, Some, None, refl, sym, ap, subst, ◌∙◌, arith, zero}
+use Rattle.std.proofs.Common.{◌≡◌, ◌<◌, ℕ, suc, List, [], ◌∷◌, ◌++◌, length, true, Option, Some, None, refl, sym, ap, ◌∙◌, arith, zero}
 use Rattle.std.specs.Prelude.{slice_get}
 use Rattle.std.specs.List.{AllByRecursion as Each}
 use Rattle.distinct_names.specs.Names.{is_new, with_name}
@@ -10,20 +10,20 @@ use Rattle.component_definitions.specs.declared.canonical.CanonicalOption.TheVar
 use Rattle.component_definitions.specs.declared.sorts.ComponentSort.TheVariants as components
 use Rattle.component_definitions.specs.declared.sorts.Sort.TheVariants as sorts
 use Rattle.component_definitions.specs.Canonical.{are_single}
-use Rattle.component_entries.specs.Entries.{DefinedValue, nothing, an_export}
-use Rattle.component_sections.specs.Component.{DefinitionValue, an_entry, with_definition}
+use Rattle.component_entries.specs.Entries.{DefinedValue, nothing}
+use Rattle.component_sections.specs.Component.{DefinitionValue, with_definition}
 use Rattle.component_builder.specs.Builder.{index_behind}
 use Rattle.canonical_options.specs.Options.{encoding_option}
 use Rattle.link_lines.specs.declared.encoding.StringEncoding.{StringEncoding}
 use Rattle.link_lines.specs.declared.encoding.StringEncoding.TheVariants as encodings
 use Rattle.type_meaning.specs.Words.{BinaryTree}
-use Rattle.type_meaning.specs.Items.{Item, nothing as no_item, or_nothing, type_if, type_at, is_function}
+use Rattle.type_meaning.specs.Items.{Item, or_nothing, type_if, type_at, is_function}
 use Rattle.component_meaning.specs.Core.{MainModule, CoreItem}
 use Rattle.component_meaning.specs.Spaces.{meaning, core_at}
 use Rattle.link_table.specs.Linking.{Linking}
 use Rattle.link_table.specs.Options.{Options}
 use Rattle.right_components.specs.Ends.{IsOptionOf, the_memory, the_realloc, the_encoding, AreOptionsOf}
-use Rattle.component_encoding.specs.Placing.{ArePlaced, known_behind, names_exported, StayPlacedWith}
+use Rattle.component_encoding.specs.Placing.{known_behind, names_exported, StayPlacedWith}
 use Rattle.component_encoding.proofs.Counts.{Lengths}
 use Rattle.component_encoding.proofs.Behind.{scope_from, known_counts, function_below, memory_below, placed_with, known_with, names_with}
 use Rattle.component_encoding.proofs.Following.{IsOptionThere, lift_follows, export_follows}

@@ -11,18 +11,19 @@ use Rattle.component_entries.specs.Entries.{DefinedValue, nothing}
 use Rattle.component_sections.specs.Component.{DefinitionValue, a_core_module, with_definition, Follow}
 use Rattle.component_value_types.specs.Scope.{no_scope}
 use Rattle.component_builder.specs.Builder.{with_space, scope_of, index_behind}
-use Rattle.type_meaning.specs.Items.{Item, item_at, or_nothing}
-use Rattle.component_meaning.specs.Core.{MainModule, CoreImport, matches, CoreItem}
-use Rattle.component_meaning.specs.Spaces.{Spaces, lowering, meaning}
+use Rattle.type_meaning.specs.Items.{Item, or_nothing}
+use Rattle.component_meaning.specs.Core.{MainModule, CoreItem}
+use Rattle.component_meaning.specs.Spaces.{lowering, meaning}
 use Rattle.component_encoding.specs.Given.{Under, IsFunctionBelow, item_names, MayBeGiven}
-use Rattle.component_encoding.specs.Instances.{lowering_of, instance_of, arguments_from, instantiation, lowered, AreLowerable}
-use Rattle.component_encoding.specs.Placing.{ArePlaced, known_behind, names_exported, StayPlaced}
+use Rattle.component_encoding.specs.Instances.{lowering_of, instance_of, arguments_from, instantiation, AreLowerable}
+use Rattle.component_encoding.specs.Placing.{ArePlaced, known_behind, StayPlaced}
 use Rattle.component_encoding.proofs.Counts.{Lengths}
 use Rattle.component_encoding.proofs.Behind.{scope_from, known_counts, known_with, placed_with, names_with}
-use Rattle.component_encoding.proofs.Exported.{get_there}
 use Rattle.component_encoding.proofs.Following.{IsFunctionThere, module_follows, lower_follows, inline_follows, instantiation_follows}
-use Rattle.component_encoding.proofs.Groups.{grown_both, lowered_count, same_instances, instance_count}
-use Rattle.component_encoding.proofs.Right.{has_get, got_below, each_of}
+use Rattle.component_encoding.proofs.Groups.{grown_both, lowered_count, instance_count}
+use Rattle.std.proofs.lemmas.Option.{slice_get_within}
+use Rattle.link_table.proofs.Pairwise.{placed}
+use Rattle.component_encoding.proofs.Lists.{get_there, each_of}
 
 -- ---- definitions one behind the other
 
@@ -36,13 +37,13 @@ there_below : (xs : List Item) (i : ℕ) (found : Option Item) → slice_get xs 
 there_below xs i None e c h = absurd cc
 there_below [] i (Some x) e c h = absurd cc
 there_below (y ∷ ys) zero (Some x) e c h = omega arith
-there_below (y ∷ ys) (suc i) (Some x) e c h = (let less = got_below ys i x e in omega (arith, less))
+there_below (y ∷ ys) (suc i) (Some x) e c h = (let less = slice_get_within ys i x e in omega (arith, less))
 
 module _ (main : MainModule) (ds : List DefinitionValue) where
   lowered_below : (fs : List ℕ) → AreLowerable main (meaning main ds) fs → Each (λ f. f < (known_behind ds).scope.functions) fs
   lowered_below fs low = each_of _ fs (λ f has. (
-      let place = has_get fs f has in
-      let below = got_below fs place.0 f place.1 in
+      let place = placed fs f has in
+      let below = slice_get_within fs place.0 f place.1 in
       let size = low.so_many in
       let import = get_there main.imports place.0 (omega (arith, size, below)) in
       let one = low.each place.0 import.0 f import.1 place.1 in

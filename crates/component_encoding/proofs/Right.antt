@@ -1,61 +1,36 @@
 -- A component that imports what the link table needs, instantiates the main module with that, and exports what lifts it, is right for the
 -- table.
-use Rattle.std.proofs.Common.{◌≡◌, ◌⊎◌, ◌<◌, ℕ, zero, suc, List, [], ◌∷◌, ◌++◌, length, map, Option, Some, None, refl, sym, ap, subst, ◌∙◌, inl, inr, arith}
-use Rattle.std.specs.Prelude.{slice_get, string_bytes}
+use Rattle.std.proofs.Common.{◌≡◌, ℕ, zero, suc, List, [], ◌∷◌, ◌++◌, map, Option, Some, None, refl, sym, ap, subst, ◌∙◌, inl, inr, arith}
+use Rattle.std.specs.Prelude.{slice_get}
 use Rattle.std.specs.List.{AllByRecursion as Each}
-use Rattle.std.proofs.lemmas.List.{length-map}
+use Rattle.std.proofs.lemmas.Option.{slice_get_within}
 use Rattle.wit_order.specs.Order.{Has}
 use Rattle.wit_types.specs.declared.function.Function.{Function}
 use Rattle.type_meaning.specs.Words.{Label, BinaryTree, seen}
-use Rattle.type_meaning.specs.Items.{Origin, from_import, Item, Items, nothing, a_function, item_at, or_nothing, item_named, Entry, type_at, is_function}
+use Rattle.type_meaning.specs.Items.{Origin, from_import, Item, nothing, a_function, item_at, or_nothing, Entry, type_at, is_function}
 use Rattle.type_meaning.specs.Scope.{Scope}
 use Rattle.type_writing.proofs.Standing.{get_begin}
 use Rattle.type_writing.specs.Writing.{written}
 use Rattle.type_sinks.specs.Root.{InterfaceNames, root_label}
-use Rattle.component_meaning.specs.Core.{of_function, MainModule, CoreItem, of_lower, Source, of_main, of_items, CoreInstance}
+use Rattle.component_meaning.specs.Core.{of_function, CoreItem, of_lower, CoreInstance}
 use Rattle.component_meaning.specs.Spaces.{Spaces, lowering, all_given}
 use Rattle.flat_trees.specs.Flat.{signature, core_type}
 use Rattle.wit_types.specs.declared.mangling.AbiVariant.TheVariants.{GuestImport}
-use Rattle.link_table.specs.Linking.{Linking, types_of, exported_functions}
+use Rattle.link_table.specs.Linking.{Linking, exported_functions}
 use Rattle.link_table.specs.Pairwise.{Pairwise}
 use Rattle.link_table.specs.Table.{ImportEntry, ExportEntry, Table, IsTable}
 use Rattle.right_components.specs.Main.{main_of}
-use Rattle.right_components.specs.Outside.{AreInterfaceNames, resource_label, IsFunction, IsListed, IsExported}
+use Rattle.right_components.specs.Outside.{AreInterfaceNames, resource_label, IsListed, IsExported}
 use Rattle.right_components.specs.Ends.{IsImportOf, IsLoweringOf}
 use Rattle.right_components.specs.Right.{IsImported, ImportsRight, ExportsRight, ModulesRight, AreGiven, TakesOwn, LiftsOwn, LinksRight, IsRightFor}
 use Rattle.linked_imports.specs.Imports.{HasImport, its_own, of_instance, IsLowered, IsTypeAt, AreImportsWritten, AreImportsListed}
 use Rattle.component_encoding.specs.Growing.{Grows}
 use Rattle.component_encoding.specs.Instances.{lowered, IsInstantiated}
 use Rattle.component_encoding.specs.Exports.{IsExportOf, AreExported}
-use Rattle.component_encoding.proofs.Exported.{get_there, get_map}
+use Rattle.link_table.proofs.Pairwise.{placed}
+use Rattle.component_encoding.proofs.Lists.{get_has, get_there, get_map, map_got, each_of}
 
 -- ---- lists
-
-pub get_has : {A : Type 0} (xs : List A) (k : ℕ) (x : A) → slice_get xs k ≡ Some x → Has xs x
-get_has [] k x at = absurd cc
-get_has (y ∷ ys) zero x at = inl (let e : y ≡ x = cc in sym e)
-get_has (y ∷ ys) (suc k) x at = inr (get_has ys k x at)
-
-pub has_get : {A : Type 0} (xs : List A) (x : A) → Has xs x → (k : ℕ) × (slice_get xs k ≡ Some x)
-has_get [] x h = absurd h
-has_get (y ∷ ys) x h = elim h as (λ _. (k : ℕ) × (slice_get (y ∷ ys) k ≡ Some x)) [
-  | inl e ↦ (zero, ap (λ z. Some z) (sym e))
-  | inr more ↦ (let r = has_get ys x more in (suc r.0, r.1))
-]
-
-pub got_below : {A : Type 0} (xs : List A) (k : ℕ) (x : A) → slice_get xs k ≡ Some x → k < length xs
-got_below [] k x at = absurd cc
-got_below (y ∷ xs) zero x at = omega arith
-got_below (y ∷ xs) (suc k) x at = (let h = got_below xs k x at in omega (arith, h))
-
-pub each_of : {A : Type 0} (P : A → Type 0) (xs : List A) → ((x : A) → Has xs x → P x) → Each P xs
-each_of P [] h = tt
-each_of P (x ∷ xs) h = (h x (inl refl), each_of P xs (λ y has. h y (inr has)))
-
-map_got : {A B : Type 0} (f : A → B) (xs : List A) (k : ℕ) (y : B) → slice_get (map f xs) k ≡ Some y → (x : A) × (slice_get xs k ≡ Some x) × (f x ≡ y)
-map_got f [] k y at = absurd cc
-map_got f (x ∷ xs) zero y at = (x, refl, cc)
-map_got f (x ∷ xs) (suc k) y at = map_got f xs k y at
 
 pairs_behind : {X Y : Type 0} (R : X → Y → Type 0) (x : X) (y : Y) (xs : List X) (ys : List Y) → Pairwise R (x ∷ xs) (y ∷ ys) → Pairwise R xs ys
 pairs_behind R x y xs ys h = record { so_many = (let n = h.so_many in omega (arith, n)); each = λ k a b at bt. h.each (suc k) a b at bt }
@@ -103,13 +78,13 @@ module _ (l : Linking) (names : InterfaceNames) (bytes : List ℕ) (t : Table) (
   low_at : (e : ImportEntry) (k : ℕ) → slice_get t.imports k ≡ Some e → (f : ℕ) × IsLowered l names first.scope e f
   low_at e k at =
       let size = m.written.lowered_are.so_many in
-      let below = got_below t.imports k e at in
+      let below = slice_get_within t.imports k e at in
       let there = get_there lowers k (omega (arith, size, below)) in
       (there.0, m.written.lowered_are.each k e there.0 at there.1)
 
   needed : (e : ImportEntry) → Has t.imports e → (label : Label) × IsImportOf l.names e label × IsImported l names last e label
   needed e has =
-      let place = has_get t.imports e has in
+      let place = placed t.imports e has in
       let low = low_at e place.0 place.1 in
       (low.1.label, low.1.is_import, needed_by e low.0 low.1 low.1.imported)
 
@@ -124,10 +99,10 @@ module _ (l : Linking) (names : InterfaceNames) (bytes : List ℕ) (t : Table) (
   export_places : (k : ℕ) (e : ExportEntry) → slice_get t.exports k ≡ Some e → (ty : ℕ) × IsTypeAt l names first.scope e.function ty × ((x : Entry) × (slice_get m.exported.entries k ≡ Some x) × IsExportOf l last e ty x)
   export_places k e at =
       let function : slice_get (exported_functions l.names.world) k ≡ Some e.function = ap (λ fs. slice_get fs k) (sym m.table.exports) ∙ get_map (λ (y : ExportEntry). y.function) t.exports k e at in
-      let below = got_below (exported_functions l.names.world) k e.function function in
+      let below = slice_get_within (exported_functions l.names.world) k e.function function in
       let size = m.written.lifted_are.so_many in
       let ty = get_there lifts k (omega (arith, size, below)) in
-      let below_entry = got_below t.exports k e at in
+      let below_entry = slice_get_within t.exports k e at in
       let so_many = m.exported.so_many in
       let x = get_there m.exported.entries k (omega (arith, so_many, below_entry)) in
       (ty.0, m.written.lifted_are.each k e.function ty.0 function ty.1, (x.0, x.1, m.exported.each k e ty.0 x.0 at ty.1 x.1))
@@ -141,7 +116,7 @@ module _ (l : Linking) (names : InterfaceNames) (bytes : List ℕ) (t : Table) (
 
   each_exported : (f : Function) → Has (exported_functions l.names.world) f → (x : Entry) × Has last.scope.exports x × IsExported l.names names f x
   each_exported f has =
-      let place = has_get (exported_functions l.names.world) f has in
+      let place = placed (exported_functions l.names.world) f has in
       let entry = map_got (λ (e : ExportEntry). e.function) t.exports place.0 f (ap (λ fs. slice_get fs place.0) m.table.exports ∙ place.1) in
       let made = export_places place.0 entry.0 entry.1 in
       let is = is_exported entry.0 made.0 made.2.0 made.1 made.2.2 in
@@ -150,9 +125,9 @@ module _ (l : Linking) (names : InterfaceNames) (bytes : List ℕ) (t : Table) (
   -- an export is that of an entry
   export_of : (x : Entry) → Has last.scope.exports x → (e : ExportEntry) × (ty : ℕ) × Has t.exports e × IsTypeAt l names first.scope e.function ty × IsExportOf l last e ty x
   export_of x has =
-      let place = has_get m.exported.entries x (subst (λ xs. Has xs x) exports_are has) in
+      let place = placed m.exported.entries x (subst (λ xs. Has xs x) exports_are has) in
       let so_many = m.exported.so_many in
-      let below = got_below m.exported.entries place.0 x place.1 in
+      let below = slice_get_within m.exported.entries place.0 x place.1 in
       let e = get_there t.exports place.0 (omega (arith, so_many, below)) in
       let made = export_places place.0 e.0 e.1 in
       let both : Some made.2.0 ≡ Some x = sym made.2.1 ∙ place.1 in
@@ -162,7 +137,7 @@ module _ (l : Linking) (names : InterfaceNames) (bytes : List ℕ) (t : Table) (
   only_exported : (x : Entry) → Has last.scope.exports x → (f : Function) × Has (exported_functions l.names.world) f × IsExported l.names names f x
   only_exported x has =
       let of = export_of x has in
-      let place = has_get t.exports of.0 of.2 in
+      let place = placed t.exports of.0 of.2 in
       let function : slice_get (exported_functions l.names.world) place.0 ≡ Some of.0.function = ap (λ fs. slice_get fs place.0) (sym m.table.exports) ∙ get_map (λ (y : ExportEntry). y.function) t.exports place.0 of.0 place.1 in
       (of.0.function, get_has (exported_functions l.names.world) place.0 of.0.function function, is_exported of.0 of.1 x of.3 of.4)
 

@@ -1,16 +1,15 @@
 -- What is said of exports stays so, whatever follows.
-use Rattle.std.proofs.Common.{◌≡◌, ℕ, ◌+◌, zero, suc, List, [], ◌∷◌, ◌++◌, length, Option, Some, None, refl, sym, ap, subst, ◌∙◌, arith}
-use Rattle.std.specs.Prelude.{map, option_to_list, slice_get}
+use Rattle.std.proofs.Common.{◌≡◌, ℕ, ◌+◌, List, [], ◌∷◌, ◌++◌, length, Option, Some, None, refl, ap, ◌∙◌}
+use Rattle.std.specs.Prelude.{map, option_to_list}
 use Rattle.std.specs.List.{AllByRecursion as Each}
 use Rattle.std.specs.Option.{ForSome}
-use Rattle.std.proofs.lemmas.List.{length-append, length-map}
+use Rattle.std.proofs.lemmas.List.{length-append}
 use Rattle.wasm_types.specs.declared.types.ExportKind.{ExportKind}
 use Rattle.wasm_types.specs.declared.types.ExportKind.TheVariants as kinds
 use Rattle.wasm_types.specs.Entries.{ExportValue}
 use Rattle.component_definitions.specs.declared.canonical.CanonicalOption.{CanonicalOption}
 use Rattle.component_definitions.specs.declared.canonical.CanonicalOption.TheVariants as canonical
 use Rattle.canonical_options.specs.Options.{encoding_option, options_with}
-use Rattle.link_lines.specs.declared.encoding.StringEncoding.{StringEncoding}
 use Rattle.type_meaning.specs.Items.{Origin, Entry, type_at, is_function}
 use Rattle.component_meaning.specs.Spaces.{Spaces}
 use Rattle.link_table.specs.Linking.{Linking}
@@ -28,11 +27,6 @@ use Rattle.component_encoding.proofs.Growth.{core_stays}
 pub each_both : {A : Type 0} (P : A → Type 0) (xs ys : List A) → Each P xs → Each P ys → Each P (xs ++ ys)
 each_both P [] ys a b = b
 each_both P (x ∷ xs) ys a b = (a.0, each_both P xs ys a.1 b)
-
-pub each_at : {A : Type 0} (P : A → Type 0) (xs : List A) (k : ℕ) (x : A) → Each P xs → slice_get xs k ≡ Some x → P x
-each_at P [] k x a at = absurd cc
-each_at P (y ∷ xs) zero x a at = (let e : y ≡ x = cc in subst P e a.0)
-each_at P (y ∷ xs) (suc k) x a at = each_at P xs k x a.1 at
 
 pub each_stays : {A : Type 0} (P Q : A → Type 0) (xs : List A) → ((x : A) → P x → Q x) → Each P xs → Each Q xs
 each_stays P Q [] h a = tt

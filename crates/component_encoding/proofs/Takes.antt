@@ -1,9 +1,8 @@
 -- A core export that is taken from the instance of the main module.
-use Rattle.std.proofs.Common.{◌≡◌, ℕ, suc, List, [], ◌∷◌, ◌++◌, length, Bool, true, false, Option, Some, None, refl, sym, ap, subst, ◌∙◌, inl, inr}
+use Rattle.std.proofs.Common.{◌≡◌, ℕ, List, [], ◌∷◌, ◌++◌, length, Bool, true, false, Option, Some, None, refl, sym, ap, subst, ◌∙◌}
 use Rattle.std.proofs.lemmas.List.{append-nil}
-use Rattle.std.proofs.lemmas.Bool.{cases_Bool}
 use Rattle.std.proofs.lemmas.Slice.Eq.{bytes_eq-Decides}
-use Rattle.std.specs.Prelude.{map, slice_get, option_and_then, bytes_eq, if◌then◌else◌}
+use Rattle.std.specs.Prelude.{if◌then◌else◌, map, slice_get, option_and_then, bytes_eq}
 use Rattle.wasm_types.specs.declared.types.ExportKind.{ExportKind}
 use Rattle.wasm_types.specs.declared.types.ExportKind.TheVariants as kinds
 use Rattle.component_definitions.specs.Aliases.{core_instance_export}
@@ -11,7 +10,7 @@ use Rattle.component_entries.specs.Entries.{an_alias}
 use Rattle.component_sections.specs.Component.{DefinitionValue, an_entry}
 use Rattle.component_builder.specs.Builder.{index_behind}
 use Rattle.component_meaning.specs.Core.{CoreType, is_of_kind, CoreExport, MainModule, of_export, CoreItem, CoreEntry, CoreInstance}
-use Rattle.component_meaning.specs.Spaces.{Spaces, no_spaces, joined, adds, after, meaning, core_at, core_space_of, core_export, entry_named, if_of_kind, exports_of}
+use Rattle.component_meaning.specs.Spaces.{Spaces, after, meaning, core_at, core_export, entry_named, if_of_kind}
 use Rattle.component_meaning.proofs.Staying.{spaces_end}
 use Rattle.wit_arena.proofs.Lists.{get_last}
 use Rattle.component_encoding.specs.Growing.{AddsCoreItems, export_named, Offers, IsMainInstance, export_item}

@@ -1,16 +1,14 @@
 -- The whole component, by what each of its steps adds.
-use Rattle.std.proofs.Common.{◌≡◌, ◌<◌, ℕ, zero, suc, List, [], ◌∷◌, ◌++◌, length, map, Option, Some, refl, sym, ap, subst, ◌∙◌, arith}
-use Rattle.std.specs.Prelude.{slice_get, string_bytes}
+use Rattle.std.proofs.Common.{◌≡◌, ◌<◌, ℕ, zero, suc, List, [], ◌∷◌, length, map, Option, Some, refl, sym, ap, subst, ◌∙◌, arith}
+use Rattle.std.specs.Prelude.{slice_get}
 use Rattle.std.specs.List.{AllByRecursion as Each}
 use Rattle.wasm_types.specs.declared.entries.Export.{Export}
 use Rattle.wasm_types.specs.Entries.{export_value}
-use Rattle.wit_order.specs.Order.{Has}
 use Rattle.wit_reach.specs.Types.{AreTypesBackward}
 use Rattle.wit_types.specs.declared.function.Function.{Function}
 use Rattle.component_entries.specs.Entries.{EntryValue, DefinedValue}
 use Rattle.distinct_names.specs.Names.{all_new}
 use Rattle.component_sections.specs.Component.{DefinitionValue}
-use Rattle.type_meaning.specs.Words.{BinaryTree}
 use Rattle.type_meaning.specs.Items.{type_at, is_function}
 use Rattle.type_meaning.specs.Scope.{Scope, meaning as scope_meaning}
 use Rattle.type_writing.specs.Writing.{Begins, written}
@@ -36,17 +34,19 @@ use Rattle.component_encoding.specs.Exports.{IsEntryOffered, AreTypes, AreExport
 use Rattle.component_encoding.specs.Component.{ArePlacedBehind}
 use Rattle.component_encoding.specs.Placing.{ArePlaced, names_exported, StayPlaced, StayPlacedWithAll, function_names}
 use Rattle.component_encoding.proofs.Entries.{entry_definitions, entry_scope, are_of_entries}
-use Rattle.component_encoding.proofs.Exported.{get_there}
 use Rattle.component_encoding.proofs.Growth.{grows}
 use Rattle.component_encoding.proofs.Lowerable.{are_lowerable}
 use Rattle.component_encoding.proofs.Offered.{entries_offered}
-use Rattle.component_encoding.proofs.Right.{has_get, got_below, each_of, is_right}
+use Rattle.std.proofs.lemmas.Option.{slice_get_within}
+use Rattle.link_table.proofs.Pairwise.{placed}
+use Rattle.component_encoding.proofs.Lists.{get_there, each_of}
+use Rattle.component_encoding.proofs.Right.{is_right}
 
 -- indices of types of functions, still where others follow
 are_types : (l : Linking) (names : InterfaceNames) (scope : Scope) (s : Spaces) (fs : List Function) (lifts : List ℕ) → Pairwise (IsTypeAt l names scope) fs lifts → s.scope ≡ scope → AreTypes s lifts
 are_types l names scope s fs lifts are same = each_of _ lifts (λ ty has.
-    let place = has_get lifts ty has in
-    let below = got_below lifts place.0 ty place.1 in
+    let place = placed lifts ty has in
+    let below = slice_get_within lifts place.0 ty place.1 in
     let size = are.so_many in
     let f = get_there fs place.0 (omega (arith, size, below)) in
     let stands = are.each place.0 f.0 ty f.1 place.1 in
@@ -89,7 +89,7 @@ whole flat keep l names bytes t es first second last lowers lifts instance table
 -- links are of core exports that are there
 pub places_there : (exports : List Export) (entries : List ExportEntry) (links : List ExportLink) → AreLinksOfEntries (map export_value exports) entries links → (k : ℕ) (x : ExportLink) → slice_get links k ≡ Some x → x.«export» < length exports
 places_there exports entries links are k x at =
-    let below = got_below links k x at in
+    let below = slice_get_within links k x at in
     let size = are.so_many in
     let e = get_there entries k (omega (arith, size, below)) in
     let named = (are.each k e.0 x e.1 at).name in

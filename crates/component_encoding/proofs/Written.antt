@@ -1,13 +1,13 @@
 -- What lowerings, instances of core functions and the instance of the main module stand for.
-use Rattle.std.proofs.Common.{◌≡◌, ℕ, zero, suc, ◌+◌, List, [], ◌∷◌, ◌++◌, length, Bool, true, false, Option, Some, None, refl, sym, ap, subst, ◌∙◌, arith, append_assoc, add-zero}
+use Rattle.std.proofs.Common.{◌≡◌, ℕ, suc, ◌+◌, List, [], ◌∷◌, ◌++◌, length, true, false, Option, Some, refl, sym, ap, ◌∙◌, append_assoc}
 use Rattle.std.proofs.lemmas.List.{append-nil}
-use Rattle.std.specs.Prelude.{fold, map, slice_get, option_and_then, bytes_eq, if◌then◌else◌}
+use Rattle.std.specs.Prelude.{if◌then◌else◌, fold, map, slice_get, option_and_then, bytes_eq}
 use Rattle.wasm_types.specs.declared.types.ExportKind.{ExportKind}
 use Rattle.wasm_types.specs.declared.types.ExportKind.TheVariants as kinds
 use Rattle.component_value_types.specs.Combinators.{NamedValue}
 use Rattle.component_instances.specs.declared.instances.CoreItem.{CoreItem as CoreIndex}
-use Rattle.component_meaning.specs.Core.{MainModule, CoreItem, CoreEntry, of_items, CoreInstance}
-use Rattle.component_meaning.specs.Spaces.{Spaces, joined, core_space, instance_space, core_space_of, core_at, entry_named, core_export, argument_named, inline_entry, after}
+use Rattle.component_meaning.specs.Core.{MainModule, CoreItem, of_items, CoreInstance}
+use Rattle.component_meaning.specs.Spaces.{Spaces, joined, core_space, instance_space, core_at, entry_named, core_export, argument_named, inline_entry, after}
 use Rattle.component_meaning.proofs.Staying.{spaces_end}
 use Rattle.component_encoding.specs.Given.{Under, named_in, given_as}
 use Rattle.component_encoding.specs.Instances.{lowering_of, instance_of, arguments_from, lowered}

@@ -1,17 +1,16 @@
 -- Functions that are exported: each lifts a core export of the main module (Component Model, Canonical ABI, canon lift).
-use Rattle.std.specs.Prelude.{◌≡◌, ℕ, List, [], ◌∷◌, ◌++◌, length, slice_get, Option, Some, None, string_bytes}
+use Rattle.std.specs.Prelude.{◌≡◌, ℕ, List, [], ◌∷◌, ◌++◌, length, slice_get, Option, Some, string_bytes}
 use Rattle.std.specs.List.{AllByRecursion as Each}
 use Rattle.std.specs.Option.{ForSome}
 use Rattle.wasm_types.specs.declared.types.ExportKind.{ExportKind}
 use Rattle.wasm_types.specs.declared.types.ExportKind.TheVariants as kinds
 use Rattle.wasm_types.specs.Entries.{ExportValue}
 use Rattle.wasm_types.specs.Types.{FuncTypeValue}
-use Rattle.wit_types.specs.declared.function.Function.{Function}
 use Rattle.wit_types.specs.declared.mangling.AbiVariant.TheVariants.{GuestExport}
 use Rattle.type_meaning.specs.Words.{BinaryTree}
 use Rattle.type_meaning.specs.Items.{Origin, from_lift, a_function, Entry, type_at, is_function}
 use Rattle.component_meaning.specs.Core.{CoreType, of_function, MainModule}
-use Rattle.component_meaning.specs.Spaces.{Spaces, core_at}
+use Rattle.component_meaning.specs.Spaces.{Spaces}
 use Rattle.link_table.specs.Linking.{Linking, types_of}
 use Rattle.link_table.specs.Options.{Options}
 use Rattle.link_table.specs.Table.{ExportEntry}

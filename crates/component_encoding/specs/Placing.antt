@@ -1,6 +1,6 @@
 -- Where definitions may stand: behind those of which their indices speak, and under names that are new (Component Model Binary, Component
 -- Definitions).
-use Rattle.std.specs.Prelude.{◌≡◌, ℕ, List, [], map, true, string_bytes}
+use Rattle.std.specs.Prelude.{◌≡◌, ℕ, List, map, true, string_bytes}
 use Rattle.binary_grammar.specs.Several.{grown}
 use Rattle.distinct_names.specs.Names.{is_new, with_name, all_new}
 use Rattle.wit_types.specs.declared.function.Function.{Function}

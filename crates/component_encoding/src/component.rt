@@ -1,6 +1,6 @@
 //! The whole component.
 
-ghost use Rattle.std.specs.Prelude.{◌≡◌, ◌++◌, [], List, length, map, string_bytes, IfOk, IfErr, OnOk, true};
+ghost use Rattle.std.specs.Prelude.{◌≡◌, ◌++◌, [], length, map, string_bytes, IfOk, IfErr, OnOk, true};
 ghost use Rattle.component_entries.specs.Entries.{entry_value};
 ghost use Rattle.component_imports.specs.Functions.{functions_of};
 ghost use Rattle.component_imports.specs.Interfaces.{EarlierAreApart};
@@ -17,7 +17,6 @@ ghost use Rattle.type_sinks.specs.Root.{InterfaceNames};
 ghost use Rattle.type_writing.specs.Refusals.{IsCause};
 ghost use Rattle.wit_reach.specs.Lists.{AreOwnersThere};
 ghost use Rattle.wit_reach.specs.Types.{AreTypesBackward};
-ghost use Rattle.wit_types.specs.declared.function.Function.{Function as Func};
 ghost use Rattle.distinct_names.specs.Names.{all_new};
 ghost use Rattle.component_encoding.specs.Component as spec;
 ghost use Rattle.component_encoding.specs.Placing as placing;

@@ -1,6 +1,6 @@
 //! What the main module is given.
 
-ghost use Rattle.std.specs.Prelude.{◌≡◌, ◌++◌, ◌∷◌, [], map, OnOk, IfOk, Some};
+ghost use Rattle.std.specs.Prelude.{◌≡◌, ◌++◌, ◌∷◌, [], map, OnOk, Some};
 ghost use Rattle.component_value_types.specs.Names.{named_value};
 ghost use Rattle.component_encoding.specs.Given as spec;
 

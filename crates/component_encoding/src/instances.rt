@@ -1,11 +1,10 @@
 //! The main module, and its instance.
 
-ghost use Rattle.std.specs.Prelude.{◌≡◌, ◌+◌, ◌<◌, ◌≤◌, ◌++◌, ◌∷◌, [], ℕ, List, length, map, OnOk, IfOk, Some};
+ghost use Rattle.std.specs.Prelude.{◌≡◌, ◌+◌, ◌<◌, ◌++◌, ◌∷◌, [], length, map, OnOk, IfOk};
 ghost use Rattle.component_definitions.specs.Canonical.{lower};
 ghost use Rattle.component_instances.specs.Instances.{core_argument_value};
-ghost use Rattle.component_meaning.specs.Core.{MainModule};
-ghost use Rattle.component_meaning.specs.Spaces.{Spaces, meaning};
-ghost use Rattle.component_sections.specs.Component.{DefinitionValue, a_canonical};
+ghost use Rattle.component_meaning.specs.Spaces.{meaning};
+ghost use Rattle.component_sections.specs.Component.{a_canonical};
 ghost use Rattle.component_value_types.specs.Names.{named_value};
 ghost use Rattle.core_links.specs.Imports.{RepeatsPair};
 ghost use Rattle.right_components.specs.Main.{main_of};

@@ -1,5 +1,5 @@
 -- Worlds of a graph are encodable.
-use Rattle.std.proofs.Common.{◌≡◌, ◌⊎◌, ℕ, List, [], ◌∷◌, ◌++◌, length, Option, Some, refl, sym, ap, subst, ◌∙◌, inl, inr}
+use Rattle.std.proofs.Common.{◌≡◌, ℕ, List, [], ◌++◌, length, Some, sym, ap, subst, ◌∙◌, inl, inr}
 use Rattle.std.specs.Prelude.{slice_get}
 use Rattle.std.proofs.lemmas.List.Concat.{flat_map-append}
 use Rattle.wit_order.specs.Order.{Has}
@@ -30,8 +30,9 @@ use Rattle.linked_worlds.specs.Importable.{IsEmptyRoot, own_and_exported, Worlds
 use Rattle.linked_worlds.specs.Linked.{AreNamesOf, FunctionsAreThere}
 use Rattle.linked_worlds.specs.Named.{AreItemsNamed, WorldsHaveTextsApart}
 use Rattle.linked_worlds.specs.Ready.{OwnTypesAreListed, OwnAreImported, RememberedMayBeTaken}
-use Rattle.encodable_worlds.specs.Encodable.{IsEncodable, WorldsAreEncodable}
-use Rattle.encodable_worlds.proofs.Linked.{got, needed_may_be_linked}
+use Rattle.encodable_worlds.specs.Encodable.{IsEncodable}
+use Rattle.component_encoding.proofs.Lists.{get_has}
+use Rattle.encodable_worlds.proofs.Linked.{needed_may_be_linked}
 
 -- ---- ends of paths from the same starts
 
@@ -68,7 +69,7 @@ module _ (t : Tables) (world : ℕ) (l : Linking) (names : InterfaceNames) (whol
     keys = λ key id is. (texts t world l.names whole named of).0 key (item.Interface id is.0 is.1) is.2;
     types = subst (AreTheirs 0 (types_of l)) (sym of.interfaces_are) (subst (λ types. AreTheirs 0 types t.interfaces.all) (sym of.types_are) whole.whole.holds.theirs);
     all_types = subst (AreTypesOfInterfacesListed 0 (types_of l)) (sym of.interfaces_are) (subst (λ types. AreTypesOfInterfacesListed 0 types t.interfaces.all) (sym of.types_are) whole.whole.listed);
-    functions = λ j d e at has. sym ((whole.whole.names d (got t.interfaces.all j d (ap (λ is. slice_get is j) (sym of.interfaces_are) ∙ at))).named e has);
+    functions = λ j d e at has. sym ((whole.whole.names d (get_has t.interfaces.all j d (ap (λ is. slice_get is j) (sym of.interfaces_are) ∙ at))).named e has);
   }
 
   needed_listed : AskedAreImported → OwnTypesAreListed → (own : List Function) (linked : List (List Function)) → AreNeeded l own linked → AreListed l world own linked

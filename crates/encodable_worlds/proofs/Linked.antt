@@ -1,7 +1,6 @@
 -- What a module needs may be linked, where it has a link table.
-use Rattle.std.proofs.Common.{◌≡◌, ◌⊎◌, ◌<◌, ℕ, zero, suc, List, [], ◌∷◌, ◌++◌, length, map, Option, Some, None, refl, sym, ap, subst, ◌∙◌, inl, inr}
+use Rattle.std.proofs.Common.{◌≡◌, ◌⊎◌, List, [], ◌∷◌, ◌++◌, map, Option, Some, None, refl, sym, ap, subst, ◌∙◌, inl, inr}
 use Rattle.std.specs.Prelude.{slice_get, flat_map}
-use Rattle.std.specs.List.{AllByRecursion as Each}
 use Rattle.wasm_types.specs.Entries.{ImportValue}
 use Rattle.wit_order.specs.Order.{Has}
 use Rattle.wit_types.specs.declared.function.Function.{Function}
@@ -9,7 +8,7 @@ use Rattle.wit_types.specs.declared.interface.TypeDef.{TypeDef}
 use Rattle.wit_types.specs.declared.world_key.WorldKey.{WorldKey}
 use Rattle.wit_reach.specs.Ids.{function_ids}
 use Rattle.wit_reach.proofs.Holding.{has_flat, flat_has}
-use Rattle.linked_types.specs.Reached.{ids_of, MayBeLinked}
+use Rattle.linked_types.specs.Reached.{MayBeLinked}
 use Rattle.core_links.specs.Imports.{StandsFor}
 use Rattle.core_links.specs.Needed.{IsNeeded}
 use Rattle.linked_interfaces.specs.Writable.{all_linked}
@@ -17,23 +16,10 @@ use Rattle.link_table.specs.Linking.{Linking, types_of, exported_functions}
 use Rattle.link_table.specs.Table.{ImportEntry, IsImportEntry, Table, IsTable}
 use Rattle.wit_core_names.specs.Items.{CoreImport}
 use Rattle.linked_imports.specs.Imports.{AreNeeded}
+use Rattle.link_table.proofs.Pairwise.{placed}
+use Rattle.component_encoding.proofs.Lists.{get_has, map_got, each_at}
 
 -- ---- lists
-
-placed : {X : Type 0} (xs : List X) (x : X) → Has xs x → (k : ℕ) × (slice_get xs k ≡ Some x)
-placed [] x h = absurd h
-placed (y ∷ xs) x (inl e) = (zero, ap Some (sym e))
-placed (y ∷ xs) x (inr h) = (let r = placed xs x h in (suc r.0, r.1))
-
-pub got : {X : Type 0} (xs : List X) (k : ℕ) (x : X) → slice_get xs k ≡ Some x → Has xs x
-got [] k x at = absurd cc
-got (y ∷ xs) zero x at = inl (let e : y ≡ x = cc in sym e)
-got (y ∷ xs) (suc k) x at = inr (got xs k x at)
-
-map_got : {X Y : Type 0} (f : X → Y) (xs : List X) (k : ℕ) (y : Y) → slice_get (map f xs) k ≡ Some y → (x : X) × (slice_get xs k ≡ Some x) × (f x ≡ y)
-map_got f [] k y at = absurd cc
-map_got f (x ∷ xs) zero y at = (x, refl, cc)
-map_got f (x ∷ xs) (suc k) y at = map_got f xs k y at
 
 has_map : {X Y : Type 0} (f : X → Y) (xs : List X) (x : X) → Has xs x → Has (map f xs) (f x)
 has_map f [] x h = absurd h
@@ -51,11 +37,6 @@ in_one {X} (xs ∷ xss) x h = elim (parts xs (flat_map (λ (ys : List X). ys) xs
   | inl here ↦ (xs, inl refl, here)
   | inr later ↦ (let r = in_one xss x later in (r.0, inr r.1, r.2))
 ]
-
-each_at : {X : Type 0} (P : X → Type 0) (xs : List X) (k : ℕ) (x : X) → Each P xs → slice_get xs k ≡ Some x → P x
-each_at P [] k x all at = absurd cc
-each_at P (y ∷ xs) zero x all at = (let e : y ≡ x = cc in subst P e all.0)
-each_at P (y ∷ xs) (suc k) x all at = each_at P xs k x all.1 at
 
 -- ---- functions that may be linked
 
@@ -86,7 +67,7 @@ module _ (l : Linking) (t : Table) (table : IsTable l t) where
       let entry = map_got (λ (e : ImportEntry). e.import) t.imports place.0 n.0 (ap (λ is. slice_get is place.0) table.imports ∙ place.1) in
       let is = each_at (IsImportEntry l) t.imports place.0 entry.0 table.imports_are entry.1 in
       let stands = subst (λ i. StandsFor l.names i (CoreImport.func entry.0.key entry.0.function)) entry.2 is.stands in
-      subst (Has (map (λ (e : ImportEntry). e.function) t.imports)) (one_function n.0 entry.0.key key entry.0.function f stands n.2) (has_map (λ (e : ImportEntry). e.function) t.imports entry.0 (got t.imports place.0 entry.0 entry.1))
+      subst (Has (map (λ (e : ImportEntry). e.function) t.imports)) (one_function n.0 entry.0.key key entry.0.function f stands n.2) (has_map (λ (e : ImportEntry). e.function) t.imports entry.0 (get_has t.imports place.0 entry.0 entry.1))
 
   pub needed_may_be_linked : (own : List Function) (linked : List (List Function)) → AreNeeded l own linked → MayBeLinked (types_of l) (all_linked linked ++ (own ++ exported_functions l.names.world))
   needed_may_be_linked own linked needed = linked_of_both (types_of l) (map (λ (e : ImportEntry). e.function) t.imports) (exported_functions l.names.world) (all_linked linked ++ (own ++ exported_functions l.names.world)) table.linked table.linked_exports (λ f has. elim (parts (all_linked linked) (own ++ exported_functions l.names.world) f has) [

@@ -1,6 +1,6 @@
 //! What the component imports.
 
-ghost use Rattle.std.specs.Prelude.{◌≡◌, ◌<◌, ◌+◌, ◌++◌, [], ℕ, List, Option, length, map, slice_get, option_map, option_and_then, string_bytes, IfOk, IfErr, OnOk, IsSome, Some, None};
+ghost use Rattle.std.specs.Prelude.{◌≡◌, ◌<◌, ◌+◌, ◌++◌, ℕ, List, Option, length, map, slice_get, option_map, option_and_then, string_bytes, IfOk, IfErr, Some, None};
 ghost use Rattle.component_entries.specs.Entries.{entry_value};
 ghost use Rattle.component_imports.specs.Functions.{functions_of, function_names};
 ghost use Rattle.component_imports.specs.Interfaces.{ids_of, linked_of, asked, EarlierAreApart};
@@ -13,7 +13,6 @@ ghost use Rattle.link_table.specs.View.{IsTableOf};
 ghost use Rattle.name_places.specs.FirstPlaces.{place_of};
 ghost use Rattle.right_components.specs.Outside.{AreInterfaceNames};
 ghost use Rattle.type_meaning.specs.Scope.{meaning};
-ghost use Rattle.type_sinks.specs.Kept.{index_of};
 ghost use Rattle.type_sinks.specs.Views.{RootIsGood, RootIsPlaced};
 ghost use Rattle.type_writing.specs.Refusals.{IsCause};
 ghost use Rattle.wit_core_items.specs.ImportPlaces.{import_at};

@@ -1,14 +1,13 @@
-use Rattle.std.proofs.Common.{◌≡◌, ◌<◌, ◌++◌, ℕ, length, map, sym, ap, subst, ◌∙◌, refl}
-use Rattle.std.specs.Prelude.{slice_get, Some}
+use Rattle.std.proofs.Common.{◌<◌, ◌++◌, length, map, sym, ap, subst, ◌∙◌}
+use Rattle.std.specs.Prelude.{slice_get}
 use Rattle.component_entries.specs.Entries.{entry_value}
 use Rattle.component_meaning.specs.Spaces.{meaning}
 use Rattle.wasm_types.specs.Entries.{export_value}
 use Rattle.link_table.specs.Linking.{linking_value}
 use Rattle.link_table.specs.View.{AreLinksOfEntries}
-use Rattle.link_table.specs.declared.exports.ExportLink.{ExportLink}
 use Rattle.right_components.specs.Main.{main_of}
 use Rattle.component_encoding.specs.Instances.{AreLowerable, IsInstantiated}
-use Rattle.component_encoding.specs.Exports.{AreTypes, AreExported}
+use Rattle.component_encoding.specs.Exports.{AreTypes}
 use Rattle.component_encoding.proofs.Entries.{entry_definitions}
 use Rattle.component_encoding.proofs.Whole.{whole, places_there, exported_of}
 use Rattle.component_encoding.proofs.component.add_linked.Goals as goal

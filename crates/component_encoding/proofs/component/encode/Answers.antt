@@ -1,4 +1,3 @@
-use Rattle.std.proofs.Common.{refl}
 use Rattle.component_encoding.proofs.component.encode.Goals as goal
 
 pub returns-in-Ok-clause-right : goal.returns-in-Ok-clause-right

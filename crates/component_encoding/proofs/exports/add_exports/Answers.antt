@@ -1,10 +1,11 @@
-use Rattle.std.proofs.Common.{refl, ◌≡◌, ◌<◌, ◌≤◌, ℕ, [], Some, length, map, get_or, sym, ap, subst, ◌∙◌, arith}
-use Rattle.std.proofs.lemmas.List.{append-nil, length-map}
+use Rattle.std.proofs.Common.{refl, ◌≡◌, ◌<◌, [], Some, length, map, get_or, sym, arith}
+use Rattle.std.proofs.lemmas.List.{append-nil}
 use Rattle.std.proofs.lemmas.Option.{slice_get-get_or, slice_get_read}
 use Rattle.std.specs.Prelude.{slice_get}
 use Rattle.component_meaning.specs.Spaces.{meaning}
 use Rattle.wasm_types.specs.Entries.{export_value}
-use Rattle.component_encoding.proofs.Exported.{get_map, exports_next, no_exports, all_exported}
+use Rattle.component_encoding.proofs.Lists.{get_map}
+use Rattle.component_encoding.proofs.Exported.{exports_next, no_exports, all_exported}
 use Rattle.component_encoding.proofs.Growth.{begins_more}
 use Rattle.component_encoding.proofs.exports.add_exports.Goals as goal
 

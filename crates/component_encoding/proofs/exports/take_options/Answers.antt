@@ -1,4 +1,4 @@
-use Rattle.std.proofs.Common.{◌≡◌, sym, ap, subst}
+use Rattle.std.proofs.Common.{sym, ap, subst}
 use Rattle.std.specs.Prelude.{option_and_then}
 use Rattle.component_definitions.specs.declared.canonical.CanonicalOption.TheVariants as canonical
 use Rattle.component_meaning.specs.Spaces.{meaning}

@@ -1,4 +1,4 @@
-use Rattle.std.proofs.Common.{◌≡◌, ◌+◌, ◌++◌, ◌∷◌, [], length, map, take, refl, sym, ap, subst, get_or, ◌∙◌, arith, ◌<◌}
+use Rattle.std.proofs.Common.{◌≡◌, ◌+◌, ◌++◌, [], length, map, refl, sym, ap, subst, get_or, ◌∙◌, arith, ◌<◌}
 use Rattle.std.proofs.lemmas.List.{append-nil, take_all}
 use Rattle.wasm_types.specs.Entries.{import_value}
 use Rattle.component_builder.specs.Builder.{index_behind}

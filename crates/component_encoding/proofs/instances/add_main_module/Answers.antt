@@ -1,7 +1,6 @@
 use Rattle.std.proofs.Common.{◌≡◌, ◌+◌, ◌++◌, ◌∷◌, [], length, map, sym, ap, subst, ◌∙◌}
 use Rattle.component_builder.specs.Builder.{index_behind}
 use Rattle.component_instances.specs.Instances.{core_argument_value}
-use Rattle.component_meaning.specs.Spaces.{meaning}
 use Rattle.component_sections.specs.Component.{a_core_module}
 use Rattle.component_value_types.specs.Names.{named_value}
 use Rattle.right_components.specs.Main.{main_of}

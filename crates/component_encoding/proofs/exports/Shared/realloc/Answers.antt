@@ -1,4 +1,4 @@
-use Rattle.std.proofs.Common.{◌≡◌, Some, sym, ◌∙◌, subst, ap}
+use Rattle.std.proofs.Common.{◌≡◌, Some, sym, ◌∙◌, ap}
 use Rattle.std.specs.Prelude.{map, option_and_then}
 use Rattle.wasm_types.specs.Entries.{export_value}
 use Rattle.component_meaning.specs.Spaces.{meaning}

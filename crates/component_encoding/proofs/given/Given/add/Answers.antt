@@ -3,7 +3,7 @@ use Rattle.std.proofs.Math.Seq.{map-set_same}
 use Rattle.std.proofs.lemmas.List.{map-append}
 use Rattle.std.proofs.lemmas.Result.{on_ok_weaker}
 use Rattle.component_value_types.specs.Names.{named_value}
-use Rattle.component_encoding.specs.Given.{Under, under_value, core_function}
+use Rattle.component_encoding.specs.Given.{under_value, core_function}
 use Rattle.component_encoding.specs.declared.given.Group.{Group}
 use Rattle.component_encoding.proofs.Groups.{group_below, one_more, one_new}
 use Rattle.component_encoding.proofs.given.Given.add.Goals as goal
