@@ -1,5 +1,5 @@
 mod Clones
-mod Alike
+pub mod Alike
 mod Owners
 mod Brought
 mod Including
@@ -7,3 +7,4 @@ pub mod Belonging
 mod Adding
 pub mod Whole
 mod Named
+mod Taking

@@ -82,7 +82,7 @@ module _ (f : WorldItem → List ℕ) where
   of_second (x ∷ xs) ys i h = has_append (f x.1) (of (xs ++ ys)) i (of_second xs ys i h)
 
   -- what is united stood there
-  united_was : (es side : List Entry) → AreUnited key_eq es side → (i : ℕ) → Has (of side) i → Has (of es) i
+  pub united_was : (es side : List Entry) → AreUnited key_eq es side → (i : ℕ) → Has (of side) i → Has (of es) i
   united_was _ _ no_entries i h = h
   united_was _ _ (first_of_its_key es side e u new) i h = elim (of_parts side (e ∷ []) i h) as (λ _. Has (of (es ++ e ∷ [])) i) [
     | inl was ↦ of_first es (e ∷ []) i (united_was es side u i was)
@@ -278,14 +278,14 @@ worlds_still types more worlds back there take i w at =
 -- ---- a world so far
 
 module _ (backward : IncludedTypesAreBackward) (sides_there : IncludedSidesAreThere) (brought_takes : BroughtTakesByUse) (worlds : List World) (named : (v : World) → Has worlds v → AreKeysOfItems v.imports.entries) (id : ℕ) where
-  record IsSoFar (t : State) : Type 0 where
-    back : AreTypesBackward t.types
-    imports : AreTypesThere t.types (side_ids t.imports)
-    exports : AreTypesThere t.types (side_ids t.exports)
-    keys : AreKeysOfItems t.imports
-    there : AreWorldsThere t.types worlds
-    earlier : WorldsTakeByUse t.types worlds
-    takes : TakesByUse t.types (belongs.World id) (Has (type_items t.imports)) (Sides t.imports t.exports)
+  pub record IsSoFar (t : State) : Type 0 where
+    pub back : AreTypesBackward t.types
+    pub imports : AreTypesThere t.types (side_ids t.imports)
+    pub exports : AreTypesThere t.types (side_ids t.exports)
+    pub keys : AreKeysOfItems t.imports
+    pub there : AreWorldsThere t.types worlds
+    pub earlier : WorldsTakeByUse t.types worlds
+    pub takes : TakesByUse t.types (belongs.World id) (Has (type_items t.imports)) (Sides t.imports t.exports)
 
   sides_so_far : (t : State) → IsSoFar t → (s : ℕ) → Sides t.imports t.exports s → s < length t.types
   sides_so_far t far s (inl h) = far.imports s h
@@ -320,7 +320,7 @@ module _ (backward : IncludedTypesAreBackward) (sides_there : IncludedSidesAreTh
             (either (t.types ++ b.types.items) (belongs.World id) (Has (type_items t.imports)) (Has (brought_types b)) (Sides t.imports t.exports) (IsOfBrought b) first second);
       }
 
-  includes_so_far : (ns : List WorldInclude) (s t : State) → Includes worlds id ns s t → IsSoFar s → IsSoFar t
+  pub includes_so_far : (ns : List WorldInclude) (s t : State) → Includes worlds id ns s t → IsSoFar s → IsSoFar t
   includes_so_far _ s _ (includes_none _) far = far
   includes_so_far _ s u (includes_one ns n _ t _ before (w, b, at, is, same)) far = subst IsSoFar (sym same) (one_more_included n.names.items n.id t w b at is (includes_so_far ns s t before far))
 
