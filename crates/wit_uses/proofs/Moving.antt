@@ -48,7 +48,7 @@ name_goes places old new e j kept h goes =
 same_interface : (i j : ℕ) → belongs.Interface i ≡ belongs.Interface j → i ≡ j
 same_interface i j h = cc
 
-get_either : (xs ys : List Interface) (i : ℕ) (d : Interface) → slice_get (xs ++ ys) i ≡ Some d → (slice_get xs i ≡ Some d) ⊎ ((k : ℕ) × (i ≡ length xs + k) × (slice_get ys k ≡ Some d))
+pub get_either : (xs ys : List Interface) (i : ℕ) (d : Interface) → slice_get (xs ++ ys) i ≡ Some d → (slice_get xs i ≡ Some d) ⊎ ((k : ℕ) × (i ≡ length xs + k) × (slice_get ys k ≡ Some d))
 get_either [] ys i d h = inr (i, omega arith, h)
 get_either (x ∷ xs) ys zero d h = inl h
 get_either (x ∷ xs) ys (suc i) d h = elim (get_either xs ys i d h) as (λ _. (slice_get (x ∷ xs) (suc i) ≡ Some d) ⊎ ((k : ℕ) × (suc i ≡ length (x ∷ xs) + k) × (slice_get ys k ≡ Some d))) [

@@ -1,0 +1,4 @@
+pub mod Apart
+pub mod Used
+pub mod Plain
+pub mod Placed

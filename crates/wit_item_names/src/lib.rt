@@ -1,0 +1,6 @@
+//! Laws: items of a graph of packages have names that tell them apart.
+#![tactic(auto)]
+
+mod law;
+
+pub use law::law_placed_are_named_apart;
