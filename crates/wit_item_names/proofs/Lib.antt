@@ -1,1 +1,4 @@
 mod Apart
+pub mod Named
+mod Sides
+mod Moved

@@ -3,4 +3,4 @@
 
 mod law;
 
-pub use law::law_placed_are_named_apart;
+pub use law::{law_placed_are_named_apart, law_placed_use_named};

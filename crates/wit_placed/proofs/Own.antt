@@ -1,5 +1,5 @@
 -- Interfaces and worlds that take places one behind the other.
-use Rattle.std.proofs.Common.{◌≡◌, ℕ, ◌+◌, ◌<◌, ◌≤◌, zero, suc, Bool, true, false, List, [], ◌∷◌, inl, inr, Some, None, refl, sym, subst, ap, ◌∙◌, arith, length, length-append, map}
+use Rattle.std.proofs.Common.{◌≡◌, ℕ, ◌+◌, ◌<◌, ◌≤◌, zero, suc, Bool, true, false, List, [], ◌∷◌, ◌++◌, inl, inr, Some, None, refl, sym, subst, ap, ◌∙◌, arith, length, length-append, map}
 use Rattle.std.proofs.lemmas.Option.{same_Some}
 use Rattle.std.specs.Prelude.{slice_get}
 use Rattle.wit_types.specs.declared.interface.Interface.{Interface}
@@ -98,6 +98,22 @@ module _ (features : FeatureSet) where
   kept_all : (p : Plan) (ss : List Stability) (i j : ℕ) → place_of p.places i ≡ Some j → place_of (with_own features p ss).places i ≡ Some j
   kept_all p [] i j h = h
   kept_all p (x ∷ ss) i j h = kept_all (with_place (stays features x) p) ss i j (kept_place (stays features x) p i j h)
+
+-- those that were there stand where they stood
+was_place : (b : Bool) (p : Plan) (i j : ℕ) → i < length p.places → place_of (with_place b p).places i ≡ Some j → place_of p.places i ≡ Some j
+was_place true p i j l h = elim (place_more p.places (Some p.next) i j h) as (λ _. place_of p.places i ≡ Some j) [ inl was ↦ was | inr last ↦ absurd (let e : i ≡ length p.places = last.0 in omega (arith, e)) ]
+was_place false p i j l h = elim (place_more p.places None i j h) as (λ _. place_of p.places i ≡ Some j) [ inl was ↦ was | inr last ↦ absurd (let e : i ≡ length p.places = last.0 in omega (arith, e)) ]
+
+longer : (b : Bool) (p : Plan) (i : ℕ) → i < length p.places → i < length (with_place b p).places
+longer true p i l = (let e : length (p.places ++ Some p.next ∷ []) ≡ length p.places + 1 = length-append p.places (Some p.next ∷ []) in omega (arith, e, l))
+longer false p i l = (let e : length (p.places ++ None ∷ []) ≡ length p.places + 1 = length-append p.places (None ∷ []) in omega (arith, e, l))
+
+was_all : (features : FeatureSet) (p : Plan) (ss : List Stability) (i j : ℕ) → i < length p.places → place_of (with_own features p ss).places i ≡ Some j → place_of p.places i ≡ Some j
+was_all features p [] i j l h = h
+was_all features p (x ∷ ss) i j l h = was_place (stays features x) p i j l (was_all features (with_place (stays features x) p) ss i j (longer (stays features x) p i l) h)
+
+pub others_stay : (features : FeatureSet) (others : Places) (base : ℕ) (ss : List Stability) (i j : ℕ) → i < length others → place_of (placed features others base ss) i ≡ Some j → place_of others i ≡ Some j
+others_stay features others base ss i j l h = was_all features (record { places = others; next = base }) ss i j l h
 
 -- those that stay, in their order
 data AreMoved {X Y : Type 0} (features : FeatureSet) (gate : X → Stability) (Moved : X → Y → Type 0) : List X → List Y → Type 0 where

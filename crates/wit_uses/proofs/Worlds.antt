@@ -144,7 +144,7 @@ worlds_take features owners s owner foreign own graph fs others own_interfaces n
 
 -- ---- all worlds of a package
 
-sides_kept : (features : FeatureSet) (s : Standing) (ws : List World) (i : ℕ) (w : World) → IsKept (AnyOf (WorldBreaks features s) ws) → slice_get ws i ≡ Some w → gate_stays features w.stability ≡ true → IsKept (SidesBreak features s w)
+pub sides_kept : (features : FeatureSet) (s : Standing) (ws : List World) (i : ℕ) (w : World) → IsKept (AnyOf (WorldBreaks features s) ws) → slice_get ws i ≡ Some w → gate_stays features w.stability ≡ true → IsKept (SidesBreak features s w)
 sides_kept features s [] i w kept at st = absurd cc
 sides_kept features s (x ∷ ws) zero w kept at st = λ sp b. kept sp (inl (subst (λ (v : World). WorldBreaks features s v sp) (sym (same_Some x w at)) (st, inl b)))
 sides_kept features s (x ∷ ws) (suc i) w kept at st = sides_kept features s ws i w (λ sp b. kept sp (inr b)) at st
