@@ -4,7 +4,7 @@ mod Owners
 mod Brought
 mod Including
 pub mod Belonging
-mod Adding
+pub mod Adding
 pub mod Whole
 mod Named
-mod Taking
+pub mod Taking

@@ -67,15 +67,17 @@ module _ (backward : IncludedTypesAreBackward) (sides_there : IncludedSidesAreTh
     grown : (more : List TypeDef) × (t.types ≡ s.types ++ more)
     many : length t.worlds.listed ≡ length s.worlds.listed + so_many
 
+  -- a world before what it includes is there
+  pub begins : (m : MovedWorld) (s : State) (sound : AreSound n s.types s.worlds) → IsOwnThere s.types n m → WorldsTakeByUse s.types s.worlds.listed → TakesByUse s.types (belongs.World (length s.worlds.listed)) (Has (moved_types m)) (IsOfMoved m)
+      → IsSoFar backward sides_there brought_takes s.worlds.listed sound.keys (length s.worlds.listed) (own_state s.types m)
+  begins m s sound own take m_takes = record { back = sound.backward; imports = own.imports.types_are; exports = own.exports.types_are; keys = own.keys; there = sound.there; earlier = take; takes = m_takes }
+
   one_goes : (m : MovedWorld) (s t : State) → IsAdded interfaces uses owner m s t → AreSound n s.types s.worlds → IsOwnThere s.types n m → WorldsTakeByUse s.types s.worlds.listed
       → TakesByUse s.types (belongs.World (length s.worlds.listed)) (Has (moved_types m)) (IsOfMoved m) → Goes s t 1
   one_goes m s t a sound own take m_takes =
       let worlds = s.worlds.listed in
       let sides = a.is_joined.sides in
-      let begins : IsSoFar backward sides_there brought_takes worlds sound.keys (length worlds) (own_state s.types m) =
-      record { back = sound.backward; imports = own.imports.types_are; exports = own.exports.types_are; keys = own.keys; there = sound.there; earlier = take; takes = m_takes }
-      in
-      let far = includes_so_far backward sides_there brought_takes worlds sound.keys (length worlds) m.includes.items (own_state s.types m) sides.joined sides.includes begins in
+      let far = includes_so_far backward sides_there brought_takes worlds sound.keys (length worlds) m.includes.items (own_state s.types m) sides.joined sides.includes (begins m s sound own take m_takes) in
       let w = a.joined in
       let named = joined_there n owner s.types t.types s.worlds m w sound own a.is_joined in
       let one : IsWorldThere n sides.joined.types w =
@@ -109,23 +111,41 @@ module _ (backward : IncludedTypesAreBackward) (sides_there : IncludedSidesAreTh
   moved_there types m own i (inl h) = own.imports.types_are i h
   moved_there types m own i (inr h) = own.exports.types_are i h
 
+  -- it still takes types by use when others are there
+  m_takes : (ms : List MovedWorld) (m : MovedWorld) (s t : State) → AreSound n s.types s.worlds → IsOwnThere s.types n m → Goes s t (length ms) → TakesByUse s.types (belongs.World (length s.worlds.listed + length ms)) (Has (moved_types m)) (IsOfMoved m)
+      → TakesByUse t.types (belongs.World (length t.worlds.listed)) (Has (moved_types m)) (IsOfMoved m)
+  m_takes ms m s t sound own r takes =
+      let by_was = belongs.World (length s.worlds.listed + length ms) in
+      subst (λ (k : ℕ). TakesByUse t.types (belongs.World k) (Has (moved_types m)) (IsOfMoved m)) (sym r.many)
+      (subst (λ (ts : List TypeDef). TakesByUse ts by_was (Has (moved_types m)) (IsOfMoved m)) (sym r.grown.1) (takes_more s.types r.grown.0 sound.backward by_was (Has (moved_types m)) (IsOfMoved m) (moved_there s.types m own) takes))
+
   all_go : (ms : List MovedWorld) (s t : State) → AreAdded interfaces uses owner ms s t → AreSound n s.types s.worlds → ((m : MovedWorld) → Has ms m → IsOwnThere s.types n m) → WorldsTakeByUse s.types s.worlds.listed
       → ((k : ℕ) (m : MovedWorld) → slice_get ms k ≡ Some m → TakesByUse s.types (belongs.World (length s.worlds.listed + k)) (Has (moved_types m)) (IsOfMoved m)) → Goes s t (length ms)
   all_go _ s _ (none_added _) sound own take takes = record { sound = sound; take = take; grown = ([], sym (append-nil s.types)); many = omega arith }
   all_go _ s u (one_added ms m _ t _ before last) sound own take takes =
       let r = all_go ms s t before sound (λ x h. own x (let p = has_at ms x h in has_get (ms ++ m ∷ []) p.0 x (get_kept ms (m ∷ []) p.0 x p.1))) take (λ k x at. takes k x (get_kept ms (m ∷ []) k x at)) in
       let m_own = own m (has_get (ms ++ m ∷ []) (length ms) m (get_last ms m)) in
-      let m_takes = takes (length ms) m (get_last ms m) in
-      let by_was = belongs.World (length s.worlds.listed + length ms) in
-      let more : TakesByUse t.types by_was (Has (moved_types m)) (IsOfMoved m) =
-      subst (λ (ts : List TypeDef). TakesByUse ts by_was (Has (moved_types m)) (IsOfMoved m)) (sym r.grown.1)
-      (takes_more s.types r.grown.0 sound.backward by_was (Has (moved_types m)) (IsOfMoved m) (moved_there s.types m m_own) m_takes)
-      in
-      let next = one_goes m t u last r.sound (own_grown s.types t.types r.grown.0 n m r.grown.1 m_own) r.take (subst (λ (k : ℕ). TakesByUse t.types (belongs.World k) (Has (moved_types m)) (IsOfMoved m)) (sym r.many) more) in
+      let next = one_goes m t u last r.sound (own_grown s.types t.types r.grown.0 n m r.grown.1 m_own) r.take (m_takes ms m s t sound m_own r (takes (length ms) m (get_last ms m))) in
       let a = r.many in
       let b = next.many in
       let c : length (ms ++ m ∷ []) ≡ length ms + 1 = length-append ms (m ∷ []) in
       record { sound = next.sound; take = next.take; grown = grown_more s.types t.types u.types r.grown next.grown; many = omega (arith, a, b, c) }
+
+  -- what each of them keeps, of the worlds and of those that come, is so of all in the end
+  pub all_keep : (P : State → Type 0) (M : List TypeDef → MovedWorld → Type 0)
+      → ((m : MovedWorld) (s t : State) → IsAdded interfaces uses owner m s t → AreSound n s.types s.worlds → IsOwnThere s.types n m → WorldsTakeByUse s.types s.worlds.listed
+      → TakesByUse s.types (belongs.World (length s.worlds.listed)) (Has (moved_types m)) (IsOfMoved m) → P s → M s.types m → P t)
+      → ((types more : List TypeDef) (m : MovedWorld) → AreTypesBackward types → IsOwnThere types n m → M types m → M (types ++ more) m) → (ms : List MovedWorld) (s t : State) → AreAdded interfaces uses owner ms s t → AreSound n s.types s.worlds
+      → ((m : MovedWorld) → Has ms m → IsOwnThere s.types n m) → WorldsTakeByUse s.types s.worlds.listed
+      → ((k : ℕ) (m : MovedWorld) → slice_get ms k ≡ Some m → TakesByUse s.types (belongs.World (length s.worlds.listed + k)) (Has (moved_types m)) (IsOfMoved m)) → P s → ((m : MovedWorld) → Has ms m → M s.types m) → P t
+  all_keep P M step kept _ s _ (none_added _) sound own take takes first each = first
+  all_keep P M step kept _ s u (one_added ms m _ t _ before last) sound own take takes first each =
+      let was_has = λ (x : MovedWorld) (h : Has ms x). (let p = has_at ms x h in has_get (ms ++ m ∷ []) p.0 x (get_kept ms (m ∷ []) p.0 x p.1)) in
+      let m_has = has_get (ms ++ m ∷ []) (length ms) m (get_last ms m) in
+      let r = all_go ms s t before sound (λ x h. own x (was_has x h)) take (λ k x at. takes k x (get_kept ms (m ∷ []) k x at)) in
+      step m t u last r.sound (own_grown s.types t.types r.grown.0 n m r.grown.1 (own m m_has)) r.take (m_takes ms m s t sound (own m m_has) r (takes (length ms) m (get_last ms m)))
+      (all_keep P M step kept ms s t before sound (λ x h. own x (was_has x h)) take (λ k x at. takes k x (get_kept ms (m ∷ []) k x at)) first (λ x h. each x (was_has x h)))
+      (subst (λ (ts : List TypeDef). M ts m) (sym r.grown.1) (kept s.types r.grown.0 m sound.backward (own m m_has) (each m m_has)))
 
 pub added_take : IncludedTypesAreBackward → IncludedSidesAreThere → BroughtTakesByUse → AddedWorldsTakeByUse
 added_take backward sides_there brought_takes n interfaces uses owner ms s t added sound own take takes =

@@ -2,3 +2,5 @@ mod Apart
 pub mod Named
 mod Sides
 mod Moved
+mod Included
+mod Added

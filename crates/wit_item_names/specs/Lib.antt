@@ -2,3 +2,4 @@ pub mod Apart
 pub mod Used
 pub mod Plain
 pub mod Placed
+pub mod Added

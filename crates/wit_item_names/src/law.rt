@@ -1,6 +1,10 @@
 //! Laws of names of items.
 
+ghost use Rattle.wit_item_names.specs.Added.{AddedWorldsUseNamed};
 ghost use Rattle.wit_item_names.specs.Placed.{PlacedAreNamedApart, PlacedUseNamed};
+
+use wit_copied_trees::{law_included_sides_are_there, law_included_types_are_backward};
+use wit_uses::law_brought_takes_by_use;
 
 /// Where names tell the packages and interfaces of a graph apart, and the interfaces of a package, whose name is new, they do so in the graph
 /// with the package (WIT, Package Names).
@@ -13,3 +17,13 @@ pub fn law_placed_are_named_apart()
 pub fn law_placed_use_named()
     ensures { PlacedUseNamed }
 {}
+
+/// Where the worlds of a graph, and those that come to it, use and import interfaces that have names, so do all of them with what they include
+/// (WIT, Item: `include`).
+pub fn law_added_worlds_use_named()
+    ensures { AddedWorldsUseNamed }
+{
+    law_included_types_are_backward();
+    law_included_sides_are_there();
+    law_brought_takes_by_use();
+}

@@ -63,21 +63,21 @@ module _ (f : WorldItem → List ℕ) where
   abbrev of : List Entry → List ℕ
   of es = flat_map f (map (λ (e : Entry). e.1) es)
 
-  of_parts : (xs ys : List Entry) (i : ℕ) → Has (of (xs ++ ys)) i → Has (of xs) i ⊎ Has (of ys) i
+  pub of_parts : (xs ys : List Entry) (i : ℕ) → Has (of (xs ++ ys)) i → Has (of xs) i ⊎ Has (of ys) i
   of_parts [] ys i h = inr h
   of_parts (x ∷ xs) ys i h = elim (has_parts (f x.1) (of (xs ++ ys)) i h) as (λ _. Has (f x.1 ++ of xs) i ⊎ Has (of ys) i) [
     | inl here ↦ inl (has_was (f x.1) (of xs) i here)
     | inr later ↦ elim (of_parts xs ys i later) as (λ _. Has (f x.1 ++ of xs) i ⊎ Has (of ys) i) [ inl a ↦ inl (has_append (f x.1) (of xs) i a) | inr b ↦ inr b ]
   ]
 
-  of_first : (xs ys : List Entry) (i : ℕ) → Has (of xs) i → Has (of (xs ++ ys)) i
+  pub of_first : (xs ys : List Entry) (i : ℕ) → Has (of xs) i → Has (of (xs ++ ys)) i
   of_first [] ys i h = absurd h
   of_first (x ∷ xs) ys i h = elim (has_parts (f x.1) (of xs) i h) as (λ _. Has (f x.1 ++ of (xs ++ ys)) i) [
     | inl here ↦ has_was (f x.1) (of (xs ++ ys)) i here
     | inr later ↦ has_append (f x.1) (of (xs ++ ys)) i (of_first xs ys i later)
   ]
 
-  of_second : (xs ys : List Entry) (i : ℕ) → Has (of ys) i → Has (of (xs ++ ys)) i
+  pub of_second : (xs ys : List Entry) (i : ℕ) → Has (of ys) i → Has (of (xs ++ ys)) i
   of_second [] ys i h = h
   of_second (x ∷ xs) ys i h = has_append (f x.1) (of (xs ++ ys)) i (of_second xs ys i h)
 
