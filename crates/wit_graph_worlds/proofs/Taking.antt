@@ -61,11 +61,11 @@ types_grown worlds id _ s u (includes_one ns n _ t _ before at) =
 
 module _ (backward : IncludedTypesAreBackward) (sides_there : IncludedSidesAreThere) (brought_takes : BroughtTakesByUse) (n : ℕ) (interfaces : List Interface) (uses : Rows) (owner : ℕ) where
   -- from one state to another all is sound, and worlds take types by use
-  record Goes (s t : State) (so_many : ℕ) : Type 0 where
-    sound : AreSound n t.types t.worlds
-    take : WorldsTakeByUse t.types t.worlds.listed
-    grown : (more : List TypeDef) × (t.types ≡ s.types ++ more)
-    many : length t.worlds.listed ≡ length s.worlds.listed + so_many
+  pub record Goes (s t : State) (so_many : ℕ) : Type 0 where
+    pub sound : AreSound n t.types t.worlds
+    pub take : WorldsTakeByUse t.types t.worlds.listed
+    pub grown : (more : List TypeDef) × (t.types ≡ s.types ++ more)
+    pub many : length t.worlds.listed ≡ length s.worlds.listed + so_many
 
   -- a world before what it includes is there
   pub begins : (m : MovedWorld) (s : State) (sound : AreSound n s.types s.worlds) → IsOwnThere s.types n m → WorldsTakeByUse s.types s.worlds.listed → TakesByUse s.types (belongs.World (length s.worlds.listed)) (Has (moved_types m)) (IsOfMoved m)
@@ -119,7 +119,7 @@ module _ (backward : IncludedTypesAreBackward) (sides_there : IncludedSidesAreTh
       subst (λ (k : ℕ). TakesByUse t.types (belongs.World k) (Has (moved_types m)) (IsOfMoved m)) (sym r.many)
       (subst (λ (ts : List TypeDef). TakesByUse ts by_was (Has (moved_types m)) (IsOfMoved m)) (sym r.grown.1) (takes_more s.types r.grown.0 sound.backward by_was (Has (moved_types m)) (IsOfMoved m) (moved_there s.types m own) takes))
 
-  all_go : (ms : List MovedWorld) (s t : State) → AreAdded interfaces uses owner ms s t → AreSound n s.types s.worlds → ((m : MovedWorld) → Has ms m → IsOwnThere s.types n m) → WorldsTakeByUse s.types s.worlds.listed
+  pub all_go : (ms : List MovedWorld) (s t : State) → AreAdded interfaces uses owner ms s t → AreSound n s.types s.worlds → ((m : MovedWorld) → Has ms m → IsOwnThere s.types n m) → WorldsTakeByUse s.types s.worlds.listed
       → ((k : ℕ) (m : MovedWorld) → slice_get ms k ≡ Some m → TakesByUse s.types (belongs.World (length s.worlds.listed + k)) (Has (moved_types m)) (IsOfMoved m)) → Goes s t (length ms)
   all_go _ s _ (none_added _) sound own take takes = record { sound = sound; take = take; grown = ([], sym (append-nil s.types)); many = omega arith }
   all_go _ s u (one_added ms m _ t _ before last) sound own take takes =

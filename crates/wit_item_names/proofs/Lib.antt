@@ -4,3 +4,4 @@ mod Sides
 mod Moved
 mod Included
 mod Added
+mod Pushed

@@ -3,3 +3,4 @@ pub mod Used
 pub mod Plain
 pub mod Placed
 pub mod Added
+pub mod Pushed

@@ -2,6 +2,7 @@
 
 ghost use Rattle.wit_item_names.specs.Added.{AddedWorldsUseNamed};
 ghost use Rattle.wit_item_names.specs.Placed.{PlacedAreNamedApart, PlacedUseNamed};
+ghost use Rattle.wit_item_names.specs.Pushed.{PushedAreUsedNamed};
 
 use wit_copied_trees::{law_included_sides_are_there, law_included_types_are_backward};
 use wit_uses::law_brought_takes_by_use;
@@ -26,4 +27,16 @@ pub fn law_added_worlds_use_named()
     law_included_types_are_backward();
     law_included_sides_are_there();
     law_brought_takes_by_use();
+}
+
+/// Where interfaces of which types are used, or that worlds import otherwise than under a label, have names in a graph and in a package, they have
+/// in the graph with the package (WIT, Use, Packages).
+pub fn law_pushed_are_used_named()
+    ensures { PushedAreUsedNamed }
+{
+    law_included_types_are_backward();
+    law_included_sides_are_there();
+    law_brought_takes_by_use();
+    law_placed_use_named();
+    law_added_worlds_use_named();
 }
