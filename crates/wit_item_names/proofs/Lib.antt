@@ -5,3 +5,7 @@ mod Moved
 mod Included
 mod Added
 mod Pushed
+pub mod Texts
+pub mod Renaming
+mod Entries
+mod Plain

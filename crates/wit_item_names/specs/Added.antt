@@ -14,6 +14,8 @@ use Rattle.wit_uses.specs.Moved.{moved_types, IsOfMoved}
 use Rattle.wit_graph_worlds.specs.Added.{AreAdded}
 use Rattle.wit_graph_worlds.specs.Sound.{AreSound}
 use Rattle.wit_graph_worlds.specs.Worlds.{State}
+use Rattle.wit_reach.specs.Holding.{AreNamedOwned}
+use Rattle.wit_item_names.specs.Plain.{ArePlainlyNamed, AreUnderPlainNames, ArePlainIncludes}
 use Rattle.wit_item_names.specs.Used.{SidesUseNamed}
 
 -- worlds of a package come to those of a graph; all are made of what is there and take types by use
@@ -34,3 +36,19 @@ AddedWorldsUseNamed =
     (n : ℕ) (packages : List Package) (interfaces : List Interface) (uses : Rows) (owner : ℕ) (ms : List MovedWorld) (s t : State) → Come n interfaces uses owner ms s t
     → WorldsUseNamed packages s.types interfaces s.worlds.listed → ((m : MovedWorld) → Has ms m → SidesUseNamed packages s.types interfaces m.imports.items m.exports.items)
     → WorldsUseNamed packages t.types interfaces t.worlds.listed
+
+-- worlds import what has plain names
+abbrev pub ArePlainWorlds : List TypeDef → List World → Type 0
+ArePlainWorlds types worlds = (w : World) → Has worlds w → ArePlainlyNamed types w.imports.entries
+
+-- so it is of a world of a package without what it includes, and of names that come with this
+pub record IsPlainWorld (types : List TypeDef) (m : MovedWorld) : Type 0 where
+  pub imports : AreUnderPlainNames types m.imports.items
+  pub renames : ArePlainIncludes m.includes.items
+
+-- where those that are there do and those that come, and types with names belong somewhere, so do all of them
+abbrev pub AddedWorldsArePlain : Type 0
+AddedWorldsArePlain =
+    (n : ℕ) (interfaces : List Interface) (uses : Rows) (owner : ℕ) (ms : List MovedWorld) (s t : State) → Come n interfaces uses owner ms s t
+    → AreNamedOwned s.types → ArePlainWorlds s.types s.worlds.listed → ((m : MovedWorld) → Has ms m → IsPlainWorld s.types m)
+    → ArePlainWorlds t.types t.worlds.listed

@@ -1,6 +1,6 @@
 //! Laws of names of items.
 
-ghost use Rattle.wit_item_names.specs.Added.{AddedWorldsUseNamed};
+ghost use Rattle.wit_item_names.specs.Added.{AddedWorldsArePlain, AddedWorldsUseNamed};
 ghost use Rattle.wit_item_names.specs.Placed.{PlacedAreNamedApart, PlacedUseNamed};
 ghost use Rattle.wit_item_names.specs.Pushed.{PushedAreUsedNamed};
 
@@ -39,4 +39,14 @@ pub fn law_pushed_are_used_named()
     law_brought_takes_by_use();
     law_placed_use_named();
     law_added_worlds_use_named();
+}
+
+/// Where the worlds of a graph import what has plain names, and those that come to it, so do all of them with what they include (WIT, Item:
+/// `include`; Component Model, Import and Export Definitions).
+pub fn law_added_worlds_are_plain()
+    ensures { AddedWorldsArePlain }
+{
+    law_included_types_are_backward();
+    law_included_sides_are_there();
+    law_brought_takes_by_use();
 }

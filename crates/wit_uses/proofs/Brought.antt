@@ -1,9 +1,9 @@
 -- Copies of a world's types take types by use where the types do.
-use Rattle.std.proofs.Common.{◌≡◌, ℕ, zero, suc, ◌+◌, ◌<◌, true, false, Bool, List, [], ◌∷◌, ◌++◌, ◌⊎◌, inl, inr, Option, Some, None, String, length, map, refl, sym, subst, ap, ◌∙◌, arith}
+use Rattle.std.proofs.Common.{◌≡◌, ℕ, zero, suc, ◌+◌, ◌<◌, true, false, Bool, List, [], ◌∷◌, ◌++◌, ◌⊎◌, inl, inr, Option, Some, None, String, length, map, refl, sym, subst, ap, ◌∙◌, arith, nat_eq}
 use Rattle.std.proofs.lemmas.Bool.{eq-eqb, eqb-true}
 use Rattle.std.proofs.lemmas.List.{map-append}
 use Rattle.std.proofs.lemmas.Option.{same_Some, slice_get_within}
-use Rattle.std.specs.Prelude.{slice_get, if◌then◌else◌}
+use Rattle.std.specs.Prelude.{slice_get, string_bytes, if◌then◌else◌}
 use Rattle.std.specs.declared.alloc.Global.{Global}
 use Rattle.wit_order.specs.Order.{Has}
 use Rattle.wit_types.specs.declared.kind.«Type».{«Type» as Ref}
@@ -24,9 +24,9 @@ use Rattle.wit_moves.specs.Worlds as worlds
 use Rattle.wit_moves.specs.Worlds.{IsMovedItem}
 use Rattle.wit_copies.specs.Copies.{Copies, goes, copied_owner, IsCopiedDef, AreCopied, no_types, one_more, AreCopiedEntries, no_entries, one_entry_more}
 use Rattle.wit_copies.specs.Same as copy
-use Rattle.wit_copies.specs.Same.{IsSameKind, IsSameItem}
+use Rattle.wit_copies.specs.Same.{IsSameKind, IsSameItem, text_of}
 use Rattle.wit_sides.specs.Renames as renamed
-use Rattle.wit_sides.specs.Renames.{IsRenamedItem, AreRenamed}
+use Rattle.wit_sides.specs.Renames.{IsRenamed, IsRenamedItem, AreRenamed}
 use Rattle.wit_includes.specs.Included as brings
 use Rattle.wit_includes.specs.Included.{is_of_world, IsRenamedName, IsRenamedDef, AreRenamedDefs, copies_behind, AreIncludedEntries, IsIncluded}
 use Rattle.wit_includes.specs.declared.worlds.Included.{Included}
@@ -40,6 +40,7 @@ use Rattle.wit_reach.proofs.Growing.{get_same}
 use Rattle.wit_reach.proofs.Holding.{got}
 use Rattle.wit_reach.proofs.Local.{stays_local}
 use Rattle.wit_copied_trees.proofs.Members.{has_place, goes_own, goes_else}
+use Rattle.wit_copied_trees.proofs.Named.{renamed_named}
 use Rattle.wit_copied_trees.proofs.MovedIds.{has_moved, kind_moved, item_moved}
 use Rattle.wit_placed.proofs.Holding.{get_behind}
 use Rattle.wit_uses.specs.Uses.{IsOwn, IsUse, TakesByUse}
@@ -50,7 +51,7 @@ Entry = WorldKey × WorldItem
 
 -- ---- owners
 
-own_local : (w : ℕ) (o : TypeOwner) → IsOwn (belongs.World w) o → is_local w o ≡ true
+pub own_local : (w : ℕ) (o : TypeOwner) → IsOwn (belongs.World w) o → is_local w o ≡ true
 own_local w o (inl none) = subst (λ (x : TypeOwner). is_local w x ≡ true) (sym none) refl
 own_local w o (inr same) = subst (λ (x : TypeOwner). is_local w x ≡ true) (sym same) (eq-eqb w w refl)
 
@@ -157,12 +158,16 @@ module _ (names : List IncludeName) (from into : ℕ) (types : List TypeDef) (wo
     pub own_at : (i : ℕ) → Has own i → IsLocalAt from types i
     own_at i h = (let o = is.are_own.only i h in stays_local from types o.0 o.2.0 i o.1.1 o.2.1)
 
+    of_including : (o : TypeOwner) → o ≡ belongs.World from → is_of_world into (copied_owner from into o) ≡ true
+    of_including o its = ap (λ (z : TypeOwner). is_of_world into (copied_owner from into z)) its ∙ ap (λ (z : Bool). nat_eq (if z then into else from) into) (eq-eqb from from refl) ∙ eq-eqb into into refl
+
     -- a copy of it stands where it goes
     pub record IsCopied (i : ℕ) (d : TypeDef) : Type 0 where
       pub copy_of : TypeDef
       pub at : slice_get (types ++ new) (goes c i) ≡ Some copy_of
       pub owner_is : copy_of.owner ≡ copied_owner from into d.owner
       pub parts : kind_ids copy_of.kind ≡ map (goes c) (kind_ids d.kind)
+      pub name_was : (x : String Global) → d.name ≡ Some x → d.owner ≡ belongs.World from → (y : String Global) × IsRenamed names (string_bytes x) (string_bytes y) × (copy_of.name ≡ Some y)
       pub alias_was : (p : ℕ) → copy_of.kind ≡ kind.Alias (ref.Id p) → (q : ℕ) × (d.kind ≡ kind.Alias (ref.Id q)) × (goes c q ≡ p)
       pub alias : (p : ℕ) → d.kind ≡ kind.Alias (ref.Id p) → copy_of.kind ≡ kind.Alias (ref.Id (goes c p))
 
@@ -180,6 +185,11 @@ module _ (names : List IncludeName) (from into : ℕ) (types : List TypeDef) (wo
           at = ap (slice_get (types ++ new)) (goes_own types own k.0 i is.are_own.rising k.1) ∙ get_behind types new k.0 ∙ y.1;
           owner_is = keeps.0 ∙ clone.2.owner_is ∙ ap (λ (z : TypeDef). copied_owner from into z.owner) same;
           parts = ap kind_ids keeps.1 ∙ kind_moved (goes c) x.0.kind clone.0.kind x.1.kind clone.1.kind clone.2.kind ∙ ap (λ (z : TypeDef). map (goes c) (kind_ids z.kind)) same;
+          name_was = λ n named its.
+              (let text : text_of x.1.name ≡ Some (string_bytes n) = ap text_of clone.2.name ∙ clone.1.name ∙ ap (λ (z : TypeDef). text_of z.name) same ∙ ap text_of named in
+              let of : is_of_world into x.1.owner ≡ true = ap (is_of_world into) (clone.2.owner_is ∙ ap (λ (z : TypeDef). copied_owner from into z.owner) same) ∙ of_including d.owner its in
+              let r = renamed_named names (is_of_world into x.1.owner) x.1.name (string_bytes n) x.1 y.0 of text y.2 in
+              (r.0, r.1, ap (λ (z : TypeDef). z.name) r.2));
           alias_was = λ p e.
               (let q = alias_was (goes c) x.0.kind clone.0.kind x.1.kind clone.1.kind clone.2.kind p (sym keeps.1 ∙ e) in (q.0, sym (ap (λ (z : TypeDef). z.kind) same) ∙ q.1, q.2));
           alias = λ p e. keeps.1 ∙ alias_copied (goes c) x.0.kind clone.0.kind x.1.kind clone.1.kind clone.2.kind p (ap (λ (z : TypeDef). z.kind) same ∙ e);

@@ -92,7 +92,7 @@ module _ (f : WorldItem → List ℕ) where
 
 -- ---- no type is left out where sides are united
 
-abbrev IsClear : List Entry → Type 0
+abbrev pub IsClear : List Entry → Type 0
 IsClear es = (at : Span) → IsClash es at → ⊥
 
 abbrev keys_of : List Entry → List (List ℕ)
@@ -110,7 +110,7 @@ keys_append es fs = ap name_keys (plain_append es fs) ∙ map-append (λ (n : Sl
 spans_append : (es fs : List Entry) → spans_of (es ++ fs) ≡ spans_of es ++ spans_of fs
 spans_append es fs = ap (map (λ (n : Slice). n.span)) (plain_append es fs) ∙ map-append (λ (n : Slice). n.span) (plain_names es) (plain_names fs)
 
-clear_front : (es fs : List Entry) → IsClear (es ++ fs) → IsClear es
+pub clear_front : (es fs : List Entry) → IsClear (es ++ fs) → IsClear es
 clear_front es fs clear at c =
     let within : c.place < length (keys_of es) = slice_get_within (keys_of es) c.place c.again.key c.again.there in
     let front : take c.place (keys_of (es ++ fs)) ≡ take c.place (keys_of es) = ap (take c.place) (keys_append es fs) ∙ take-append-le c.place (keys_of es) (keys_of fs) (omega (arith, within)) in
@@ -155,23 +155,26 @@ named_lookup x ((key.Name y, c) ∷ es) h = by (bytes_eq (string_bytes x) (strin
     by true e later = (y, c, inl refl, (bytes_eq-Decides (string_bytes x) (string_bytes y)).0 e)
     by false e later = (let r = later (sym (ap (λ (b : Bool). is_some (if b then Some c else lookup (key_eq (key.Name x)) es)) e) ∙ h) in (r.0, r.1, inr r.2, r.3))
 
-clash_here : (es : List Entry) (x : String Global) (a : WorldItem) → is_some (lookup (key_eq (key.Name x)) es) ≡ true → IsClear (es ++ (key.Name x, a) ∷ []) → ⊥
-clash_here es x a h clear =
-    let r = named_lookup x es h in
+-- a plain name that stands there clashes with one behind
+pub clash_of : (es : List Entry) (x : String Global) (a : WorldItem) (y : String Global) (b : WorldItem) → Has es (key.Name y, b) → string_bytes x ≡ string_bytes y → IsClear (es ++ (key.Name x, a) ∷ []) → ⊥
+clash_of es x a y b has equal clear =
     let k : List ℕ = name_key (string_bytes x) in
     let one : keys_of (es ++ (key.Name x, a) ∷ []) ≡ keys_of es ++ k ∷ [] = keys_append es ((key.Name x, a) ∷ []) in
-    let same : bytes_eq k (name_key (string_bytes r.0)) ≡ true = (bytes_eq-Decides k (name_key (string_bytes r.0))).1 (ap name_key r.3) in
+    let same : bytes_eq k (name_key (string_bytes y)) ≡ true = (bytes_eq-Decides k (name_key (string_bytes y))).1 (ap name_key equal) in
     let long : length (spans_of es) ≡ length (keys_of es) = length-map (plain_names es) (λ (n : Slice). n.span) ∙ sym (length-map (plain_names es) (λ (n : Slice). name_key n.text)) in
     clear (span_of a) (record {
       place = length (keys_of es);
       again = record {
         key = k;
         there = subst (λ (ks : List (List ℕ)). slice_get ks (length (keys_of es)) ≡ Some k) (sym one) (get_last (keys_of es) k);
-        again = subst (λ (ks : List (List ℕ)). list_any (bytes_eq k) ks ≡ true) (sym (ap (take (length (keys_of es))) one ∙ take-append_seam (keys_of es) (k ∷ []))) (any_has k (keys_of es) (name_key (string_bytes r.0)) (plain_has es r.0 r.1 r.2) same);
+        again = subst (λ (ks : List (List ℕ)). list_any (bytes_eq k) ks ≡ true) (sym (ap (take (length (keys_of es))) one ∙ take-append_seam (keys_of es) (k ∷ []))) (any_has k (keys_of es) (name_key (string_bytes y)) (plain_has es y b has) same);
       };
       there = subst (λ (ss : List Span). slice_get ss (length (keys_of es)) ≡ Some (span_of a)) (sym (spans_append es ((key.Name x, a) ∷ [])))
           (subst (λ (n : ℕ). slice_get (spans_of es ++ span_of a ∷ []) n ≡ Some (span_of a)) long (get_last (spans_of es) (span_of a)));
     })
+
+clash_here : (es : List Entry) (x : String Global) (a : WorldItem) → is_some (lookup (key_eq (key.Name x)) es) ≡ true → IsClear (es ++ (key.Name x, a) ∷ []) → ⊥
+clash_here es x a h clear = (let r = named_lookup x es h in clash_of es x a r.0 r.1 r.2 r.3 clear)
 
 keys_parts : (es fs : List Entry) → AreKeysOfItems (es ++ fs) → AreKeysOfItems es × AreKeysOfItems fs
 keys_parts [] fs keys = (tt, keys)
