@@ -9,3 +9,4 @@ pub mod Texts
 pub mod Renaming
 mod Entries
 mod Plain
+mod PlainMoved

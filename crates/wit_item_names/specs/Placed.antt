@@ -1,8 +1,9 @@
 -- What a package brings to a graph is named there as it was (WIT, Packages, Package Names).
-use Rattle.std.specs.Prelude.{◌≡◌, ℕ, List, [], ◌∷◌, ◌++◌, Some, length, map, slice_get, string_bytes}
+use Rattle.std.specs.Prelude.{◌≡◌, ℕ, ◌+◌, List, [], ◌∷◌, ◌++◌, Some, length, map, slice_get, string_bytes}
 use Rattle.wit_types.specs.Package.{package_text}
 use Rattle.wit_types.specs.declared.interface.Interface.{Interface}
 use Rattle.wit_types.specs.declared.interface.TypeDef.{TypeDef}
+use Rattle.wit_types.specs.declared.interface.TypeOwner.TheVariants as belongs
 use Rattle.wit_types.specs.declared.world.World.{World}
 use Rattle.wit_types.specs.declared.«package».Package.{Package}
 use Rattle.wit_order.specs.Order.{Has}
@@ -17,9 +18,14 @@ use Rattle.wit_plans.specs.Moves.{AreMovedInterfaces, AreMovedWorlds}
 use Rattle.wit_plans.specs.declared.moves.MovedWorld.{MovedWorld}
 use Rattle.wit_reach.specs.Deps.{IsInterfaceDep}
 use Rattle.wit_reach.specs.Holding.{HoldTheirTypes}
+use Rattle.wit_reach.specs.Lists.{type_items}
+use Rattle.wit_reach.specs.Types.{IsOfItem}
 use Rattle.wit_placed.specs.There.{IsInterfaceThere}
 use Rattle.wit_placed.specs.Order.{AreBehind}
+use Rattle.wit_uses.specs.Uses.{TakesByUse}
 use Rattle.wit_item_names.specs.Apart.{IsPlain, AreNamedApart, AreOwnNamedApart}
+use Rattle.wit_item_names.specs.Added.{IsPlainWorld}
+use Rattle.wit_item_names.specs.Plain.{AreUnderPlainNames, ArePlainIncludes}
 use Rattle.wit_item_names.specs.Used.{IsNamed, SidesUseNamed, AreOwnUsedNamed}
 
 -- no package has the text of this one, of which parts have no marks
@@ -51,3 +57,14 @@ PlacedUseNamed =
     → ((k j : ℕ) (d : Interface) → slice_get interfaces k ≡ Some d → IsInterfaceDep graph d j → IsNamed packages interfaces j)
     → AreOwnUsedNamed (length others_interfaces) (foreign ++ own) own_interfaces own_worlds
     → UseNamed (packages ++ q ∷ []) (graph ++ moved) (interfaces ++ new_interfaces) ms
+
+-- where worlds of a package take types by use, behind so many others, and import what has plain names, so does what stays of each where it stands
+abbrev pub PlacedWorldsArePlain : Type 0
+PlacedWorldsArePlain =
+    (features : FeatureSet) (owners : OwnerPlaces) (s : Standing) (owner : ℕ) (foreign own graph moved : List TypeDef) (others : Places) (own_interfaces new_interfaces interfaces : List Interface) (others_interfaces : Places)
+    → AreBehind features owners s owner foreign own graph moved others own_interfaces new_interfaces others_interfaces (length interfaces)
+    → others ≡ map (type_found interfaces others_interfaces) foreign → HoldTheirTypes 0 graph interfaces
+    → (others_worlds : ℕ) (own_worlds : List World) (ms : List MovedWorld) → AreMovedWorlds features s own_worlds ms
+    → ((k : ℕ) (w : World) → slice_get own_worlds k ≡ Some w → TakesByUse (foreign ++ own) (belongs.World (others_worlds + k)) (Has (type_items w.imports.entries)) (IsOfItem w))
+    → ((w : World) → Has own_worlds w → AreUnderPlainNames (foreign ++ own) w.imports.entries) → ((w : World) → Has own_worlds w → ArePlainIncludes w.includes.items)
+    → (m : MovedWorld) → Has ms m → IsPlainWorld (graph ++ moved) m

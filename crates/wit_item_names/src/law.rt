@@ -1,7 +1,7 @@
 //! Laws of names of items.
 
 ghost use Rattle.wit_item_names.specs.Added.{AddedWorldsArePlain, AddedWorldsUseNamed};
-ghost use Rattle.wit_item_names.specs.Placed.{PlacedAreNamedApart, PlacedUseNamed};
+ghost use Rattle.wit_item_names.specs.Placed.{PlacedAreNamedApart, PlacedUseNamed, PlacedWorldsArePlain};
 ghost use Rattle.wit_item_names.specs.Pushed.{PushedAreUsedNamed};
 
 use wit_copied_trees::{law_included_sides_are_there, law_included_types_are_backward};
@@ -50,3 +50,8 @@ pub fn law_added_worlds_are_plain()
     law_included_sides_are_there();
     law_brought_takes_by_use();
 }
+
+/// Where worlds of a package import what has plain names, so does what stays of each where it stands in a graph, without what it includes.
+pub fn law_placed_worlds_are_plain()
+    ensures { PlacedWorldsArePlain }
+{}

@@ -34,7 +34,7 @@ has_or (z ∷ xs) ys x h =
     ]
 
 -- what is made of a list is made of one of it
-flat_has : {X Y : Type 0} (f : X → List Y) (xs : List X) (y : Y) → Has (flat_map f xs) y → (x : X) × Has xs x × Has (f x) y
+pub flat_has : {X Y : Type 0} (f : X → List Y) (xs : List X) (y : Y) → Has (flat_map f xs) y → (x : X) × Has xs x × Has (f x) y
 flat_has {X} {Y} f [] y h = absurd h
 flat_has {X} {Y} f (x ∷ xs) y h =
     elim (has_or (f x) (flat_map f xs) y h) as (λ _. (z : X) × Has (x ∷ xs) z × Has (f z) y) [
