@@ -1,5 +1,5 @@
 -- Worlds that come to a graph use and import interfaces that have names.
-use Rattle.std.proofs.Common.{◌≡◌, ℕ, ◌<◌, List, [], ◌∷◌, ◌++◌, ◌⊎◌, inl, inr, refl, sym, subst, ap, ◌∙◌, length}
+use Rattle.std.proofs.Common.{◌≡◌, ℕ, List, [], ◌∷◌, ◌++◌, ◌⊎◌, inl, inr, refl, sym, subst, ap, ◌∙◌, length}
 use Rattle.std.proofs.lemmas.Grind.{flat_map-append}
 use Rattle.wit_order.specs.Order.{Has}
 use Rattle.wit_order.specs.Places.{Rows}

@@ -1,8 +1,8 @@
 -- What a world brings to one that includes it uses types of the interfaces that it uses, and imports those that it imports.
-use Rattle.std.proofs.Common.{◌≡◌, ℕ, ◌+◌, ◌<◌, true, false, Bool, List, [], ◌∷◌, ◌++◌, ◌⊎◌, inl, inr, Option, Some, None, map, refl, sym, subst, ap, ◌∙◌, arith, length, nat_eq}
+use Rattle.std.proofs.Common.{◌≡◌, ℕ, ◌+◌, ◌<◌, true, false, List, [], ◌∷◌, ◌++◌, ◌⊎◌, inl, inr, Some, None, refl, sym, subst, ap, ◌∙◌, arith, length, nat_eq}
 use Rattle.std.proofs.lemmas.Bool.{cases_Bool, eq-eqb, eqb-true}
 use Rattle.std.proofs.lemmas.Option.{same_Some, slice_get_within}
-use Rattle.std.specs.Prelude.{slice_get, if◌then◌else◌}
+use Rattle.std.specs.Prelude.{slice_get}
 use Rattle.wit_order.specs.Order.{Has}
 use Rattle.wit_order.proofs.Lists.{has_was}
 use Rattle.wit_types.specs.declared.kind.TypeDefKind.{TypeDefKind}
@@ -29,7 +29,7 @@ use Rattle.wit_reach.specs.Ids.{kind_ids, item_ids, side_ids}
 use Rattle.wit_reach.specs.Lists.{item_type, item_types, type_items, item_interface, listed, listed_in}
 use Rattle.wit_reach.specs.Types.{AreTypesBackward, AreTypesThere, AreSidesThere, is_local}
 use Rattle.wit_reach.proofs.Growing.{get_same, dep_same}
-use Rattle.wit_reach.proofs.Holding.{alias_of, of_alias, has_flat, flat_has, got}
+use Rattle.wit_reach.proofs.Holding.{alias_of, of_alias, got}
 use Rattle.wit_reach.proofs.Lists.{has_append, has_parts}
 use Rattle.wit_copied_trees.proofs.Members.{goes_else}
 use Rattle.wit_copied_trees.proofs.MovedIds.{has_moved}

@@ -10,3 +10,5 @@ pub mod Renaming
 mod Entries
 mod Plain
 mod PlainMoved
+mod Tables
+mod Whole

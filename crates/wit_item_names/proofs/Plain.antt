@@ -1,7 +1,6 @@
 -- Worlds that come to a graph import what has plain names.
-use Rattle.std.proofs.Common.{◌≡◌, ℕ, true, false, Bool, List, [], ◌∷◌, ◌++◌, ◌⊎◌, inl, inr, Some, String, refl, sym, subst, ap, ◌∙◌, length, map}
-use Rattle.std.proofs.lemmas.Option.{same_Some}
-use Rattle.std.specs.Prelude.{slice_get, string_bytes}
+use Rattle.std.proofs.Common.{◌≡◌, ℕ, List, [], ◌∷◌, ◌++◌, ◌⊎◌, inl, inr, String, refl, sym, subst, ap, ◌∙◌, length, map}
+use Rattle.std.specs.Prelude.{string_bytes}
 use Rattle.std.specs.declared.alloc.Global.{Global}
 use Rattle.wit_order.specs.Order.{Has}
 use Rattle.wit_order.specs.Places.{Rows}
@@ -27,9 +26,8 @@ use Rattle.wit_sides.specs.Sides.{AreUnited, no_entries, first_of_its_key, key_a
 use Rattle.wit_includes.specs.Included.{copies_behind, IsIncluded}
 use Rattle.wit_includes.specs.declared.worlds.Included.{Included}
 use Rattle.wit_reach.specs.Holding.{AreNamedOwned}
-use Rattle.wit_reach.specs.Ids.{side_ids}
 use Rattle.wit_reach.specs.Lists.{item_type, type_items}
-use Rattle.wit_reach.specs.Types.{AreTypesBackward, AreSidesThere, IsOfItem, is_local}
+use Rattle.wit_reach.specs.Types.{AreTypesBackward, AreSidesThere, IsOfItem}
 use Rattle.wit_reach.proofs.Holding.{mapped_has, flat_has}
 use Rattle.wit_elaborated.specs.Worlds.{AreKeysOfItems}
 use Rattle.wit_copied_trees.specs.There.{IncludedTypesAreBackward, IncludedSidesAreThere}
@@ -45,7 +43,7 @@ use Rattle.wit_uses.specs.Uses.{TakesByUse, WorldsTakeByUse}
 use Rattle.wit_uses.proofs.Brought.{is_copied, own_local}
 use Rattle.wit_uses.proofs.Joining.{IsClear, clear_front, clash_of, IsSoFar, includes_so_far}
 use Rattle.wit_graph_worlds.specs.Added.{IsAdded}
-use Rattle.wit_graph_worlds.specs.Copies.{AreSameEntries, IsSameWorld}
+use Rattle.wit_graph_worlds.specs.Copies.{AreSameEntries}
 use Rattle.wit_graph_worlds.specs.Sound.{AreSound}
 use Rattle.wit_graph_worlds.specs.Worlds.{State}
 use Rattle.wit_graph_worlds.proofs.Adding.{each_of}
@@ -54,7 +52,7 @@ use Rattle.wit_graph_worlds.proofs.Taking.{begins, all_keep}
 use Rattle.wit_item_names.specs.Added.{ArePlainWorlds, IsPlainWorld, AddedWorldsArePlain}
 use Rattle.wit_item_names.specs.Apart.{IsPlain}
 use Rattle.wit_item_names.specs.Plain.{ArePlainApart, ArePlainlyNamed, AreUnderPlainNames, ArePlainRenames, ArePlainIncludes}
-use Rattle.wit_item_names.proofs.Entries.{text_of_key, text_of_item, same_name, named_from, function_from, renamed_function, type_from, renamed_type}
+use Rattle.wit_item_names.proofs.Entries.{text_of_item, same_name, named_from, function_from, renamed_function, type_from, renamed_type}
 use Rattle.wit_item_names.proofs.Included.{type_ids}
 use Rattle.wit_item_names.proofs.Renaming.{renamed_same, renamed_plain}
 use Rattle.wit_item_names.proofs.Sides.{Entry}
@@ -177,6 +175,9 @@ name_more types more id t (d, n, at, named, is) = (d, n, get_kept types more id 
 
 plain_more : (types more : List TypeDef) (es : List Entry) → AreUnderPlainNames types es → AreUnderPlainNames (types ++ more) es
 plain_more types more es was = record { plain = was.plain; functions = was.functions; types_are = λ x id span has. name_more types more id (string_bytes x) (was.types_are x id span has) }
+
+pub plainly_more : (types more : List TypeDef) (es : List Entry) → ArePlainlyNamed types es → ArePlainlyNamed (types ++ more) es
+plainly_more types more es was = record { apart = was.apart; plain = was.plain; functions = was.functions; types_are = λ x id span has. name_more types more id (string_bytes x) (was.types_are x id span has) }
 
 plain_both : (types : List TypeDef) (es fs : List Entry) → AreUnderPlainNames types es → AreUnderPlainNames types fs → AreUnderPlainNames types (es ++ fs)
 plain_both types es fs a b = record {

@@ -1,5 +1,5 @@
 -- What stays of a side of a world was there.
-use Rattle.std.proofs.Common.{◌≡◌, ℕ, Bool, true, false, List, [], ◌∷◌, ◌++◌, inl, inr, Some, map, refl, sym, subst}
+use Rattle.std.proofs.Common.{◌≡◌, ℕ, true, List, [], ◌∷◌, ◌++◌, inl, inr, Some, map, refl, sym, subst}
 use Rattle.wit_order.specs.Order.{Has}
 use Rattle.wit_order.proofs.Lists.{has_was}
 use Rattle.wit_types.specs.declared.world.WorldItem.{WorldItem}
@@ -8,7 +8,7 @@ use Rattle.wit_types.specs.declared.world_key.WorldKey.TheVariants as key
 use Rattle.wit_types.specs.World.{span_of}
 use Rattle.wit_features.specs.Features.{FeatureSet}
 use Rattle.wit_moves.specs.Breaks.{IsKept}
-use Rattle.wit_moves.specs.Moved.{Places, place_of, is_placed, to}
+use Rattle.wit_moves.specs.Moved.{Places, place_of, to}
 use Rattle.wit_moves.specs.Interfaces.{no_entries, one_goes, one_stays}
 use Rattle.wit_moves.specs.Worlds.{item_stays, is_item_placed, IsMovedItem, moved_interface, moved_function, moved_type, moved_entry, AreMovedItems, IsMovedSide, SideBreaks}
 use Rattle.wit_reach.specs.Lists.{item_type, type_items, listed, listed_in}

@@ -4,3 +4,6 @@ pub mod Plain
 pub mod Placed
 pub mod Added
 pub mod Pushed
+pub mod Items
+pub mod Tables
+pub mod Whole

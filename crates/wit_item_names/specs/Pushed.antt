@@ -1,5 +1,5 @@
 -- A graph with a package that came to it: interfaces of which types are used have names (WIT, Packages, Use).
-use Rattle.std.specs.Prelude.{◌≡◌, ℕ, List, [], ◌∷◌, ◌++◌, Some, length, map, slice_get}
+use Rattle.std.specs.Prelude.{◌≡◌, ℕ, List, [], ◌∷◌, ◌++◌, Some, length, map}
 use Rattle.wit_order.specs.Order.{Has}
 use Rattle.wit_order.specs.Places.{Rows}
 use Rattle.wit_types.specs.declared.interface.Interface.{Interface}

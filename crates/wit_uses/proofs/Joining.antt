@@ -274,7 +274,7 @@ item_there : (types : List TypeDef) (w : World) → AreSidesThere types w → (s
 item_there types w there s (inl h) = there.0 s h
 item_there types w there s (inr h) = there.1 s h
 
-worlds_still : (types more : List TypeDef) (worlds : List World) → AreTypesBackward types → AreWorldsThere types worlds → WorldsTakeByUse types worlds → WorldsTakeByUse (types ++ more) worlds
+pub worlds_still : (types more : List TypeDef) (worlds : List World) → AreTypesBackward types → AreWorldsThere types worlds → WorldsTakeByUse types worlds → WorldsTakeByUse (types ++ more) worlds
 worlds_still types more worlds back there take i w at =
     takes_more types more back (belongs.World i) (Has (type_items w.imports.entries)) (IsOfItem w) (item_there types w (there w (has_get worlds i w at))) (take i w at)
 
