@@ -41,7 +41,7 @@ use Rattle.wit_uses.specs.Uses.{TakesByUse, SeesByUse, IsOfInterface, TakeByUse}
 use Rattle.wit_uses.proofs.Using.{sees}
 use Rattle.linked_worlds.specs.Asked.{AskedAreImported}
 use Rattle.linked_worlds.specs.Linked.{AreNamesOf}
-use Rattle.linked_worlds.proofs.Alike.{items_alike, item_alike, type_alike}
+use Rattle.wit_graph_worlds.proofs.Alike.{items_alike, item_alike, type_alike}
 use Rattle.linked_worlds.proofs.Linked.{all_parts, all_flat}
 use Rattle.linked_worlds.proofs.Listing as listing
 use Rattle.linked_worlds.proofs.Needed.{part_has, needed_are_linked}

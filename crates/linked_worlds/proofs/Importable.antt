@@ -21,7 +21,7 @@ use Rattle.wit_graph.specs.declared.tables.Tables.{Tables}
 use Rattle.linked_worlds.specs.Importable.{IsEmptyRoot, own_and_exported, WorldsAreImportable, WorldsAreWritable}
 use Rattle.linked_worlds.specs.Linked.{AreNamesOf}
 use Rattle.linked_worlds.specs.Named.{AreItemsNamed}
-use Rattle.linked_worlds.specs.Texts.{HasText}
+use Rattle.wit_item_names.specs.Used.{HasText}
 use Rattle.linked_worlds.proofs.Asked.{asked_are_imported}
 use Rattle.linked_worlds.proofs.Naming.{texts, have_texts}
 use Rattle.linked_worlds.proofs.Needed.{needed_are_linked}

@@ -2,7 +2,6 @@ mod Linked
 mod Needed
 mod Seeing
 mod Listing
-mod Alike
 mod Asked
 mod Told
 mod Naming

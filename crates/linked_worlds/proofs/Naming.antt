@@ -26,9 +26,12 @@ use Rattle.core_links.specs.Names.{Names}
 use Rattle.wit_graph.specs.Graph.{AreWhole}
 use Rattle.wit_graph.specs.declared.tables.Tables.{Tables}
 use Rattle.linked_worlds.specs.Linked.{AreNamesOf}
-use Rattle.linked_worlds.specs.Named.{IsNamed, AreItemsNamed, WorldsHaveTextsApart}
-use Rattle.linked_worlds.specs.Texts.{AreNamedApart, ArePlainApart, ArePlainlyNamed, IsPlain, HaveTexts, AreTextsApart}
-use Rattle.linked_worlds.proofs.Alike.{interface_alike}
+use Rattle.wit_item_names.specs.Used.{IsNamed}
+use Rattle.linked_worlds.specs.Named.{AreItemsNamed, WorldsHaveTextsApart}
+use Rattle.wit_item_names.specs.Apart.{AreNamedApart, IsPlain}
+use Rattle.wit_item_names.specs.Plain.{ArePlainApart, ArePlainlyNamed}
+use Rattle.linked_worlds.specs.Texts.{HaveTexts, AreTextsApart}
+use Rattle.wit_graph_worlds.proofs.Alike.{interface_alike}
 use Rattle.linked_worlds.proofs.Asked as asked
 use Rattle.linked_worlds.proofs.Listing as listing
 use Rattle.linked_worlds.proofs.Told.{text_of_key, texts_apart}

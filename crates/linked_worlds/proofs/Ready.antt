@@ -47,7 +47,7 @@ use Rattle.linked_worlds.specs.Importable.{IsEmptyRoot, own_and_exported}
 use Rattle.linked_worlds.specs.Linked.{AreNamesOf}
 use Rattle.linked_worlds.specs.Named.{AreItemsNamed}
 use Rattle.linked_worlds.specs.Ready.{MayBeTaken, OwnAreImported}
-use Rattle.linked_worlds.specs.Texts.{HasText}
+use Rattle.wit_item_names.specs.Used.{HasText}
 use Rattle.linked_worlds.proofs.Asked as from
 use Rattle.linked_worlds.proofs.Distinct.{AreApart, has_or, are_distinct, apart_append, name_from, IsNameFrom, from_apart, flat_of, ids_apart, own_entry, own_apart, part_apart}
 use Rattle.linked_worlds.proofs.Importable.{HasItsText, text_of, one_text}

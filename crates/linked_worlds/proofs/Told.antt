@@ -20,24 +20,13 @@ use Rattle.wit_types.specs.declared.«package».PackageName.{PackageName}
 use Rattle.wit_reach.specs.Lists.{item_interface}
 use Rattle.wit_elaborated.specs.Worlds.{IsKeyOfItem, AreKeysOfItems}
 use Rattle.wit_names.specs.Names.{named_in, text_at}
-use Rattle.linked_worlds.specs.Texts.{IsWithout, IsPlain, AreNamedApart, ArePlainApart, ArePlainlyNamed, HasText, AreTextsApart}
+use Rattle.wit_item_names.proofs.Texts.{split_mark, has_mark}
+use Rattle.wit_item_names.specs.Apart.{IsWithout, IsPlain, AreNamedApart}
+use Rattle.wit_item_names.specs.Plain.{ArePlainApart, ArePlainlyNamed}
+use Rattle.wit_item_names.specs.Used.{HasText}
+use Rattle.linked_worlds.specs.Texts.{AreTextsApart}
 
 -- ---- texts
-
--- the mark is where it first stands
-split_mark : (mark : ℕ) (xs ys more rest : List ℕ) → IsWithout mark xs → IsWithout mark ys → xs ++ mark ∷ more ≡ ys ++ mark ∷ rest → (xs ≡ ys) × (more ≡ rest)
-split_mark mark [] [] more rest a b e = (refl, cc)
-split_mark mark [] (y ∷ ys) more rest a b e = absurd (b (inl (cc)))
-split_mark mark (x ∷ xs) [] more rest a b e = absurd (a (inl (cc)))
-split_mark mark (x ∷ xs) (y ∷ ys) more rest a b e =
-    let first : x ≡ y = cc in
-    let later : xs ++ mark ∷ more ≡ ys ++ mark ∷ rest = cc in
-    let r = split_mark mark xs ys more rest (λ h. a (inr h)) (λ h. b (inr h)) later in
-    (ap (λ (z : ℕ). z ∷ xs) first ∙ ap (λ (zs : List ℕ). y ∷ zs) r.0, r.1)
-
-has_mark : (mark : ℕ) (xs more : List ℕ) → Has (xs ++ mark ∷ more) mark
-has_mark mark [] more = inl refl
-has_mark mark (x ∷ xs) more = inr (has_mark mark xs more)
 
 same_versions : (x y : List ℕ) (v w : Option Version) → IsWithout 64 x → IsWithout 64 y → with_version x v ≡ with_version y w → (x ≡ y) × ((z : List ℕ) → with_version z v ≡ with_version z w)
 same_versions x y None None a b e = (e, λ z. refl)

@@ -4,7 +4,7 @@ mod Backward
 mod Renaming
 mod Clones
 mod Definitions
-mod Named
+pub mod Named
 mod Copying
 mod Functions
 pub mod MovedIds

@@ -42,7 +42,7 @@ renamed_nameless names false n e g t r = r
 renamed_nameless names true (Some x) e g t r = absurd cc
 
 -- one of the world has the changed name
-renamed_named : (names : List IncludeName) (b : Bool) (n : Option (String Global)) (x : Name) (e g : TypeDef) → b ≡ true → text_of n ≡ Some x → IsRenamedName names b e n g
+pub renamed_named : (names : List IncludeName) (b : Bool) (n : Option (String Global)) (x : Name) (e g : TypeDef) → b ≡ true → text_of n ≡ Some x → IsRenamedName names b e n g
     → (y : String Global) × IsRenamed names x (string_bytes y) × (g ≡ record e { name = Some y })
 renamed_named names false n x e g b t r = absurd cc
 renamed_named names true None x e g b t r = absurd cc

@@ -54,7 +54,7 @@ has_one_more (u ∷ ws) v w h =
       | inr later ↦ elim (has_one_more ws v w later) as (λ _. (w ≡ v) ⊎ Has (u ∷ ws) w) [ inl a ↦ inl a | inr b ↦ inr (inr b) ]
     ]
 
-each_of : (P : World → Type 0) (ws : List World) (v : World) → ((w : World) → Has ws w → P w) → P v → (w : World) → Has (ws ++ v ∷ []) w → P w
+pub each_of : (P : World → Type 0) (ws : List World) (v : World) → ((w : World) → Has ws w → P w) → P v → (w : World) → Has (ws ++ v ∷ []) w → P w
 each_of P ws v all one w h = elim (has_one_more ws v w h) as (λ _. P w) [ inl e ↦ subst P (sym e) one | inr was ↦ all w was ]
 
 named_of : (n : ℕ) (types : List TypeDef) (w : Worlds) → AreSound n types w → AreNamed n w.listed

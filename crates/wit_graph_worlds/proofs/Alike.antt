@@ -1,6 +1,6 @@
 -- Worlds that say the same are made of the same types and interfaces.
 use Rattle.std.proofs.Common.{◌≡◌, ℕ, List, [], ◌∷◌, ◌++◌, refl, ap, ◌∙◌, subst}
-use Rattle.std.specs.Prelude.{flat_map}
+use Rattle.std.specs.Prelude.{flat_map, map}
 use Rattle.std.specs.List.{AllZip}
 use Rattle.wit_order.specs.Order.{Has}
 use Rattle.wit_types.specs.declared.interface.TypeDef.{TypeDef}
@@ -11,7 +11,7 @@ use Rattle.wit_types.specs.declared.world.WorldItem.{WorldItem}
 use Rattle.wit_types.specs.declared.world_key.WorldKey.{WorldKey}
 use Rattle.wit_copies.specs.Same as same
 use Rattle.wit_reach.specs.Ids.{ref_ids, function_ids, item_ids, side_ids}
-use Rattle.wit_reach.specs.Lists.{item_interface, interfaces_of, AreInterfacesThere}
+use Rattle.wit_reach.specs.Lists.{item_interface, interfaces_of, item_type, AreInterfacesThere}
 use Rattle.wit_reach.specs.Types.{AreTypesThere, AreSidesThere}
 use Rattle.wit_elaborated.specs.Worlds.{IsKeyOfItem, AreKeysOfItems}
 use Rattle.wit_graph_worlds.specs.Copies.{AreSameEntries, IsSameWorld}
@@ -27,17 +27,27 @@ params_alike (p ∷ ps) (q ∷ qs) h = rw (h.0.ty, params_alike ps qs h.1) refl
 function_alike : (f g : Function) → same.IsSameFunction f g → function_ids g ≡ function_ids f
 function_alike f g h = rw (h.kind, params_alike f.params.items g.params.items h.params, h.result) refl
 
-item_alike : (i j : WorldItem) → same.IsSameItem i j → item_ids j ≡ item_ids i
+pub item_alike : (i j : WorldItem) → same.IsSameItem i j → item_ids j ≡ item_ids i
 item_alike _ _ (same.same_interface id s t span h) = refl
 item_alike _ _ (same.same_function f g h) = function_alike f g h
 item_alike _ _ (same.same_type id span) = refl
 
-side_alike : (es fs : List (WorldKey × WorldItem)) → AreSameEntries es fs → side_ids fs ≡ side_ids es
-side_alike [] [] h = refl
-side_alike [] (f ∷ fs) h = absurd h
-side_alike (e ∷ es) [] h = absurd h
-side_alike (e ∷ es) (f ∷ fs) h =
-    ap (λ (l : List ℕ). l ++ side_ids fs) (item_alike e.1 f.1 h.0.1) ∙ ap (λ (l : List ℕ). item_ids e.1 ++ l) (side_alike es fs h.1)
+-- what is of the items alone is the same
+pub items_alike : (f : WorldItem → List ℕ) → ((i j : WorldItem) → same.IsSameItem i j → f j ≡ f i) → (es fs : List (WorldKey × WorldItem)) → AreSameEntries es fs
+    → flat_map f (map (λ (e : WorldKey × WorldItem). e.1) fs) ≡ flat_map f (map (λ (e : WorldKey × WorldItem). e.1) es)
+items_alike f alike [] [] h = refl
+items_alike f alike [] (x ∷ fs) h = absurd h
+items_alike f alike (e ∷ es) [] h = absurd h
+items_alike f alike (e ∷ es) (x ∷ fs) h =
+    ap (λ (l : List ℕ). l ++ flat_map f (map (λ (y : WorldKey × WorldItem). y.1) fs)) (alike e.1 x.1 h.0.1) ∙ ap (λ (l : List ℕ). f e.1 ++ l) (items_alike f alike es fs h.1)
+
+pub side_alike : (es fs : List (WorldKey × WorldItem)) → AreSameEntries es fs → side_ids fs ≡ side_ids es
+side_alike es fs h = items_alike item_ids item_alike es fs h
+
+pub type_alike : (i j : WorldItem) → same.IsSameItem i j → item_type j ≡ item_type i
+type_alike _ _ (same.same_interface id s t span h) = refl
+type_alike _ _ (same.same_function f g h) = refl
+type_alike _ _ (same.same_type id span) = refl
 
 types_there : (types : List TypeDef) (es fs : List (WorldKey × WorldItem)) → AreSameEntries es fs → AreTypesThere types (side_ids es) → AreTypesThere types (side_ids fs)
 types_there types es fs h there = λ i has. there i (subst (λ (l : List ℕ). Has l i) (side_alike es fs h) has)
@@ -53,11 +63,7 @@ interface_alike _ _ (same.same_function f g h) = refl
 interface_alike _ _ (same.same_type id span) = refl
 
 interfaces_alike : (es fs : List (WorldKey × WorldItem)) → AreSameEntries es fs → interfaces_of fs ≡ interfaces_of es
-interfaces_alike [] [] h = refl
-interfaces_alike [] (f ∷ fs) h = absurd h
-interfaces_alike (e ∷ es) [] h = absurd h
-interfaces_alike (e ∷ es) (f ∷ fs) h =
-    ap (λ (l : List ℕ). l ++ interfaces_of fs) (interface_alike e.1 f.1 h.0.1) ∙ ap (λ (l : List ℕ). item_interface e.1 ++ l) (interfaces_alike es fs h.1)
+interfaces_alike es fs h = items_alike item_interface interface_alike es fs h
 
 pub interfaces_there : (n : ℕ) (w v : World) → IsSameWorld w v → AreInterfacesThere n w → AreInterfacesThere n v
 interfaces_there n w v h there = record {

@@ -33,6 +33,9 @@ module _ (P : List TypeDef → Type 0)
         (includes_keep t.worlds.listed _ m.includes.items (joined.own_state t.types m) sides.joined sides.includes (added_keep interfaces uses owner ms s t before there))
 
 -- types with names belong somewhere still
+pub includes_named : (worlds : List World) (id : ℕ) (ns : List WorldInclude) (s t : joined.State) → Includes worlds id ns s t → AreNamedOwned s.types → AreNamedOwned t.types
+includes_named = includes_keep AreNamedOwned (λ names from into types world own new are h named. included_named names from into types own new named h)
+
 pub added_named : (interfaces : List Interface) (uses : Rows) (owner : ℕ) (ms : List MovedWorld) (s t : State) → AreAdded interfaces uses owner ms s t → AreNamedOwned s.types → AreNamedOwned t.types
 added_named = added_keep AreNamedOwned (λ names from into types world own new are h named. included_named names from into types own new named h)
 

@@ -1,9 +1,10 @@
 mod Clones
-mod Alike
+pub mod Alike
 mod Owners
 mod Brought
 mod Including
 pub mod Belonging
-mod Adding
+pub mod Adding
 pub mod Whole
 mod Named
+pub mod Taking

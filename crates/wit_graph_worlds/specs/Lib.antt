@@ -3,3 +3,4 @@ pub mod Worlds
 pub mod Sound
 pub mod Added
 pub mod Names
+pub mod Uses

@@ -6,7 +6,7 @@ pub mod Own
 mod Order
 pub mod Entries
 pub mod Holding
-mod Finding
+pub mod Finding
 mod Listing
 mod Names
 mod Nameless

@@ -33,7 +33,7 @@ to_below n places within i p =
     subst (λ (k : ℕ). k < n) (sym (ap (λ (o : Option ℕ). unwrap_or o i) j.1)) (within i j.0 j.1)
 
 -- what isn't false is true
-holds : (b : Bool) → (b ≡ false → ⊥) → b ≡ true
+pub holds : (b : Bool) → (b ≡ false → ⊥) → b ≡ true
 holds b never = elim (either b) as (λ _. b ≡ true) [ inl is ↦ is | inr isnt ↦ absurd (never isnt) ]
 
 -- a function that stays takes and gives what stands somewhere

@@ -3,3 +3,4 @@ pub mod Order
 pub mod Found
 pub mod Listed
 pub mod Naming
+pub mod Worlds

@@ -54,13 +54,13 @@ got (x ∷ xs) (suc k) less = got xs k (omega (arith, less))
 -- ---- what uses a type of another interface
 
 -- it is another name of a type of that interface, to which it doesn't belong itself
-record IsAliasOf (ds : List TypeDef) (d : TypeDef) (j : ℕ) : Type 0 where
-  target : ℕ
-  of : TypeDef
-  kind_is : d.kind ≡ kind.Alias (ref.Id target)
-  there : slice_get ds target ≡ Some of
-  owner : of.owner ≡ belongs.Interface j
-  other : is_of_interface j d.owner ≡ false
+pub record IsAliasOf (ds : List TypeDef) (d : TypeDef) (j : ℕ) : Type 0 where
+  pub target : ℕ
+  pub of : TypeDef
+  pub kind_is : d.kind ≡ kind.Alias (ref.Id target)
+  pub there : slice_get ds target ≡ Some of
+  pub owner : of.owner ≡ belongs.Interface j
+  pub other : is_of_interface j d.owner ≡ false
 
 interface_is : (o : TypeOwner) (j : ℕ) → interface_of o ≡ Some j → o ≡ belongs.Interface j
 interface_is (belongs.Interface i) j h = ap (λ (k : ℕ). belongs.Interface k) (same_Some i j h)
@@ -97,8 +97,14 @@ module _ (ds : List TypeDef) (d : TypeDef) (j : ℕ) where
   of_kind (kind.Alias r) e h = of_ref r e h
   of_kind _ e h = absurd cc
 
-  alias_of : def_dep ds d ≡ Some j → IsAliasOf ds d j
+  pub alias_of : def_dep ds d ≡ Some j → IsAliasOf ds d j
   alias_of h = of_kind d.kind refl h
+
+  -- and what is so uses it
+  pub of_alias : IsAliasOf ds d j → def_dep ds d ≡ Some j
+  of_alias a =
+      ap (λ (k : TypeDefKind). owned (at_target ds (alias_target k)) d.owner) a.kind_is ∙ ap (λ (o : Option TypeDef). owned o d.owner) a.there ∙ ap (λ (o : TypeOwner). but_own d.owner (interface_of o)) a.owner
+      ∙ ap (λ (b : Bool). if b then None else Some j) a.other
 
 -- ---- so interfaces are in order
 

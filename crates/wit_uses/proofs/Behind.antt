@@ -64,31 +64,35 @@ pub record Began (places : Places) (start : ℕ → Type 0) (j : ℕ) : Type 0 w
 module _ (features : FeatureSet) (owners : OwnerPlaces) (s : Standing) (owner : ℕ) (foreign own graph fs : List TypeDef) (others : Places) (own_interfaces new_interfaces interfaces : List Interface) (others_interfaces : Places)
     (b : AreBehind features owners s owner foreign own graph fs others own_interfaces new_interfaces others_interfaces (length interfaces)) (others_are : others ≡ map (type_found interfaces others_interfaces) foreign) (there : HoldTheirTypes 0 graph interfaces)
   where
-    abbrev Comes : ℕ → ℕ → Type 0
+    abbrev pub Comes : ℕ → ℕ → Type 0
     Comes i j = IsFrom features owners others s.types graph own b.nameless b.placed own fs i j
 
-    sources : AreSources features owners others s.types graph own b.nameless b.placed own fs s.types
+    pub sources : AreSources features owners others s.types graph own b.nameless b.placed own fs s.types
     sources = all_sources features owners others s.types graph own b.nameless b.placed fs b.are_moved
 
     -- what is found of another package belongs to an interface that is there
-    other_found : (i j : ℕ) → place_of others i ≡ Some j → (d : TypeDef) × (slice_get foreign i ≡ Some d) × IsFound interfaces others_interfaces d j
+    pub other_found : (i j : ℕ) → place_of others i ≡ Some j → (d : TypeDef) × (slice_get foreign i ≡ Some d) × IsFound interfaces others_interfaces d j
     other_found i j h = found interfaces others_interfaces foreign i j (subst (λ (ps : Places). place_of ps i ≡ Some j) others_are h)
 
-    was_at : (i j : ℕ) (f : Comes i j) → slice_get (foreign ++ own) i ≡ Some f.old
+    pub was_at : (i j : ℕ) (f : Comes i j) → slice_get (foreign ++ own) i ≡ Some f.old
     was_at i j f = subst (λ (n : ℕ). slice_get (foreign ++ own) n ≡ Some f.old) (ap (λ (n : ℕ). n + f.place) (sym b.so_many) ∙ sym f.index) (get_behind foreign own f.place ∙ f.was)
 
     other_at : (i j : ℕ) (h : place_of others i ≡ Some j) → slice_get (foreign ++ own) i ≡ Some (other_found i j h).0
     other_at i j h = get_kept foreign own i (other_found i j h).0 (other_found i j h).1
 
-    other_owner : (i j : ℕ) → place_of others i ≡ Some j → (d : TypeDef) → slice_get (graph ++ fs) j ≡ Some d → (p : ℕ) × (p < length interfaces) × (d.owner ≡ belongs.Interface p)
-    other_owner i j h d at =
+    -- where that stands
+    pub other_stands : (i j : ℕ) (h : place_of others i ≡ Some j) (d : TypeDef) → slice_get (graph ++ fs) j ≡ Some d → d.owner ≡ belongs.Interface (other_found i j h).2.place
+    other_stands i j h d at =
         let f = (other_found i j h).2 in
         let e = has_mapped (λ (z : String Global × ℕ). z.1) f.here.types.entries j f.listed in
         let u = there.theirs f.place f.here e.0 f.there e.1 in
         let here : slice_get graph j ≡ Some d = sym (get_same graph fs j (b.others_within i j h)) ∙ at in
         let same : u.type_def ≡ d = same_Some u.type_def d (sym u.there ∙ ap (slice_get graph) e.2 ∙ here) in
         let z : 0 + f.place ≡ f.place = omega arith in
-        (f.place, slice_get_within interfaces f.place f.here f.there, sym (ap (λ (x : TypeDef). x.owner) same) ∙ u.its ∙ ap (λ (n : ℕ). belongs.Interface n) z)
+        sym (ap (λ (x : TypeDef). x.owner) same) ∙ u.its ∙ ap (λ (n : ℕ). belongs.Interface n) z
+
+    other_owner : (i j : ℕ) → place_of others i ≡ Some j → (d : TypeDef) → slice_get (graph ++ fs) j ≡ Some d → (p : ℕ) × (p < length interfaces) × (d.owner ≡ belongs.Interface p)
+    other_owner i j h d at = (let f = (other_found i j h).2 in (f.place, slice_get_within interfaces f.place f.here f.there, other_stands i j h d at))
 
     -- ---- one owner: whose it was and is, what is listed there, and where it begins
 

@@ -63,26 +63,26 @@ module _ (f : WorldItem → List ℕ) where
   abbrev of : List Entry → List ℕ
   of es = flat_map f (map (λ (e : Entry). e.1) es)
 
-  of_parts : (xs ys : List Entry) (i : ℕ) → Has (of (xs ++ ys)) i → Has (of xs) i ⊎ Has (of ys) i
+  pub of_parts : (xs ys : List Entry) (i : ℕ) → Has (of (xs ++ ys)) i → Has (of xs) i ⊎ Has (of ys) i
   of_parts [] ys i h = inr h
   of_parts (x ∷ xs) ys i h = elim (has_parts (f x.1) (of (xs ++ ys)) i h) as (λ _. Has (f x.1 ++ of xs) i ⊎ Has (of ys) i) [
     | inl here ↦ inl (has_was (f x.1) (of xs) i here)
     | inr later ↦ elim (of_parts xs ys i later) as (λ _. Has (f x.1 ++ of xs) i ⊎ Has (of ys) i) [ inl a ↦ inl (has_append (f x.1) (of xs) i a) | inr b ↦ inr b ]
   ]
 
-  of_first : (xs ys : List Entry) (i : ℕ) → Has (of xs) i → Has (of (xs ++ ys)) i
+  pub of_first : (xs ys : List Entry) (i : ℕ) → Has (of xs) i → Has (of (xs ++ ys)) i
   of_first [] ys i h = absurd h
   of_first (x ∷ xs) ys i h = elim (has_parts (f x.1) (of xs) i h) as (λ _. Has (f x.1 ++ of (xs ++ ys)) i) [
     | inl here ↦ has_was (f x.1) (of (xs ++ ys)) i here
     | inr later ↦ has_append (f x.1) (of (xs ++ ys)) i (of_first xs ys i later)
   ]
 
-  of_second : (xs ys : List Entry) (i : ℕ) → Has (of ys) i → Has (of (xs ++ ys)) i
+  pub of_second : (xs ys : List Entry) (i : ℕ) → Has (of ys) i → Has (of (xs ++ ys)) i
   of_second [] ys i h = h
   of_second (x ∷ xs) ys i h = has_append (f x.1) (of (xs ++ ys)) i (of_second xs ys i h)
 
   -- what is united stood there
-  united_was : (es side : List Entry) → AreUnited key_eq es side → (i : ℕ) → Has (of side) i → Has (of es) i
+  pub united_was : (es side : List Entry) → AreUnited key_eq es side → (i : ℕ) → Has (of side) i → Has (of es) i
   united_was _ _ no_entries i h = h
   united_was _ _ (first_of_its_key es side e u new) i h = elim (of_parts side (e ∷ []) i h) as (λ _. Has (of (es ++ e ∷ [])) i) [
     | inl was ↦ of_first es (e ∷ []) i (united_was es side u i was)
@@ -92,7 +92,7 @@ module _ (f : WorldItem → List ℕ) where
 
 -- ---- no type is left out where sides are united
 
-abbrev IsClear : List Entry → Type 0
+abbrev pub IsClear : List Entry → Type 0
 IsClear es = (at : Span) → IsClash es at → ⊥
 
 abbrev keys_of : List Entry → List (List ℕ)
@@ -110,7 +110,7 @@ keys_append es fs = ap name_keys (plain_append es fs) ∙ map-append (λ (n : Sl
 spans_append : (es fs : List Entry) → spans_of (es ++ fs) ≡ spans_of es ++ spans_of fs
 spans_append es fs = ap (map (λ (n : Slice). n.span)) (plain_append es fs) ∙ map-append (λ (n : Slice). n.span) (plain_names es) (plain_names fs)
 
-clear_front : (es fs : List Entry) → IsClear (es ++ fs) → IsClear es
+pub clear_front : (es fs : List Entry) → IsClear (es ++ fs) → IsClear es
 clear_front es fs clear at c =
     let within : c.place < length (keys_of es) = slice_get_within (keys_of es) c.place c.again.key c.again.there in
     let front : take c.place (keys_of (es ++ fs)) ≡ take c.place (keys_of es) = ap (take c.place) (keys_append es fs) ∙ take-append-le c.place (keys_of es) (keys_of fs) (omega (arith, within)) in
@@ -155,23 +155,26 @@ named_lookup x ((key.Name y, c) ∷ es) h = by (bytes_eq (string_bytes x) (strin
     by true e later = (y, c, inl refl, (bytes_eq-Decides (string_bytes x) (string_bytes y)).0 e)
     by false e later = (let r = later (sym (ap (λ (b : Bool). is_some (if b then Some c else lookup (key_eq (key.Name x)) es)) e) ∙ h) in (r.0, r.1, inr r.2, r.3))
 
-clash_here : (es : List Entry) (x : String Global) (a : WorldItem) → is_some (lookup (key_eq (key.Name x)) es) ≡ true → IsClear (es ++ (key.Name x, a) ∷ []) → ⊥
-clash_here es x a h clear =
-    let r = named_lookup x es h in
+-- a plain name that stands there clashes with one behind
+pub clash_of : (es : List Entry) (x : String Global) (a : WorldItem) (y : String Global) (b : WorldItem) → Has es (key.Name y, b) → string_bytes x ≡ string_bytes y → IsClear (es ++ (key.Name x, a) ∷ []) → ⊥
+clash_of es x a y b has equal clear =
     let k : List ℕ = name_key (string_bytes x) in
     let one : keys_of (es ++ (key.Name x, a) ∷ []) ≡ keys_of es ++ k ∷ [] = keys_append es ((key.Name x, a) ∷ []) in
-    let same : bytes_eq k (name_key (string_bytes r.0)) ≡ true = (bytes_eq-Decides k (name_key (string_bytes r.0))).1 (ap name_key r.3) in
+    let same : bytes_eq k (name_key (string_bytes y)) ≡ true = (bytes_eq-Decides k (name_key (string_bytes y))).1 (ap name_key equal) in
     let long : length (spans_of es) ≡ length (keys_of es) = length-map (plain_names es) (λ (n : Slice). n.span) ∙ sym (length-map (plain_names es) (λ (n : Slice). name_key n.text)) in
     clear (span_of a) (record {
       place = length (keys_of es);
       again = record {
         key = k;
         there = subst (λ (ks : List (List ℕ)). slice_get ks (length (keys_of es)) ≡ Some k) (sym one) (get_last (keys_of es) k);
-        again = subst (λ (ks : List (List ℕ)). list_any (bytes_eq k) ks ≡ true) (sym (ap (take (length (keys_of es))) one ∙ take-append_seam (keys_of es) (k ∷ []))) (any_has k (keys_of es) (name_key (string_bytes r.0)) (plain_has es r.0 r.1 r.2) same);
+        again = subst (λ (ks : List (List ℕ)). list_any (bytes_eq k) ks ≡ true) (sym (ap (take (length (keys_of es))) one ∙ take-append_seam (keys_of es) (k ∷ []))) (any_has k (keys_of es) (name_key (string_bytes y)) (plain_has es y b has) same);
       };
       there = subst (λ (ss : List Span). slice_get ss (length (keys_of es)) ≡ Some (span_of a)) (sym (spans_append es ((key.Name x, a) ∷ [])))
           (subst (λ (n : ℕ). slice_get (spans_of es ++ span_of a ∷ []) n ≡ Some (span_of a)) long (get_last (spans_of es) (span_of a)));
     })
+
+clash_here : (es : List Entry) (x : String Global) (a : WorldItem) → is_some (lookup (key_eq (key.Name x)) es) ≡ true → IsClear (es ++ (key.Name x, a) ∷ []) → ⊥
+clash_here es x a h clear = (let r = named_lookup x es h in clash_of es x a r.0 r.1 r.2 r.3 clear)
 
 keys_parts : (es fs : List Entry) → AreKeysOfItems (es ++ fs) → AreKeysOfItems es × AreKeysOfItems fs
 keys_parts [] fs keys = (tt, keys)
@@ -271,21 +274,21 @@ item_there : (types : List TypeDef) (w : World) → AreSidesThere types w → (s
 item_there types w there s (inl h) = there.0 s h
 item_there types w there s (inr h) = there.1 s h
 
-worlds_still : (types more : List TypeDef) (worlds : List World) → AreTypesBackward types → AreWorldsThere types worlds → WorldsTakeByUse types worlds → WorldsTakeByUse (types ++ more) worlds
+pub worlds_still : (types more : List TypeDef) (worlds : List World) → AreTypesBackward types → AreWorldsThere types worlds → WorldsTakeByUse types worlds → WorldsTakeByUse (types ++ more) worlds
 worlds_still types more worlds back there take i w at =
     takes_more types more back (belongs.World i) (Has (type_items w.imports.entries)) (IsOfItem w) (item_there types w (there w (has_get worlds i w at))) (take i w at)
 
 -- ---- a world so far
 
 module _ (backward : IncludedTypesAreBackward) (sides_there : IncludedSidesAreThere) (brought_takes : BroughtTakesByUse) (worlds : List World) (named : (v : World) → Has worlds v → AreKeysOfItems v.imports.entries) (id : ℕ) where
-  record IsSoFar (t : State) : Type 0 where
-    back : AreTypesBackward t.types
-    imports : AreTypesThere t.types (side_ids t.imports)
-    exports : AreTypesThere t.types (side_ids t.exports)
-    keys : AreKeysOfItems t.imports
-    there : AreWorldsThere t.types worlds
-    earlier : WorldsTakeByUse t.types worlds
-    takes : TakesByUse t.types (belongs.World id) (Has (type_items t.imports)) (Sides t.imports t.exports)
+  pub record IsSoFar (t : State) : Type 0 where
+    pub back : AreTypesBackward t.types
+    pub imports : AreTypesThere t.types (side_ids t.imports)
+    pub exports : AreTypesThere t.types (side_ids t.exports)
+    pub keys : AreKeysOfItems t.imports
+    pub there : AreWorldsThere t.types worlds
+    pub earlier : WorldsTakeByUse t.types worlds
+    pub takes : TakesByUse t.types (belongs.World id) (Has (type_items t.imports)) (Sides t.imports t.exports)
 
   sides_so_far : (t : State) → IsSoFar t → (s : ℕ) → Sides t.imports t.exports s → s < length t.types
   sides_so_far t far s (inl h) = far.imports s h
@@ -320,7 +323,7 @@ module _ (backward : IncludedTypesAreBackward) (sides_there : IncludedSidesAreTh
             (either (t.types ++ b.types.items) (belongs.World id) (Has (type_items t.imports)) (Has (brought_types b)) (Sides t.imports t.exports) (IsOfBrought b) first second);
       }
 
-  includes_so_far : (ns : List WorldInclude) (s t : State) → Includes worlds id ns s t → IsSoFar s → IsSoFar t
+  pub includes_so_far : (ns : List WorldInclude) (s t : State) → Includes worlds id ns s t → IsSoFar s → IsSoFar t
   includes_so_far _ s _ (includes_none _) far = far
   includes_so_far _ s u (includes_one ns n _ t _ before (w, b, at, is, same)) far = subst IsSoFar (sym same) (one_more_included n.names.items n.id t w b at is (includes_so_far ns s t before far))
 

@@ -1,5 +1,5 @@
 -- Interfaces that take types by use, and a package whose interfaces do, put behind them.
-use Rattle.std.proofs.Common.{◌≡◌, ℕ, zero, suc, ◌+◌, ◌<◌, ◌≤◌, true, List, [], ◌∷◌, ◌++◌, ◌⊎◌, inl, inr, Option, Some, String, refl, sym, subst, ap, ◌∙◌, arith, length, map}
+use Rattle.std.proofs.Common.{◌≡◌, ℕ, zero, suc, ◌+◌, true, List, [], ◌∷◌, ◌++◌, ◌⊎◌, inl, inr, Option, Some, String, refl, sym, subst, ap, ◌∙◌, arith, length, map}
 use Rattle.std.proofs.lemmas.Bool.{and_parts, eq-eqb, eqb-true}
 use Rattle.std.specs.Prelude.{slice_get, is_some, unwrap_or}
 use Rattle.std.specs.declared.alloc.Global.{Global}
@@ -29,7 +29,7 @@ use Rattle.wit_placed.specs.There.{IsInterfaceThere}
 use Rattle.wit_placed.specs.Order.{AreBehind, interface_places}
 use Rattle.wit_placed.proofs.Entries.{entry_stays}
 use Rattle.wit_placed.proofs.Holding.{goes_to, name_was, function_was, interface_kept}
-use Rattle.wit_placed.proofs.Own.{interfaces_rise, interface_from, IsFrom as IsInterfaceFrom}
+use Rattle.wit_placed.proofs.Own.{only_one, interface_from, IsFrom as IsInterfaceFrom}
 use Rattle.wit_placed.proofs.Sides.{signature_placed}
 use Rattle.wit_uses.specs.Uses.{IsOwn, TakesByUse, IsOfInterface, InterfacesTakeByUse}
 use Rattle.wit_uses.specs.Moved.{MovedInterfacesTakeByUse}
@@ -48,7 +48,7 @@ name_goes places old new e j kept h goes =
 same_interface : (i j : ℕ) → belongs.Interface i ≡ belongs.Interface j → i ≡ j
 same_interface i j h = cc
 
-get_either : (xs ys : List Interface) (i : ℕ) (d : Interface) → slice_get (xs ++ ys) i ≡ Some d → (slice_get xs i ≡ Some d) ⊎ ((k : ℕ) × (i ≡ length xs + k) × (slice_get ys k ≡ Some d))
+pub get_either : (xs ys : List Interface) (i : ℕ) (d : Interface) → slice_get (xs ++ ys) i ≡ Some d → (slice_get xs i ≡ Some d) ⊎ ((k : ℕ) × (i ≡ length xs + k) × (slice_get ys k ≡ Some d))
 get_either [] ys i d h = inr (i, omega arith, h)
 get_either (x ∷ xs) ys zero d h = inl h
 get_either (x ∷ xs) ys (suc i) d h = elim (get_either xs ys i d h) as (λ _. (slice_get (x ∷ xs) (suc i) ≡ Some d) ⊎ ((k : ℕ) × (suc i ≡ length (x ∷ xs) + k) × (slice_get ys k ≡ Some d))) [
@@ -98,16 +98,8 @@ module _ (features : FeatureSet) (owners : OwnerPlaces) (s : Standing) (owner : 
           let is : to owners.interfaces o ≡ j.0 = ap (λ (q : Option ℕ). unwrap_or q o) j.1 in
           let same : to owners.interfaces o ≡ base + k = eqb-true (to owners.interfaces o) (base + k) into in
           let placed : place_of (interface_places features others_interfaces base own_interfaces) o ≡ Some j.0 = subst (λ (ps : Places). place_of ps o ≡ Some j.0) b.places j.1 in
-          let rise = interfaces_rise features others_interfaces base own_interfaces b.below in
-          eq-eqb o was
-          (by_order o was (λ less. (let l : j.0 < base + k = rise o was j.0 (base + k) (omega arith) less placed from.stands in omega (arith, is, same, l)))
-          (λ more. (let far : length others_interfaces ≤ o = omega (arith, more) in let l : base + k < j.0 = rise was o (base + k) j.0 far more from.stands placed in omega (arith, is, same, l))))
-        where
-          by_order : (a c : ℕ) → (a < c → ⊥) → (c < a → ⊥) → a ≡ c
-          by_order zero zero l m = refl
-          by_order zero (suc c) l m = absurd (l (omega arith))
-          by_order (suc a) zero l m = absurd (m (omega arith))
-          by_order (suc a) (suc c) l m = ap suc (by_order a c (λ h. l (omega (arith, h))) (λ h. m (omega (arith, h))))
+          let here : place_of (interface_places features others_interfaces base own_interfaces) o ≡ Some (base + k) = placed ∙ ap (λ (n : ℕ). Some n) (sym is ∙ same) in
+          eq-eqb o was (only_one features others_interfaces base (map (λ (d : Interface). d.stability) own_interfaces) b.below was o (base + k) (omega arith) from.stands here)
 
       began : (j : ℕ) → IsOfInterface e j → Began s.types (IsOfInterface from.old) j
       began j (inl listed) =

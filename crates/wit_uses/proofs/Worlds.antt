@@ -1,7 +1,8 @@
 -- Worlds of a package that take types by use do so where they stand in a graph.
-use Rattle.std.proofs.Common.{◌≡◌, ℕ, Bool, true, false, List, [], ◌∷◌, ◌++◌, inl, inr, Option, Some, map, refl, sym, subst, ap, ◌∙◌}
+use Rattle.std.proofs.Common.{◌≡◌, ℕ, zero, suc, ◌+◌, length, Bool, true, false, List, [], ◌∷◌, ◌++◌, inl, inr, Option, Some, map, refl, sym, subst, ap, ◌∙◌}
 use Rattle.std.proofs.lemmas.Bool.{eq-eqb, eqb-true, and_parts}
-use Rattle.std.specs.Prelude.{is_some, unwrap_or}
+use Rattle.std.specs.Prelude.{is_some, unwrap_or, slice_get}
+use Rattle.std.proofs.lemmas.Option.{same_Some}
 use Rattle.wit_order.specs.Order.{Has}
 use Rattle.wit_order.proofs.Lists.{has_was}
 use Rattle.wit_types.specs.declared.interface.TypeOwner.{TypeOwner}
@@ -11,10 +12,13 @@ use Rattle.wit_types.specs.declared.world.WorldItem.TheVariants as item
 use Rattle.wit_types.specs.declared.world_key.WorldKey.{WorldKey}
 use Rattle.wit_types.specs.World.{span_of}
 use Rattle.wit_features.specs.Features.{FeatureSet, stays as gate_stays}
-use Rattle.wit_moves.specs.Breaks.{IsKept}
+use Rattle.wit_moves.specs.Breaks.{AnyOf, IsKept}
 use Rattle.wit_moves.specs.Moved.{Places, place_of, is_placed, to, resource_of, is_resource_placed}
 use Rattle.wit_moves.specs.Interfaces.{no_entries, one_goes, one_stays}
 use Rattle.wit_moves.specs.Plan.{is_owner_placed, moved_owner}
+use Rattle.wit_plans.specs.Checks.{Standing, SidesBreak, WorldBreaks}
+use Rattle.wit_placed.specs.Worlds.{WorldsTakePlacesAlone}
+use Rattle.wit_types.specs.declared.world.World.{World}
 use Rattle.wit_moves.specs.Worlds.{item_stays, is_item_placed, IsMovedItem, moved_interface, moved_function, moved_type, moved_entry, AreMovedItems, IsMovedSide, SideBreaks}
 use Rattle.wit_reach.specs.Ids.{item_ids, side_ids}
 use Rattle.wit_reach.specs.Lists.{item_type, type_items}
@@ -26,7 +30,7 @@ use Rattle.wit_moved_trees.proofs.Parts.{function_from, function_placed}
 use Rattle.wit_placed.proofs.Holding.{goes_to}
 use Rattle.wit_placed.proofs.Members.{has_at}
 use Rattle.wit_uses.specs.Uses.{IsOwn}
-use Rattle.wit_uses.specs.Moved.{moved_types, IsOfMoved, MovedWorldsTakeByUse}
+use Rattle.wit_uses.specs.Moved.{moved_types, IsOfMoved, MovedWorldsTakeByUse, PlacedWorldsTakeByUse}
 use Rattle.wit_uses.proofs.Behind.{Began, moved_takes}
 
 abbrev Entry : Type 0
@@ -137,3 +141,18 @@ worlds_take features owners s owner foreign own graph fs others own_interfaces n
 
     listed_goes : (i j : ℕ) → Has (type_items world.imports.entries) i → place_of s.types i ≡ Some j → Has (moved_types m) j
     listed_goes i j h goes = side_goes features s.types s.interfaces world.imports.entries m.imports.items moved.imports i j h goes
+
+-- ---- all worlds of a package
+
+pub sides_kept : (features : FeatureSet) (s : Standing) (ws : List World) (i : ℕ) (w : World) → IsKept (AnyOf (WorldBreaks features s) ws) → slice_get ws i ≡ Some w → gate_stays features w.stability ≡ true → IsKept (SidesBreak features s w)
+sides_kept features s [] i w kept at st = absurd cc
+sides_kept features s (x ∷ ws) zero w kept at st = λ sp b. kept sp (inl (subst (λ (v : World). WorldBreaks features s v sp) (sym (same_Some x w at)) (st, inl b)))
+sides_kept features s (x ∷ ws) (suc i) w kept at st = sides_kept features s ws i w (λ sp b. kept sp (inr b)) at st
+
+pub placed_take : WorldsTakePlacesAlone → PlacedWorldsTakeByUse
+placed_take alone features owners s owner foreign own graph fs others own_interfaces new_interfaces interfaces others_interfaces b others_are there others_worlds base own_worlds ms below places moved kept takes k m at =
+    let a = alone features s others_worlds base own_worlds ms below moved k m at in
+    let v : ℕ = length others_worlds + a.place in
+    worlds_take features owners s owner foreign own graph fs others own_interfaces new_interfaces interfaces others_interfaces b others_are there v (base + k) a.old m
+    (subst (λ (ps : Places). place_of ps v ≡ Some (base + k)) (sym places) a.stands) (λ u h. a.only u (subst (λ (ps : Places). place_of ps u ≡ Some (base + k)) places h)) a.moved
+    (sides_kept features s own_worlds a.place a.old kept a.was a.kept) (takes a.place a.old a.was)

@@ -1,5 +1,5 @@
 -- What stays of a package takes types of other interfaces by use, too (WIT, Use, Feature Gates, Packages).
-use Rattle.std.specs.Prelude.{◌≡◌, ◌⊎◌, ℕ, List, ◌++◌, Some, length, map}
+use Rattle.std.specs.Prelude.{◌≡◌, ◌⊎◌, ℕ, ◌+◌, List, ◌++◌, Some, length, map, slice_get}
 use Rattle.wit_order.specs.Order.{Has}
 use Rattle.wit_types.specs.declared.interface.Interface.{Interface}
 use Rattle.wit_types.specs.declared.interface.TypeDef.{TypeDef}
@@ -10,15 +10,16 @@ use Rattle.wit_moves.specs.Breaks.{AnyOf, IsKept}
 use Rattle.wit_moves.specs.Moved.{Places, place_of}
 use Rattle.wit_moves.specs.Plan.{OwnerPlaces}
 use Rattle.wit_finding.specs.Types.{type_found}
-use Rattle.wit_plans.specs.Checks.{Standing, InterfaceBreaks, SidesBreak}
-use Rattle.wit_plans.specs.Moves.{IsMovedWorld}
+use Rattle.wit_plans.specs.Checks.{Standing, InterfaceBreaks, SidesBreak, WorldBreaks}
+use Rattle.wit_plans.specs.Moves.{IsMovedWorld, AreMovedWorlds}
 use Rattle.wit_plans.specs.declared.moves.MovedWorld.{MovedWorld}
 use Rattle.wit_reach.specs.Holding.{HoldTheirTypes}
 use Rattle.wit_reach.specs.Ids.{side_ids}
 use Rattle.wit_reach.specs.Lists.{type_items}
 use Rattle.wit_reach.specs.Types.{AreTypesBackward, IsOfItem}
-use Rattle.wit_placed.specs.There.{IsInterfaceThere}
+use Rattle.wit_placed.specs.There.{AreBelow, IsInterfaceThere}
 use Rattle.wit_placed.specs.Order.{AreBehind}
+use Rattle.wit_placed.specs.Worlds.{world_places}
 use Rattle.wit_uses.specs.Uses.{TakesByUse, InterfacesTakeByUse}
 
 -- where interfaces of a package take types by use, and so do those of a graph, among which types of other packages are found, so do all of them
@@ -49,6 +50,17 @@ MovedWorldsTakeByUse =
     → (v w : ℕ) (world : World) (m : MovedWorld) → place_of owners.worlds v ≡ Some w → ((u : ℕ) → place_of owners.worlds u ≡ Some w → u ≡ v) → IsMovedWorld features s world m → IsKept (SidesBreak features s world)
     → TakesByUse (foreign ++ own) (belongs.World v) (Has (type_items world.imports.entries)) (IsOfItem world)
     → TakesByUse (graph ++ moved) (belongs.World w) (Has (moved_types m)) (IsOfMoved m)
+
+-- where worlds of a package do, each as the one that it is there, so does what stays of each, as the one whose place it takes in the graph
+abbrev pub PlacedWorldsTakeByUse : Type 0
+PlacedWorldsTakeByUse =
+    (features : FeatureSet) (owners : OwnerPlaces) (s : Standing) (owner : ℕ) (foreign own graph moved : List TypeDef) (others : Places) (own_interfaces new_interfaces interfaces : List Interface) (others_interfaces : Places)
+    → AreBehind features owners s owner foreign own graph moved others own_interfaces new_interfaces others_interfaces (length interfaces)
+    → others ≡ map (type_found interfaces others_interfaces) foreign → HoldTheirTypes 0 graph interfaces
+    → (others_worlds : Places) (base : ℕ) (own_worlds : List World) (ms : List MovedWorld) → AreBelow base others_worlds → owners.worlds ≡ world_places features others_worlds base own_worlds
+    → AreMovedWorlds features s own_worlds ms → IsKept (AnyOf (WorldBreaks features s) own_worlds)
+    → ((k : ℕ) (world : World) → slice_get own_worlds k ≡ Some world → TakesByUse (foreign ++ own) (belongs.World (length others_worlds + k)) (Has (type_items world.imports.entries)) (IsOfItem world))
+    → (k : ℕ) (m : MovedWorld) → slice_get ms k ≡ Some m → TakesByUse (graph ++ moved) (belongs.World (base + k)) (Has (moved_types m)) (IsOfMoved m)
 
 -- interfaces still do where more types come behind all that they are made of
 abbrev pub InterfacesStillTakeByUse : Type 0

@@ -2,10 +2,11 @@
 
 ghost use Rattle.wit_uses.specs.Included.{BroughtTakesByUse};
 ghost use Rattle.wit_uses.specs.Joined.{JoinedWorldsTakeByUse};
-ghost use Rattle.wit_uses.specs.Moved.{InterfacesStillTakeByUse, MovedInterfacesTakeByUse, MovedWorldsTakeByUse};
+ghost use Rattle.wit_uses.specs.Moved.{InterfacesStillTakeByUse, MovedInterfacesTakeByUse, MovedWorldsTakeByUse, PlacedWorldsTakeByUse};
 ghost use Rattle.wit_uses.specs.Uses.{TakenAreUsed};
 
 use wit_copied_trees::{law_included_sides_are_there, law_included_types_are_backward};
+use wit_placed::law_worlds_take_places_alone;
 
 /// All that an owner sees that its types are made of is its own, belongs nowhere, or is of an interface of which types that it lists use one,
 /// where it takes types of others by use alone (WIT, Use).
@@ -23,6 +24,13 @@ pub fn law_moved_interfaces_take_by_use()
 pub fn law_moved_worlds_take_by_use()
     ensures { MovedWorldsTakeByUse }
 {}
+
+/// So it is of all worlds of the package, each of which takes a place of its own.
+pub fn law_placed_worlds_take_by_use()
+    ensures { PlacedWorldsTakeByUse }
+{
+    law_worlds_take_places_alone();
+}
 
 /// Interfaces still do where more types come behind theirs.
 pub fn law_interfaces_still_take_by_use()

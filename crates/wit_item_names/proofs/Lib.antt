@@ -1,0 +1,14 @@
+mod Apart
+pub mod Named
+mod Sides
+mod Moved
+mod Included
+mod Added
+mod Pushed
+pub mod Texts
+pub mod Renaming
+mod Entries
+mod Plain
+mod PlainMoved
+mod Tables
+mod Whole

@@ -1,0 +1,30 @@
+-- Names that tell packages and their interfaces apart (WIT, Package Names; Component Model, Import and Export Definitions).
+use Rattle.std.specs.Prelude.{◌≡◌, ℕ, List, Some, String, slice_get, string_bytes}
+use Rattle.std.specs.declared.alloc.Global.{Global}
+use Rattle.wit_order.specs.Order.{Has}
+use Rattle.wit_types.specs.Package.{package_text}
+use Rattle.wit_types.specs.declared.interface.Interface.{Interface}
+use Rattle.wit_types.specs.declared.«package».Package.{Package}
+
+abbrev pub IsWithout : ℕ → List ℕ → Type 0
+IsWithout mark text = Has text mark → ⊥
+
+-- none of the marks that stand between names in the text of an interface: `:`, `/`, `@`
+pub record IsPlain (text : List ℕ) : Type 0 where
+  pub colon : IsWithout 58 text
+  pub slash : IsWithout 47 text
+  pub at : IsWithout 64 text
+
+-- no two packages have one text, and no two interfaces of a package one name; parts of names have no marks
+pub record AreNamedApart (packages : List Package) (interfaces : List Interface) : Type 0 where
+  pub packages_apart : (p q : ℕ) (a b : Package) → slice_get packages p ≡ Some a → slice_get packages q ≡ Some b → package_text a.name ≡ package_text b.name → p ≡ q
+  pub interfaces_apart : (i j p : ℕ) (d e : Interface) (x y : String Global) → slice_get interfaces i ≡ Some d → slice_get interfaces j ≡ Some e → d.«package» ≡ Some p → e.«package» ≡ Some p
+      → d.name ≡ Some x → e.name ≡ Some y → string_bytes x ≡ string_bytes y → i ≡ j
+  pub namespaces : (p : ℕ) (a : Package) → slice_get packages p ≡ Some a → IsPlain (string_bytes a.name.namespace)
+  pub names : (p : ℕ) (a : Package) → slice_get packages p ≡ Some a → IsPlain (string_bytes a.name.name)
+  pub interface_names : (i : ℕ) (d : Interface) (x : String Global) → slice_get interfaces i ≡ Some d → d.name ≡ Some x → IsPlain (string_bytes x)
+
+-- no two interfaces that a package holds have one name, and names have no marks
+pub record AreOwnNamedApart (interfaces : List Interface) : Type 0 where
+  pub apart : (i j : ℕ) (d e : Interface) (x y : String Global) → slice_get interfaces i ≡ Some d → slice_get interfaces j ≡ Some e → d.name ≡ Some x → e.name ≡ Some y → string_bytes x ≡ string_bytes y → i ≡ j
+  pub names : (i : ℕ) (d : Interface) (x : String Global) → slice_get interfaces i ≡ Some d → d.name ≡ Some x → IsPlain (string_bytes x)

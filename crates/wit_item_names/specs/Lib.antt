@@ -1,0 +1,9 @@
+pub mod Apart
+pub mod Used
+pub mod Plain
+pub mod Placed
+pub mod Added
+pub mod Pushed
+pub mod Items
+pub mod Tables
+pub mod Whole
