@@ -15,3 +15,7 @@ mod Numbers
 mod Few
 mod Names
 mod Belonging
+mod New
+mod Labels
+mod Parameters
+mod NamesWithin

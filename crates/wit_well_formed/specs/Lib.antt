@@ -1,3 +1,4 @@
 pub mod Law
 pub mod Listed
 pub mod Naming
+pub mod Within

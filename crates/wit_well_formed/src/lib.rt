@@ -4,6 +4,7 @@
 mod law;
 mod listed;
 mod naming;
+mod within;
 
 pub use law::{
     law_asked_items_are_there, law_interfaces_hold_their_types, law_keys_are_of_items,
@@ -13,3 +14,4 @@ pub use law::{
 };
 pub use listed::{law_own_types_are_owned, law_types_are_listed};
 pub use naming::law_names_are_apart;
+pub use within::law_names_within_are_apart;
