@@ -1,3 +1,4 @@
 pub mod Labels
 pub mod Moved
 pub mod Included
+pub mod Plain

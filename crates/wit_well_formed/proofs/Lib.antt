@@ -19,3 +19,4 @@ mod New
 mod Labels
 mod Parameters
 mod NamesWithin
+mod PlainNames

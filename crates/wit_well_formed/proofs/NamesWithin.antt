@@ -6,6 +6,7 @@ use Rattle.std.specs.declared.alloc.Global.{Global}
 use Rattle.wit_words.specs.declared.source_map.Span.{Span}
 use Rattle.wit_types.specs.declared.function.Function.{Function}
 use Rattle.wit_types.specs.declared.kind.TypeDefKind.{TypeDefKind}
+use Rattle.wit_types.specs.declared.kind.TypeDefKind.TheVariants as kinds
 use Rattle.wit_types.specs.declared.interface.Interface.{Interface}
 use Rattle.wit_types.specs.declared.interface.TypeDef.{TypeDef}
 use Rattle.wit_types.specs.declared.interface.TypeOwner.{TypeOwner}
@@ -28,7 +29,9 @@ use Rattle.wit_rules.specs.Labels.{names_within}
 use Rattle.wit_arena.specs.Tree.{Name, Place, in_world}
 use Rattle.wit_arena.specs.Table.{Entries}
 use Rattle.wit_arena.specs.Meaning.{Has}
-use Rattle.wit_arena.specs.Unfold.{IsWhole}
+use Rattle.wit_arena.specs.Shape.{ShapeTree}
+use Rattle.wit_arena.specs.Arena.{IsUnnamed}
+use Rattle.wit_arena.specs.Standing.{Stands}
 use Rattle.wit_arena.proofs.Lists.{has_none, has_map}
 use Rattle.wit_foreign.specs.Items.{interfaces_in, worlds_in}
 use Rattle.wit_interfaces.specs.Interfaces.{IsInterfaceIn}
@@ -50,7 +53,7 @@ use Rattle.wit_package.specs.Resolved.{IsResolved, owners_of, context_of}
 use Rattle.wit_package.specs.Steps.{Resolves}
 use Rattle.wit_package.proofs.Scoping.{world_there}
 use Rattle.wit_reach.proofs.Holding.{got}
-use Rattle.wit_well_formed.specs.Within.{NamesWithinAreApart}
+use Rattle.wit_well_formed.specs.Within.{NamesWithinAreApart, NamelessTypesAreForms}
 use Rattle.wit_well_formed.proofs.Nameless.{by_name}
 use Rattle.wit_well_formed.proofs.Lists.{got_mapped}
 use Rattle.wit_well_formed.proofs.Counted.{interface_item, world_item}
@@ -94,7 +97,7 @@ module _ (c : Context) (w : Name) (a : List TypeDef) (table : Entries) (k : Worl
   extern_type l (scope.ExternKind.interface ms) h = (let e : item.TypeItem i s ≡ item.Interface h.id h.stability l.name.span = h.item in cc)
   extern_type l (scope.item t) h = (let e : item.TypeItem i s ≡ item.Interface h.id h.stability l.name.span = h.item in cc)
 
-  entry_type : (x : WorldMemberTree) → IsEntryOf c w a table x (k, item.TypeItem i s) → ⊥
+  pub entry_type : (x : WorldMemberTree) → IsEntryOf c w a table x (k, item.TypeItem i s) → ⊥
   entry_type (scope.member m) h = (let e : item.TypeItem i s ≡ item.Function h.made = h.item in cc)
   entry_type (scope.listed l) h = extern_type l l.kind h
   entry_type (scope.included n) h = h
@@ -115,23 +118,24 @@ world_type c a w id d is i (k, s, (n, at)) =
 
 -- ---- types of a scope
 
-module _ (c : Context) (kept : IsKept (ScopesBreak c.scopes)) (a : List TypeDef) (whole : IsWhole c.owners by_name a) where
-  table_apart : (o : Place) (whose : TypeOwner) (sorted : List MemberTree) (table : Entries) → pairs.Each (IsTypeIn c o whose a) sorted table → (x : Name) (i : ℕ) → Has table (x, i) → (d : TypeDef) → slice_get a i ≡ Some d → HasLabelsApart d.kind
-  table_apart o whose sorted table are x i (k, at) d at_d =
+-- what holds of each type that stands for what its name means
+module _ (c : Context) (a : List TypeDef) (P : TypeDef → Type 0) (named : (o : Place) (x : Name) (i : ℕ) (d : TypeDef) → slice_get a i ≡ Some d → option_map string_bytes d.name ≡ Some x → Stands c.me c.scopes by_name c.owners a o x i → P d) where
+  table_each : (o : Place) (whose : TypeOwner) (sorted : List MemberTree) (table : Entries) → pairs.Each (IsTypeIn c o whose a) sorted table → (x : Name) (i : ℕ) → Has table (x, i) → (d : TypeDef) → slice_get a i ≡ Some d → P d
+  table_each o whose sorted table are x i (k, at) d at_d =
       let m = each_right (IsTypeIn c o whose a) sorted table are k (x, i) at in
       let is = m.2 in
       let same : is.def ≡ d = same_Some is.def d (sym is.there ∙ at_d) in
-      subst (λ (z : TypeDef). HasLabelsApart z.kind) same (standing_apart c.me c.scopes c.owners a o m.0.name.text i is.def kept whole is.there is.is.name (is.means by_name))
+      subst P same (named o m.0.name.text i is.def is.there is.is.name (is.means by_name))
 
-  interface_type : (t : InterfaceText) (id : ℕ) (f : Interface) → IsInterfaceIn c a t id f → (i : ℕ) → HasType f i → (d : TypeDef) → slice_get a i ≡ Some d → HasLabelsApart d.kind
+  interface_type : (t : InterfaceText) (id : ℕ) (f : Interface) → IsInterfaceIn c a t id f → (i : ℕ) → HasType f i → (d : TypeDef) → slice_get a i ≡ Some d → P d
   interface_type t id f is i (x, has) =
-      table_apart t.place (belongs.Interface id) is.scope.sorted is.table is.scope.types_are (string_bytes x) i
+      table_each t.place (belongs.Interface id) is.scope.sorted is.table is.scope.types_are (string_bytes x) i
       (subst (λ (es : Entries). Has es (string_bytes x, i)) is.is.types (has_map (λ (e : String Global × ℕ). (string_bytes e.0, e.1)) f.types.entries (x, i) has))
 
-  imported_type : (w : WorldScope) (id : ℕ) (v : World) → IsWorldIn c a w id v → (i : ℕ) → ImportsType v i → (d : TypeDef) → slice_get a i ≡ Some d → HasLabelsApart d.kind
+  imported_type : (w : WorldScope) (id : ℕ) (v : World) → IsWorldIn c a w id v → (i : ℕ) → ImportsType v i → (d : TypeDef) → slice_get a i ≡ Some d → P d
   imported_type w id v is i imports =
       let h = world_type c a w id v is i imports in
-      table_apart (in_world w.name.text) (belongs.World id) is.sorted is.table is.types_are h.0 i h.1
+      table_each (in_world w.name.text) (belongs.World id) is.sorted is.table is.types_are h.0 i h.1
 
 -- ---- functions of an interface
 
@@ -158,7 +162,7 @@ module _ (files : List FileTree) (p : UnresolvedPackage) (r : Resolves files p) 
   kept = scopes_keep files p r
 
   -- an interface of another package is empty, others are the package's own
-  of_interfaces : (P : Interface → Type 0) → ((d : Interface) → d.types.entries ≡ [] → d.functions.entries ≡ [] → P d)
+  pub of_interfaces : (P : Interface → Type 0) → ((d : Interface) → d.types.entries ≡ [] → d.functions.entries ≡ [] → P d)
       → ((k : ℕ) (t : InterfaceText) (d : Interface) → slice_get (interface_texts s.sorted) k ≡ Some t → IsInterfaceIn c p.types t (length s.foreign_interfaces + k) d → P d) → (n : ℕ) (d : Interface) → slice_get p.interfaces n ≡ Some d → P d
   of_interfaces P empty own n d at = elim (get_either s.foreign_interfaces s.own_interfaces n d (subst (λ (ds : List Interface). slice_get ds n ≡ Some d) s.interfaces_are at)) as (λ _. P d) [
     | inl other ↦
@@ -175,7 +179,7 @@ module _ (files : List FileTree) (p : UnresolvedPackage) (r : Resolves files p) 
   ]
 
   -- so are worlds
-  of_worlds : (P : World → Type 0) → ((d : World) → d.imports.entries ≡ [] → d.exports.entries ≡ [] → P d)
+  pub of_worlds : (P : World → Type 0) → ((d : World) → d.imports.entries ≡ [] → d.exports.entries ≡ [] → P d)
       → ((k : ℕ) (w : WorldScope) (d : World) → slice_get (worlds_of s.sorted) k ≡ Some w → IsWorldIn c p.types w (length s.foreign_worlds + k) d → P d) → (n : ℕ) (d : World) → slice_get p.worlds n ≡ Some d → P d
   of_worlds P empty own n d at = elim (get_either s.foreign_worlds s.own_worlds n d (subst (λ (ds : List World). slice_get ds n ≡ Some d) s.worlds_are at)) as (λ _. P d) [
     | inl other ↦
@@ -196,28 +200,40 @@ module _ (files : List FileTree) (p : UnresolvedPackage) (r : Resolves files p) 
 
   -- ---- types
 
-  listed_apart : (i : ℕ) (d : TypeDef) (o : TypeOwner) → slice_get p.types i ≡ Some d → IsListedAt p.interfaces p.worlds i d o → HasLabelsApart d.kind
-  listed_apart i d belongs.None at form = form_apart d.kind form.0 form.1.kind
-  listed_apart i d (belongs.Interface j) at (f, at_f, has) =
-      of_interfaces (λ (f : Interface). HasType f i → HasLabelsApart d.kind)
-      (λ f none _ h. absurd (has_none (h.0, i) (subst (λ (es : List (String Global × ℕ)). Has es (h.0, i)) none h.1)))
-      (λ k t f at_t is h. interface_type c kept p.types (s.whole by_name) t (length s.foreign_interfaces + k) f is i h d at) j f at_f has
-  listed_apart i d (belongs.World j) at (v, at_v, has) =
-      of_worlds (λ (v : World). ImportsType v i → HasLabelsApart d.kind)
-      (λ v none _ h. absurd (has_none (h.0, item.TypeItem i h.1) (subst (λ (es : List Entry). Has es (h.0, item.TypeItem i h.1)) none h.2)))
-      (λ k w v at_w is h. imported_type c kept p.types (s.whole by_name) w (length s.foreign_worlds + k) v is i h d at) j v at_v has
+  -- what holds of each type of which nothing is known but its name, of each form, and of each that stands for what its name means
+  module _ (P : TypeDef → Type 0) (unknown : (x : Name) (d : TypeDef) → option_map string_bytes d.name ≡ Some x → d.kind ≡ kinds.Unknown → P d) (form : (k : ShapeTree) (d : TypeDef) → IsUnnamed k d → P d)
+      (named : (o : Place) (x : Name) (i : ℕ) (d : TypeDef) → slice_get p.types i ≡ Some d → option_map string_bytes d.name ≡ Some x → Stands c.me c.scopes by_name c.owners p.types o x i → P d)
+    where
+      each_listed : (i : ℕ) (d : TypeDef) (o : TypeOwner) → slice_get p.types i ≡ Some d → IsListedAt p.interfaces p.worlds i d o → P d
+      each_listed i d belongs.None at is = form is.0 d is.1
+      each_listed i d (belongs.Interface j) at (f, at_f, has) =
+          of_interfaces (λ (f : Interface). HasType f i → P d) (λ f none _ h. absurd (has_none (h.0, i) (subst (λ (es : List (String Global × ℕ)). Has es (h.0, i)) none h.1)))
+          (λ k t f at_t is h. interface_type c p.types P named t (length s.foreign_interfaces + k) f is i h d at) j f at_f has
+      each_listed i d (belongs.World j) at (v, at_v, has) =
+          of_worlds (λ (v : World). ImportsType v i → P d) (λ v none _ h. absurd (has_none (h.0, item.TypeItem i h.1) (subst (λ (es : List Entry). Has es (h.0, item.TypeItem i h.1)) none h.2)))
+          (λ k w v at_w is h. imported_type c p.types P named w (length s.foreign_worlds + k) v is i h d at) j v at_v has
 
-  unknown_apart : (i : ℕ) (d : TypeDef) → slice_get s.unknown i ≡ Some d → HasLabelsApart d.kind
-  unknown_apart i d at =
-      let within : i < length s.unknown = slice_get_within s.unknown i d at in
-      let so_many = s.unknown_are.so_many_types in
-      let e = got s.names i (omega (arith, within, so_many)) in
-      let known = s.unknown_are.each i e.0 e.1 in
-      let one : known.def ≡ d = same_Some known.def d (sym known.type_at ∙ at) in
-      subst (λ (z : TypeDef). HasLabelsApart z.kind) one (subst HasLabelsApart (sym known.is.kind) refl)
+      each_unknown : (i : ℕ) (d : TypeDef) → slice_get s.unknown i ≡ Some d → P d
+      each_unknown i d at =
+          let within : i < length s.unknown = slice_get_within s.unknown i d at in
+          let so_many = s.unknown_are.so_many_types in
+          let e = got s.names i (omega (arith, within, so_many)) in
+          let known = s.unknown_are.each i e.0 e.1 in
+          let one : known.def ≡ d = same_Some known.def d (sym known.type_at ∙ at) in
+          subst P one (unknown known.name.text known.def known.is.name known.is.kind)
+
+      each_type : (i : ℕ) (d : TypeDef) → slice_get p.types i ≡ Some d → P d
+      each_type i d at = elim (s.listed i d at) as (λ _. P d) [ inl other ↦ each_unknown i d other | inr is ↦ each_listed i d d.owner at is ]
 
   type_apart : (i : ℕ) (d : TypeDef) → slice_get p.types i ≡ Some d → HasLabelsApart d.kind
-  type_apart i d at = elim (s.listed i d at) as (λ _. HasLabelsApart d.kind) [ inl unknown ↦ unknown_apart i d unknown | inr is ↦ listed_apart i d d.owner at is ]
+  type_apart =
+      each_type (λ (d : TypeDef). HasLabelsApart d.kind) (λ x d name none. subst HasLabelsApart (sym none) refl) (λ k d is. form_apart d.kind k is.kind)
+      (λ o x i d at name stands. standing_apart c.me c.scopes c.owners p.types o x i d kept (s.whole by_name) at name stands)
+
+  nameless_form : (i : ℕ) (d : TypeDef) → slice_get p.types i ≡ Some d → d.name ≡ None → (k : ShapeTree) × IsUnnamed k d
+  nameless_form =
+      each_type (λ (d : TypeDef). d.name ≡ None → (k : ShapeTree) × IsUnnamed k d) (λ x d name _ none. absurd (let e : None ≡ Some x = sym (ap (option_map string_bytes) none) ∙ name in cc)) (λ k d is none. (k, is))
+      (λ o x i d at name stands none. absurd (let e : None ≡ Some x = sym (ap (option_map string_bytes) none) ∙ name in cc))
 
   -- ---- functions
 
@@ -237,3 +253,6 @@ within_apart files p r = record {
   interfaces_apart = each_of IsInterfaceApart p.interfaces (each_interface files p r);
   worlds_apart = each_of IsWorldApart p.worlds (each_world files p r);
 }
+
+pub nameless_are_forms : NamelessTypesAreForms
+nameless_are_forms files p r i d at none = nameless_form files p r i d at none

@@ -2,3 +2,4 @@ pub mod Law
 pub mod Listed
 pub mod Naming
 pub mod Within
+pub mod Plain

@@ -4,6 +4,7 @@
 mod law;
 mod listed;
 mod naming;
+mod plain;
 mod within;
 
 pub use law::{
@@ -14,4 +15,5 @@ pub use law::{
 };
 pub use listed::{law_own_types_are_owned, law_types_are_listed};
 pub use naming::law_names_are_apart;
-pub use within::law_names_within_are_apart;
+pub use plain::law_worlds_are_under_their_names;
+pub use within::{law_nameless_types_are_forms, law_names_within_are_apart};
