@@ -3,3 +3,4 @@ pub mod Tokens
 pub mod Keeping
 pub mod Items
 pub mod Files
+pub mod Scopes
