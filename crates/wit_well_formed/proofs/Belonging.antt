@@ -50,7 +50,7 @@ module _ (files : List FileTree) (p : UnresolvedPackage) (r : Resolves files p) 
   looked_up rule at b = r.kept rule at (by_lookups s.me s.named b)
 
   -- all interfaces that are asked for are counted
-  counted : interfaces_in s.items ≤ (asked p).interfaces
+  pub counted : interfaces_in s.items ≤ (asked p).interfaces
   counted = interfaces_counted (files_need s.me files) s.items s.items_are (one_owner s.me (file_uses files) (package_scopes s.me files) looked_up) p.foreign_deps.entries p.foreign_dep_spans.items s.deps_are
 
   -- types of other packages belong to these

@@ -20,3 +20,4 @@ mod Labels
 mod Parameters
 mod NamesWithin
 mod PlainNames
+mod PlainTexts

@@ -86,7 +86,7 @@ same_text x n e = (let s : spelled (string_bytes x) ≡ spelled n = e in cc)
 -- ---- what stands on a side
 
 module _ (c : Context) (w : WorldScope) (a : List TypeDef) (table : Entries) where
-  abbrev IsEntry : WorldMemberTree → Entry → Type 0
+  abbrev pub IsEntry : WorldMemberTree → Entry → Type 0
   IsEntry = IsEntryOf c w.name.text a table
 
   -- a member is known by the plain name of its entry
@@ -95,7 +95,7 @@ module _ (c : Context) (w : WorldScope) (a : List TypeDef) (table : Entries) whe
   extern_named l (scope.ExternKind.interface ms) x b h = ap plain (sym (same_text x l.name.text h.key))
   extern_named l (scope.item t) x b h = absurd (let e : spelled (string_bytes x) ≡ placed_at h.id = h.key in cc)
 
-  entry_named : (m : WorldMemberTree) (x : String Global) (b : WorldItem) → IsEntry m (key.Name x, b) → key_text m ≡ plain (string_bytes x)
+  pub entry_named : (m : WorldMemberTree) (x : String Global) (b : WorldItem) → IsEntry m (key.Name x, b) → key_text m ≡ plain (string_bytes x)
   entry_named (scope.member m) x b h = ap plain (sym (same_text x (full_name m.kind m.name) h.key))
   entry_named (scope.listed l) x b h = extern_named l l.kind x b h
   entry_named (scope.included i) x b h = absurd h
@@ -136,15 +136,15 @@ module _ (c : Context) (w : WorldScope) (a : List TypeDef) (table : Entries) whe
 
 module _ (c : Context) (w : WorldScope) (is : List InterfaceScope) (ws : List WorldScope) (others : Foreign) (fit : IsWorldReady is ws others w) (a : List TypeDef) (id : ℕ) (d : World) (here : IsWorldIn c a w id d) where
   -- a type that is listed is that of a member
-  record IsListedType (n : ℕ) (x : String Global) (b : WorldItem) : Type 0 where
-    entry : Name × ℕ
-    listed : IsTypeEntry a entry (key.Name x, b)
-    member_is : MemberTree
-    there : slice_get here.sorted n ≡ Some member_is
-    type_is : IsTypeIn c (in_world w.name.text) (belongs.World id) a member_is entry
-    named : string_bytes x ≡ member_is.name.text
+  pub record IsListedType (n : ℕ) (x : String Global) (b : WorldItem) : Type 0 where
+    pub entry : Name × ℕ
+    pub listed : IsTypeEntry a entry (key.Name x, b)
+    pub member_is : MemberTree
+    pub there : slice_get here.sorted n ≡ Some member_is
+    pub type_is : IsTypeIn c (in_world w.name.text) (belongs.World id) a member_is entry
+    pub named : string_bytes x ≡ member_is.name.text
 
-  type_entry : (n : ℕ) (x : String Global) (b : WorldItem) → slice_get here.type_entries n ≡ Some (key.Name x, b) → IsListedType n x b
+  pub type_entry : (n : ℕ) (x : String Global) (b : WorldItem) → slice_get here.type_entries n ≡ Some (key.Name x, b) → IsListedType n x b
   type_entry n x b at =
       let t = each_right (IsTypeEntry a) here.table here.type_entries here.type_entries_are n (key.Name x, b) at in
       let m = each_right (IsTypeIn c (in_world w.name.text) (belongs.World id) a) here.sorted here.table here.types_are n t.0 t.1 in

@@ -3,3 +3,4 @@ pub mod Listed
 pub mod Naming
 pub mod Within
 pub mod Plain
+pub mod Marks

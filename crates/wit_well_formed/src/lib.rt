@@ -3,6 +3,7 @@
 
 mod law;
 mod listed;
+mod marks;
 mod naming;
 mod plain;
 mod within;
@@ -14,6 +15,7 @@ pub use law::{
     law_spans_are_counted, law_unknown_types_are_there,
 };
 pub use listed::{law_own_types_are_owned, law_types_are_listed};
+pub use marks::law_parsed_packages_have_plain_names;
 pub use naming::law_names_are_apart;
 pub use plain::law_worlds_are_under_their_names;
 pub use within::{law_nameless_types_are_forms, law_names_within_are_apart};

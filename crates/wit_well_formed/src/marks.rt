@@ -1,0 +1,9 @@
+//! A law of names in packages of texts.
+
+ghost use Rattle.wit_well_formed.specs.Marks.{ParsedPackagesHavePlainNames};
+
+/// Where texts are read to packages, the name of each, those of its own interfaces and the plain names of its worlds have no `:`, no `/` and
+/// no `@`.
+pub fn law_parsed_packages_have_plain_names()
+    ensures { ParsedPackagesHavePlainNames }
+{}
