@@ -14,9 +14,9 @@ use Rattle.wit_items.specs.ItemTree.{AttributeTree, GatedTree, TypeDefTree}
 use Rattle.wit_items.specs.ItemGrammar.{attribute, gated, use_behind, toplevel_use_behind, func_behind, type_def_at, defined, interface_items, interface_behind}
 use Rattle.wit_items.proofs.ItemLaws.{attribute_law, attributes_law, toplevel_use_behind_law}
 use Rattle.wit_syntax.specs.Ast as tree
-use Rattle.wit_syntax.specs.Ast.{PackageNameTree, ExternTree, WorldItemTree, AstItemTree, PackageTree, FileItemTree, OpeningTree, FirstTree, FileTree}
+use Rattle.wit_syntax.specs.Ast.{PackageNameTree, ExternTree, IncludeNameTree, IncludeTree, WorldItemTree, AstItemTree, PackageTree, FileItemTree, OpeningTree, FirstTree, FileTree}
 use Rattle.wit_syntax.specs.FileGrammar.{extern_func, extern_behind, extern_item, include_name, include_behind, world_item_at, world_item, world_behind, ast_item_at, ast_item, package_items, file_item_at, file_item, package_opening, opening, gated_first, without_gates, first, file_of, some_file, file}
-use Rattle.wit_plain_texts.specs.Trees.{IsPlainName, IsPlainPackage, IsPlainExtern, IsPlainWorldItem, IsPlainWorld, IsPlainItem, ArePlainItems, IsPlainNested, IsPlainFileItem, IsPlainFile, IsPlainType}
+use Rattle.wit_plain_texts.specs.Trees.{IsPlainName, IsPlainPackage, IsPlainExtern, ArePlainIncludes, IsPlainWorldItem, IsPlainWorld, IsPlainItem, ArePlainItems, IsPlainNested, IsPlainFileItem, IsPlainFile, IsPlainType}
 use Rattle.wit_plain_texts.specs.Law.{NamesOfTextsArePlain}
 use Rattle.wit_plain_texts.proofs.Tokens.{text_plain}
 use Rattle.wit_plain_texts.proofs.Keeping.{Any, Keeps, of_law, then_keeps, yield_keeps, sign_keeps, skip, branch_keeps, IfSaid, optional_keeps, any, documented_keeps, located_keeps, NextKeeps, by_keeps, next_then_keeps, until_keeps, commas_keeps, at_end_keeps, all_keeps, id_keeps}
@@ -40,17 +40,17 @@ extern_keeps : Keeps IsPlainExtern extern_item
 unfolding extern_item
 extern_keeps = then_keeps id _ id_keeps (λ n is. branch_keeps kind.Colon (extern_behind n) _ (extern_behind_keeps n is) (skip kind.Semicolon _ (yield_keeps (tree.ExternTree.path (tree.id n)) tt)))
 
-include_name_any : Keeps Any include_name
+include_name_keeps : Keeps (λ (n : IncludeNameTree). IsPlainName n.other) include_name
 unfolding include_name
-include_name_any = then_keeps id _ id_keeps (λ n _. skip kind.As _ (then_keeps id _ id_keeps (λ o _. yield_keeps _ tt)))
+include_name_keeps = then_keeps id _ id_keeps (λ n _. skip kind.As _ (then_keeps id _ id_keeps (λ o is. yield_keeps _ is)))
 
-include_any : Keeps Any include_behind
+include_keeps : Keeps (λ (i : IncludeTree). ArePlainIncludes i.names) include_behind
 unfolding include_behind
-include_any =
+include_keeps =
     then_keeps use_path _ path_any
     (λ p _. branch_keeps kind.With _ _
-    (skip kind.LeftBrace _ (then_keeps (commas include_name kind.RightBrace) _ (commas_keeps include_name kind.RightBrace include_name_any)
-    (λ ns _. then_keeps (optional kind.Semicolon (yield (tt {0}))) _ (optional_keeps {Q = Any} kind.Semicolon (yield (tt {0})) (yield_keeps (tt {0}) tt)) (λ o _. yield_keeps _ tt))))
+    (skip kind.LeftBrace _ (then_keeps (commas include_name kind.RightBrace) _ (commas_keeps include_name kind.RightBrace include_name_keeps)
+    (λ ns are. then_keeps (optional kind.Semicolon (yield (tt {0}))) _ (optional_keeps {Q = Any} kind.Semicolon (yield (tt {0})) (yield_keeps (tt {0}) tt)) (λ o _. yield_keeps _ are))))
     (skip kind.Semicolon _ (yield_keeps _ tt)))
 
 defined_next : (w : What) → NextKeeps IsPlainWorldItem (defined tree.WorldItemTree.type_def w)
@@ -60,7 +60,7 @@ world_item_next : (w : What) → NextKeeps IsPlainWorldItem (world_item_at w)
 world_item_next (plain kind.Import) = then_keeps extern_item _ extern_keeps (λ e is. yield_keeps (tree.import e) is)
 world_item_next (plain kind.Export) = then_keeps extern_item _ extern_keeps (λ e is. yield_keeps (tree.export e) is)
 world_item_next (plain kind.Use) = then_keeps use_behind _ use_behind_keeps (λ u are. yield_keeps (tree.WorldItemTree.uses u) are)
-world_item_next (plain kind.Include) = then_keeps include_behind _ include_any (λ i _. yield_keeps (tree.include i) tt)
+world_item_next (plain kind.Include) = then_keeps include_behind _ include_keeps (λ i are. yield_keeps (tree.include i) are)
 world_item_next w = defined_next w
 
 world_item_keeps : Keeps IsPlainWorldItem world_item

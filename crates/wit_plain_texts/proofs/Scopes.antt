@@ -101,7 +101,7 @@ item_members me us g (tree.import e) is = (listed_plain me us e is, tt)
 item_members me us g (tree.export e) is = (listed_plain me us e is, tt)
 item_members me us g (tree.WorldItemTree.uses u) is = as_members (uses_members me us g.attributes u) (uses_plain me us g.attributes u is)
 item_members me us g (tree.WorldItemTree.type_def d) is = as_members (type_members g d) (type_plain g d is)
-item_members me us g (tree.include i) is = (tt, tt)
+item_members me us g (tree.include i) is = (is, tt)
 
 -- ---- files
 

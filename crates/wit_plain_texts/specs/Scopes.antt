@@ -10,7 +10,7 @@ use Rattle.wit_rules.specs.Facts.{package_name}
 use Rattle.wit_rules.specs.Labels.{full_name}
 use Rattle.wit_nested.specs.Nested.{own_files, nested_files}
 use Rattle.wit_plain_texts.specs.Plain.{IsPlain}
-use Rattle.wit_plain_texts.specs.Trees.{IsPlainName, IsPlainPackage, IsPlainFile}
+use Rattle.wit_plain_texts.specs.Trees.{IsPlainName, IsPlainPackage, ArePlainIncludes, IsPlainFile}
 
 -- a member of a world, with the name of its resource if it is of one
 abbrev pub IsPlainMember : MemberTree → Type 0
@@ -25,7 +25,7 @@ IsPlainListed (scope.item t) n = Unit {0}
 abbrev pub IsPlainWorldMember : WorldMemberTree → Type 0
 IsPlainWorldMember (scope.member m) = IsPlainMember m
 IsPlainWorldMember (scope.listed l) = IsPlainListed l.kind l.name
-IsPlainWorldMember (scope.included i) = Unit {0}
+IsPlainWorldMember (scope.included i) = ArePlainIncludes i.names
 
 abbrev pub IsPlainScope : ItemScope → Type 0
 IsPlainScope (scope.ItemScope.interface i) = IsPlainName i.name

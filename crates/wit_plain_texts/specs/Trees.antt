@@ -5,7 +5,7 @@ use Rattle.wit_words.specs.Slice.{Slice}
 use Rattle.wit_items.specs.ItemTree as item
 use Rattle.wit_items.specs.ItemTree.{GatedTree, UseNameTree, UseTree, NamedFuncTree, ResourceFuncTree, TypeDefKindTree, TypeDefTree, InterfaceTree}
 use Rattle.wit_syntax.specs.Ast as tree
-use Rattle.wit_syntax.specs.Ast.{PackageNameTree, ExternTree, WorldItemTree, WorldTree, AstItemTree, PackageTree, FileItemTree, HeaderTree, FileTree}
+use Rattle.wit_syntax.specs.Ast.{PackageNameTree, ExternTree, IncludeNameTree, WorldItemTree, WorldTree, AstItemTree, PackageTree, FileItemTree, HeaderTree, FileTree}
 use Rattle.wit_scopes.specs.Members.{resource_funcs}
 use Rattle.wit_plain_texts.specs.Plain.{IsPlain}
 
@@ -41,12 +41,16 @@ IsPlainExtern (tree.ExternTree.func f) = IsPlainName f.name
 IsPlainExtern (tree.ExternTree.interface i) = IsPlainName i.name
 IsPlainExtern (tree.ExternTree.path p) = Unit {0}
 
+-- names to which an `include` changes others
+abbrev pub ArePlainIncludes : List IncludeNameTree → Type 0
+ArePlainIncludes ns = Each (λ (n : IncludeNameTree). IsPlainName n.other) ns
+
 abbrev pub IsPlainWorldItem : WorldItemTree → Type 0
 IsPlainWorldItem (tree.import e) = IsPlainExtern e
 IsPlainWorldItem (tree.export e) = IsPlainExtern e
 IsPlainWorldItem (tree.WorldItemTree.uses u) = Each IsPlainUse u.names
 IsPlainWorldItem (tree.WorldItemTree.type_def d) = IsPlainType d
-IsPlainWorldItem (tree.include i) = Unit {0}
+IsPlainWorldItem (tree.include i) = ArePlainIncludes i.names
 
 -- ---- files
 

@@ -179,7 +179,7 @@ module _ (files : List FileTree) (p : UnresolvedPackage) (r : Resolves files p) 
   ]
 
   -- so are worlds
-  pub of_worlds : (P : World → Type 0) → ((d : World) → d.imports.entries ≡ [] → d.exports.entries ≡ [] → P d)
+  pub of_worlds : (P : World → Type 0) → ((d : World) → d.imports.entries ≡ [] → d.exports.entries ≡ [] → d.includes.items ≡ [] → P d)
       → ((k : ℕ) (w : WorldScope) (d : World) → slice_get (worlds_of s.sorted) k ≡ Some w → IsWorldIn c p.types w (length s.foreign_worlds + k) d → P d) → (n : ℕ) (d : World) → slice_get p.worlds n ≡ Some d → P d
   of_worlds P empty own n d at = elim (get_either s.foreign_worlds s.own_worlds n d (subst (λ (ds : List World). slice_get ds n ≡ Some d) s.worlds_are at)) as (λ _. P d) [
     | inl other ↦
@@ -187,7 +187,7 @@ module _ (files : List FileTree) (p : UnresolvedPackage) (r : Resolves files p) 
         let so_many : length s.foreign_worlds ≡ worlds_in s.items = s.foreign_are.so_many_worlds in
         let one = world_item (files_need s.me files) s.items s.items_are n (omega (arith, within, so_many)) in
         let is = s.foreign_are.worlds one.0 n d one.1 other in
-        empty d is.imports is.exports
+        empty d is.imports is.exports is.includes
     | inr o ↦
         let within : o.0 < length s.own_worlds = slice_get_within s.own_worlds o.0 d o.2 in
         let size : length s.own_worlds ≡ length (worlds_of s.sorted) = s.own_worlds_are.so_many in
@@ -210,7 +210,7 @@ module _ (files : List FileTree) (p : UnresolvedPackage) (r : Resolves files p) 
           of_interfaces (λ (f : Interface). HasType f i → P d) (λ f none _ h. absurd (has_none (h.0, i) (subst (λ (es : List (String Global × ℕ)). Has es (h.0, i)) none h.1)))
           (λ k t f at_t is h. interface_type c p.types P named t (length s.foreign_interfaces + k) f is i h d at) j f at_f has
       each_listed i d (belongs.World j) at (v, at_v, has) =
-          of_worlds (λ (v : World). ImportsType v i → P d) (λ v none _ h. absurd (has_none (h.0, item.TypeItem i h.1) (subst (λ (es : List Entry). Has es (h.0, item.TypeItem i h.1)) none h.2)))
+          of_worlds (λ (v : World). ImportsType v i → P d) (λ v none _ _ h. absurd (has_none (h.0, item.TypeItem i h.1) (subst (λ (es : List Entry). Has es (h.0, item.TypeItem i h.1)) none h.2)))
           (λ k w v at_w is h. imported_type c p.types P named w (length s.foreign_worlds + k) v is i h d at) j v at_v has
 
       each_unknown : (i : ℕ) (d : TypeDef) → slice_get s.unknown i ≡ Some d → P d
@@ -244,7 +244,7 @@ module _ (files : List FileTree) (p : UnresolvedPackage) (r : Resolves files p) 
 
   each_world : (n : ℕ) (d : World) → slice_get p.worlds n ≡ Some d → IsWorldApart d
   each_world =
-      of_worlds IsWorldApart (λ d imports exports. record { imports = subst IsSideApart (sym imports) tt; exports = subst IsSideApart (sym exports) tt })
+      of_worlds IsWorldApart (λ d imports exports _. record { imports = subst IsSideApart (sym imports) tt; exports = subst IsSideApart (sym exports) tt })
       (λ k w d at is. world_apart c w (world_kept k w at) p.types (length s.foreign_worlds + k) d is)
 
 pub within_apart : NamesWithinAreApart

@@ -217,7 +217,7 @@ worlds_are_under_their_names files p r v has =
     let s = r.resolved in
     let at = placed p.worlds v has in
     of_worlds files p r (IsWorldUnderItsNames p.types)
-    (λ d imports exports. record {
+    (λ d imports exports _. record {
       imports = subst (AreUnderTheirNames p.types) (sym imports) (record { apart = tt; functions = λ x f h. absurd h; types_are = λ x i s h. absurd h });
       exports = subst (AreUnderTheirNames p.types) (sym exports) (record { apart = tt; functions = λ x f h. absurd h; types_are = λ x i s h. absurd h });
     })

@@ -1,6 +1,6 @@
 -- Names of packages of texts have none of the marks that stand between names.
 use Rattle.std.proofs.Common.{◌≡◌, ℕ, ◌+◌, ◌<◌, ◌≤◌, List, [], ◌∷◌, ◌++◌, inl, inr, length, drop, take, Option, Some, None, String, map, refl, sym, subst, ap, ◌∙◌, arith}
-use Rattle.std.proofs.lemmas.Option.{same_Some, slice_get_within}
+use Rattle.std.proofs.lemmas.Option.{same_Some, slice_get-map, slice_get_within}
 use Rattle.std.specs.Prelude.{slice_get, flat_map, option_map, string_bytes}
 use Rattle.std.specs.List.{AllByRecursion as Every}
 use Rattle.std.specs.declared.alloc.Global.{Global}
@@ -10,16 +10,18 @@ use Rattle.wit_order.specs.Order as order
 use Rattle.wit_types.specs.declared.interface.Interface.{Interface}
 use Rattle.wit_types.specs.declared.interface.TypeDef.{TypeDef}
 use Rattle.wit_types.specs.declared.world.World.{World}
+use Rattle.wit_types.specs.declared.world.IncludeName.{IncludeName}
+use Rattle.wit_types.specs.declared.world.WorldInclude.{WorldInclude}
 use Rattle.wit_types.specs.declared.world.WorldItem.{WorldItem}
 use Rattle.wit_types.specs.declared.world_key.WorldKey.{WorldKey}
 use Rattle.wit_types.specs.declared.world_key.WorldKey.TheVariants as key
 use Rattle.wit_types.specs.declared.«package».UnresolvedPackage.{UnresolvedPackage}
-use Rattle.wit_syntax.specs.Ast.{FileTree}
+use Rattle.wit_syntax.specs.Ast.{IncludeNameTree, FileTree}
 use Rattle.wit_scopes.specs.declared.worlds.Side.{Side}
 use Rattle.wit_scopes.specs.declared.worlds.Side.TheVariants.{Import, Export}
 use Rattle.wit_scopes.specs.Members.{MemberTree}
 use Rattle.wit_scopes.specs.Scopes as scope
-use Rattle.wit_scopes.specs.Scopes.{ExternKind, ListedTree, WorldMemberTree, InterfaceScope, WorldScope, ItemScope, package_scopes}
+use Rattle.wit_scopes.specs.Scopes.{ExternKind, ListedTree, IncludedTree, WorldMemberTree, InterfaceScope, WorldScope, ItemScope, package_scopes}
 use Rattle.wit_rules.specs.Labels.{full_name}
 use Rattle.wit_orders.specs.Needs.{member_type, types_of}
 use Rattle.wit_arena.specs.Tree.{Name}
@@ -33,13 +35,13 @@ use Rattle.wit_resolved_scopes.specs.Each.{Each}
 use Rattle.wit_resolved_scopes.specs.Fit.{Foreign, IsWorldReady}
 use Rattle.wit_resolved_scopes.specs.InArena.{Context}
 use Rattle.wit_resolved_scopes.specs.Texts as text
-use Rattle.wit_resolved_scopes.specs.Texts.{InterfaceText, interface_text, labelled_texts, interfaces_of, worlds_of, interface_texts, KeyText, plain, path, listed_member, own_member, own_members, side_member, side_members, key_text}
+use Rattle.wit_resolved_scopes.specs.Texts.{InterfaceText, interface_text, labelled_texts, interfaces_of, worlds_of, interface_texts, KeyText, plain, path, listed_member, own_member, own_members, side_member, side_members, included_in, includes_of, key_text}
 use Rattle.wit_resolved_scopes.proofs.Eaches.{each_right}
 use Rattle.wit_resolved_scopes.proofs.Orders.{placed, sorted_has}
 use Rattle.wit_readiness.proofs.Flat.{in_flat, has_one}
 use Rattle.wit_readiness.proofs.Labelled.{labelled_given}
 use Rattle.wit_readiness.proofs.Named.{type_label, type_given}
-use Rattle.wit_worlds.specs.Worlds.{Entry, IsEntryOf, IsWorldIn}
+use Rattle.wit_worlds.specs.Worlds.{Entry, written_name, include_name, IsIncludeOf, IsEntryOf, IsWorldIn}
 use Rattle.wit_plain_texts.specs.Plain.{IsPlain}
 use Rattle.wit_plain_texts.specs.Trees.{IsPlainName, IsPlainFile}
 use Rattle.wit_plain_texts.specs.Law.{NamesOfTextsArePlain}
@@ -55,7 +57,7 @@ use Rattle.wit_package.proofs.Scoping.{interface_there, world_there}
 use Rattle.wit_reach.proofs.Holding.{got}
 use Rattle.wit_well_formed.specs.Marks.{HasPlainSide, HasPlainSides, HasPlainNames, ParsedPackagesHavePlainNames}
 use Rattle.wit_well_formed.proofs.Belonging.{counted}
-use Rattle.wit_well_formed.proofs.Lists.{get_drop}
+use Rattle.wit_well_formed.proofs.Lists.{get_drop, got_mapped}
 use Rattle.wit_well_formed.proofs.NamesWithin.{of_worlds}
 use Rattle.wit_well_formed.proofs.Parameters.{side_given}
 use Rattle.wit_well_formed.proofs.PlainNames.{entry_named, type_entry}
@@ -84,6 +86,11 @@ own_plain (scope.member n) is m h = subst IsPlainMember (sym (has_one n m h)) is
 own_plain (scope.listed l) is m h = listed_own l l.kind is m h
 own_plain (scope.included i) is m h = absurd (has_none m h)
 
+included_is : (x : WorldMemberTree) (i : IncludedTree) → Has (included_in x) i → x ≡ scope.included i
+included_is (scope.member m) i h = absurd (has_none i h)
+included_is (scope.listed l) i h = absurd (has_none i h)
+included_is (scope.included j) i h = ap (λ (z : IncludedTree). scope.included z) (sym (has_one j i h))
+
 -- ---- a world
 
 module _ (c : Context) (w : WorldScope) (plain_members : Every IsPlainWorldMember w.members) where
@@ -111,10 +118,23 @@ module _ (c : Context) (w : WorldScope) (plain_members : Every IsPlainWorldMembe
       | inr o ↦ side_plain a here.table Import here.other_imports here.lists_are.imports_are x b (o.0, o.2)
     ]
 
+    included_plain : (i : WorldInclude) (n : IncludeName) → order.Has d.includes.items i → order.Has i.names.items n → IsPlain (string_bytes n.as_)
+    included_plain i n has_i has_n =
+        let p = placed d.includes.items i has_i in
+        let q = placed i.names.items n has_n in
+        let t = each_right (IsIncludeOf c) (includes_of w.members) d.includes.items here.lists_are.includes_are p.0 i p.1 in
+        let x = in_flat included_in w.members t.0 (p.0, t.1) in
+        let is : IsPlainWorldMember (scope.included t.0) = subst IsPlainWorldMember (included_is x.0 t.0 x.2) (each_at IsPlainWorldMember w.members plain_members x.1.0 x.0 x.1.1) in
+        let names : slice_get (map written_name t.0.names) q.0 ≡ Some (include_name n) =
+        subst (λ (ns : List (Name × Name)). slice_get ns q.0 ≡ Some (include_name n)) t.2.names (slice_get-map include_name i.names.items q.0 ∙ ap (option_map include_name) q.1) in
+        let y = got_mapped written_name t.0.names q.0 (include_name n) names in
+        subst IsPlain (ap (λ (z : Name × Name). z.1) y.2) (each_at (λ (m : IncludeNameTree). IsPlainName m.other) t.0.names is q.0 y.0 y.1)
+
     sides_plain : HasPlainSides d
     sides_plain = record {
       imports = subst HasPlainSide (sym here.imports_are) (λ x b has. imported_plain x b (placed (here.type_entries ++ here.other_imports) (key.Name x, b) has));
       exports = λ x b has. side_plain a here.table Export d.exports.entries here.lists_are.exports_are x b (placed d.exports.entries (key.Name x, b) has);
+      includes = included_plain;
     }
 
 -- ---- all of a package
@@ -165,7 +185,7 @@ module _ (files : List FileTree) (plain_files : Every IsPlainFile files) (p : Un
   world_plain v has =
       let at = placed p.worlds v has in
       of_worlds files p r HasPlainSides
-      (λ d imports exports. record { imports = subst HasPlainSide (sym imports) (λ x b h. absurd h); exports = subst HasPlainSide (sym exports) (λ x b h. absurd h) })
+      (λ d imports exports includes. record { imports = subst HasPlainSide (sym imports) (λ x b h. absurd h); exports = subst HasPlainSide (sym exports) (λ x b h. absurd h); includes = λ i n h. absurd (subst (λ (is : List WorldInclude). order.Has is i) includes h) })
       (λ k w d at_w is.
       sides_plain (context_of s.me files s.items s.sorted) w (scope_plain (scope.world w) (world_there scopes s.sorted s.are_sorted w (k, at_w))) _ _ _ ((ready files p r).worlds.each k w at_w) p.types (length s.foreign_worlds + k) d is)
       at.0 v at.1

@@ -5,6 +5,8 @@ use Rattle.wit_words.specs.Sources.{SourceText}
 use Rattle.wit_order.specs.Order.{Has}
 use Rattle.wit_types.specs.declared.interface.Interface.{Interface}
 use Rattle.wit_types.specs.declared.world.World.{World}
+use Rattle.wit_types.specs.declared.world.IncludeName.{IncludeName}
+use Rattle.wit_types.specs.declared.world.WorldInclude.{WorldInclude}
 use Rattle.wit_types.specs.declared.world.WorldItem.{WorldItem}
 use Rattle.wit_types.specs.declared.world_key.WorldKey.{WorldKey}
 use Rattle.wit_types.specs.declared.world_key.WorldKey.TheVariants as key
@@ -17,9 +19,11 @@ use Rattle.wit_plain_texts.specs.Plain.{IsPlain}
 abbrev pub HasPlainSide : List (WorldKey × WorldItem) → Type 0
 HasPlainSide es = (x : String Global) (b : WorldItem) → Has es (key.Name x, b) → IsPlain (string_bytes x)
 
+-- both sides, and names to which those of worlds that it includes are changed
 pub record HasPlainSides (w : World) : Type 0 where
   pub imports : HasPlainSide w.imports.entries
   pub exports : HasPlainSide w.exports.entries
+  pub includes : (i : WorldInclude) (n : IncludeName) → Has w.includes.items i → Has i.names.items n → IsPlain (string_bytes n.as_)
 
 -- the package's name, those of its own interfaces, and plain names of its worlds
 pub record HasPlainNames (p : UnresolvedPackage) : Type 0 where
