@@ -27,7 +27,7 @@ each_join : {X : Type 0} (P : X → Type 0) (xs ys : List X) → Each P xs → E
 each_join P [] ys hs is = is
 each_join P (x ∷ xs) ys hs is = (hs.0, each_join P xs ys hs.1 is)
 
-each_map : {X Y : Type 0} (P : X → Type 0) (Q : Y → Type 0) (f : X → Y) → ((x : X) → P x → Q (f x)) → (xs : List X) → Each P xs → Each Q (map f xs)
+pub each_map : {X Y : Type 0} (P : X → Type 0) (Q : Y → Type 0) (f : X → Y) → ((x : X) → P x → Q (f x)) → (xs : List X) → Each P xs → Each Q (map f xs)
 each_map P Q f one [] hs = tt
 each_map P Q f one (x ∷ xs) hs = (one x hs.0, each_map P Q f one xs hs.1)
 

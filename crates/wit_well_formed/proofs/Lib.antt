@@ -21,3 +21,4 @@ mod Parameters
 mod NamesWithin
 mod PlainNames
 mod PlainTexts
+mod OffsetNames

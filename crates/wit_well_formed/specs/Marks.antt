@@ -1,5 +1,5 @@
 -- Names of packages of texts have none of the marks that stand between names (WIT, Package Names, Identifiers).
-use Rattle.std.specs.Prelude.{◌≡◌, List, ◌∷◌, Some, String, string_bytes}
+use Rattle.std.specs.Prelude.{◌≡◌, ℕ, List, ◌∷◌, Some, String, string_bytes}
 use Rattle.std.specs.declared.alloc.Global.{Global}
 use Rattle.wit_words.specs.Sources.{SourceText}
 use Rattle.wit_order.specs.Order.{Has}
@@ -13,6 +13,7 @@ use Rattle.wit_types.specs.declared.world_key.WorldKey.TheVariants as key
 use Rattle.wit_types.specs.declared.«package».UnresolvedPackage.{UnresolvedPackage}
 use Rattle.wit_graph_parts.specs.Own.{own_parts}
 use Rattle.wit_package.specs.Group.{AreParsed}
+use Rattle.wit_offsets.specs.Offsets.{package_at}
 use Rattle.wit_plain_texts.specs.Plain.{IsPlain}
 
 -- plain names of one side of a world
@@ -35,3 +36,7 @@ pub record HasPlainNames (p : UnresolvedPackage) : Type 0 where
 -- each package of texts, the one of the texts and those that are nested in them
 abbrev pub ParsedPackagesHavePlainNames : Type 0
 ParsedPackagesHavePlainNames = (texts : List SourceText) (main : UnresolvedPackage) (nested : List UnresolvedPackage) → AreParsed texts main nested → (p : UnresolvedPackage) → Has (main ∷ nested) p → HasPlainNames p
+
+-- wherever its places are
+abbrev pub MovedPackagesHavePlainNames : Type 0
+MovedPackagesHavePlainNames = (p : UnresolvedPackage) (n : ℕ) → HasPlainNames p → HasPlainNames (package_at n p)

@@ -1,11 +1,17 @@
 -- What has a plain name in a world of a resolved package stands under it, once on each side (WIT, Item: `world`).
-use Rattle.std.specs.Prelude.{List}
+use Rattle.std.specs.Prelude.{ℕ, List}
 use Rattle.wit_order.specs.Order.{Has}
 use Rattle.wit_types.specs.declared.world.World.{World}
 use Rattle.wit_types.specs.declared.«package».UnresolvedPackage.{UnresolvedPackage}
 use Rattle.wit_syntax.specs.Ast.{FileTree}
 use Rattle.wit_labels.specs.Plain.{IsWorldUnderItsNames}
 use Rattle.wit_package.specs.Steps.{Resolves}
+use Rattle.wit_offsets.specs.Offsets.{package_at}
 
 abbrev pub WorldsAreUnderTheirNames : Type 0
 WorldsAreUnderTheirNames = (files : List FileTree) (p : UnresolvedPackage) → Resolves files p → (w : World) → Has p.worlds w → IsWorldUnderItsNames p.types w
+
+-- wherever its places are
+abbrev pub MovedWorldsAreUnderTheirNames : Type 0
+MovedWorldsAreUnderTheirNames =
+    (p : UnresolvedPackage) (n : ℕ) → ((w : World) → Has p.worlds w → IsWorldUnderItsNames p.types w) → (w : World) → Has (package_at n p).worlds w → IsWorldUnderItsNames (package_at n p).types w

@@ -15,7 +15,9 @@ pub use law::{
     law_spans_are_counted, law_unknown_types_are_there,
 };
 pub use listed::{law_own_types_are_owned, law_types_are_listed};
-pub use marks::law_parsed_packages_have_plain_names;
+pub use marks::{law_moved_packages_have_plain_names, law_parsed_packages_have_plain_names};
 pub use naming::law_names_are_apart;
-pub use plain::law_worlds_are_under_their_names;
-pub use within::{law_nameless_types_are_forms, law_names_within_are_apart};
+pub use plain::{law_moved_worlds_are_under_their_names, law_worlds_are_under_their_names};
+pub use within::{
+    law_moved_packages_have_names_apart, law_nameless_types_are_forms, law_names_within_are_apart,
+};

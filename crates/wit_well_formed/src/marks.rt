@@ -1,9 +1,14 @@
-//! A law of names in packages of texts.
+//! Laws of names in packages of texts.
 
-ghost use Rattle.wit_well_formed.specs.Marks.{ParsedPackagesHavePlainNames};
+ghost use Rattle.wit_well_formed.specs.Marks.{MovedPackagesHavePlainNames, ParsedPackagesHavePlainNames};
 
 /// Where texts are read to packages, the name of each, those of its own interfaces and the plain names of its worlds have no `:`, no `/` and
 /// no `@`.
 pub fn law_parsed_packages_have_plain_names()
     ensures { ParsedPackagesHavePlainNames }
+{}
+
+/// So it is still where each place of a package goes so many bytes further on.
+pub fn law_moved_packages_have_plain_names()
+    ensures { MovedPackagesHavePlainNames }
 {}
