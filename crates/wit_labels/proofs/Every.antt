@@ -3,12 +3,9 @@ use Rattle.std.proofs.Common.{◌≡◌, ℕ, zero, suc, List, [], ◌∷◌, �
 use Rattle.std.proofs.lemmas.Option.{same_Some}
 use Rattle.std.specs.Prelude.{slice_get}
 use Rattle.std.specs.List.{AllByRecursion as Each}
+pub use Rattle.wit_plain_texts.proofs.Scopes.{each_join}
 
 module _ {X : Type 0} (P : X → Type 0) where
-  pub each_join : (xs ys : List X) → Each P xs → Each P ys → Each P (xs ++ ys)
-  each_join [] ys hs is = is
-  each_join (x ∷ xs) ys hs is = (hs.0, each_join xs ys hs.1 is)
-
   pub each_front : (xs ys : List X) → Each P (xs ++ ys) → Each P xs
   each_front [] ys hs = tt
   each_front (x ∷ xs) ys hs = (hs.0, each_front xs ys hs.1)

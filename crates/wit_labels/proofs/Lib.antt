@@ -1,3 +1,5 @@
 pub mod Every
 pub mod Moving
 pub mod Including
+pub mod Renaming
+pub mod Naming

@@ -2,3 +2,4 @@ pub mod Labels
 pub mod Moved
 pub mod Included
 pub mod Plain
+pub mod Named

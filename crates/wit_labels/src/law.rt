@@ -1,6 +1,7 @@
 //! Laws of names within types and functions.
 
 ghost use Rattle.wit_labels.specs.Included.{BroughtIsApart, JoinedWorldsAreApart};
+ghost use Rattle.wit_labels.specs.Named.{BroughtSidesArePlain, JoinedSidesAreNamed, MovedSidesAreNamed, SidesAreNamed};
 ghost use Rattle.wit_labels.specs.Moved.{ElaboratedWorldsAreApart, MovedInterfacesAreApart, MovedTypesHaveLabelsApart, MovedWorldsAreApart};
 
 /// What stays of types whose labels differ has labels that differ (WIT, Types, Feature Gates).
@@ -31,4 +32,25 @@ pub fn law_brought_is_apart()
 /// So has a world of a package with all that it includes, where it does and those that it includes do.
 pub fn law_joined_worlds_are_apart()
     ensures { JoinedWorldsAreApart }
+{}
+
+/// Where functions and types of a side of a world stand once under their names, and these have no marks, the side is named.
+pub fn law_sides_are_named()
+    ensures { SidesAreNamed }
+{}
+
+/// What stays of a side that is named still is (WIT, Feature Gates).
+pub fn law_moved_sides_are_named()
+    ensures { MovedSidesAreNamed }
+{}
+
+/// What a world brings to one that includes it has plain names without marks, which functions have, where its own are so and those to which
+/// they are changed (WIT, Item: `include`).
+pub fn law_brought_sides_are_plain()
+    ensures { BroughtSidesArePlain }
+{}
+
+/// Both sides of a world of a package with all that it includes are named, where its own and those that it includes are plain.
+pub fn law_joined_sides_are_named()
+    ensures { JoinedSidesAreNamed }
 {}

@@ -23,7 +23,7 @@ use Rattle.wit_plain_texts.specs.Scopes.{IsPlainMember, IsPlainListed, IsPlainWo
 
 -- ---- lists
 
-each_join : {X : Type 0} (P : X → Type 0) (xs ys : List X) → Each P xs → Each P ys → Each P (xs ++ ys)
+pub each_join : {X : Type 0} (P : X → Type 0) (xs ys : List X) → Each P xs → Each P ys → Each P (xs ++ ys)
 each_join P [] ys hs is = is
 each_join P (x ∷ xs) ys hs is = (hs.0, each_join P xs ys hs.1 is)
 
@@ -37,12 +37,12 @@ each_flat P Q f one (x ∷ xs) hs = each_join Q (f x) (flat_map f xs) (one x hs.
 
 -- ---- texts that are put together
 
-has_parts : (mark : ℕ) (a b : List ℕ) → IsWithout mark a → IsWithout mark b → IsWithout mark (a ++ b)
+pub has_parts : (mark : ℕ) (a b : List ℕ) → IsWithout mark a → IsWithout mark b → IsWithout mark (a ++ b)
 has_parts mark [] b none other h = other h
 has_parts mark (c ∷ a) b none other (inl here) = none (inl here)
 has_parts mark (c ∷ a) b none other (inr more) = has_parts mark a b (λ h. none (inr h)) other more
 
-joined_plain : (a b : List ℕ) → IsPlain a → IsPlain b → IsPlain (a ++ b)
+pub joined_plain : (a b : List ℕ) → IsPlain a → IsPlain b → IsPlain (a ++ b)
 joined_plain a b x y = record { colon = has_parts 58 a b x.colon y.colon; slash = has_parts 47 a b x.slash y.slash; at = has_parts 64 a b x.at y.at }
 
 -- a text that is written out
@@ -58,16 +58,16 @@ written_without mark [] h has = has
 written_without mark (c ∷ text) h (inl here) = none_first mark c (list_any (nat_eq mark) text) h here
 written_without mark (c ∷ text) h (inr more) = written_without mark text (none_later (nat_eq mark c) (list_any (nat_eq mark) text) h) more
 
-method_mark : IsPlain (codes "[method]")
+pub method_mark : IsPlain (codes "[method]")
 method_mark = record { colon = written_without 58 (codes "[method]") refl; slash = written_without 47 (codes "[method]") refl; at = written_without 64 (codes "[method]") refl }
 
-static_mark : IsPlain (codes "[static]")
+pub static_mark : IsPlain (codes "[static]")
 static_mark = record { colon = written_without 58 (codes "[static]") refl; slash = written_without 47 (codes "[static]") refl; at = written_without 64 (codes "[static]") refl }
 
-constructor_mark : IsPlain (codes "[constructor]")
+pub constructor_mark : IsPlain (codes "[constructor]")
 constructor_mark = record { colon = written_without 58 (codes "[constructor]") refl; slash = written_without 47 (codes "[constructor]") refl; at = written_without 64 (codes "[constructor]") refl }
 
-dot : IsPlain (codes ".")
+pub dot : IsPlain (codes ".")
 dot = record { colon = written_without 58 (codes ".") refl; slash = written_without 47 (codes ".") refl; at = written_without 64 (codes ".") refl }
 
 behind_dot : (mark : List ℕ) (r n : Slice) → IsPlain mark → IsPlainName r → IsPlainName n → IsPlain (mark ++ (r.text ++ (codes "." ++ n.text)))
