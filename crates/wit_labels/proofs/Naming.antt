@@ -1,7 +1,7 @@
 -- Plain names of what stays of a side, of what is brought, and of sides that are joined.
 use Rattle.std.proofs.Common.{◌≡◌, ℕ, Bool, true, false, List, [], ◌∷◌, ◌++◌, ◌⊎◌, inl, inr, Option, Some, None, is_some, String, map, refl, sym, subst, ap, ◌∙◌}
 use Rattle.std.proofs.lemmas.Slice.Eq.{bytes_eq-Decides}
-use Rattle.std.specs.Prelude.{slice_get, string_bytes, bytes_eq, if◌then◌else◌}
+use Rattle.std.specs.Prelude.{slice_get, flat_map, string_bytes, bytes_eq, if◌then◌else◌}
 use Rattle.std.specs.List.{AllByRecursion as Each}
 use Rattle.std.specs.Map.{lookup}
 use Rattle.std.specs.declared.alloc.Global.{Global}
@@ -16,7 +16,8 @@ use Rattle.wit_types.specs.declared.world.WorldItem.TheVariants as item
 use Rattle.wit_types.specs.declared.world_key.WorldKey.{WorldKey}
 use Rattle.wit_types.specs.declared.world_key.WorldKey.TheVariants as key
 use Rattle.wit_types.specs.WorldKey.{key_eq}
-use Rattle.wit_moves.specs.Moved.{to}
+use Rattle.wit_features.specs.Features.{FeatureSet, stays}
+use Rattle.wit_moves.specs.Moved.{Places, to}
 use Rattle.wit_moves.specs.Interfaces as kept
 use Rattle.wit_moves.specs.Interfaces.{AreKept}
 use Rattle.wit_moves.specs.Worlds as worlds
@@ -29,10 +30,12 @@ use Rattle.wit_sides.specs.Renames.{IsRenamed, IsRenamedKey, IsRenamedItem, AreR
 use Rattle.wit_sides.specs.Sides as side
 use Rattle.wit_sides.specs.Sides.{AreUnited}
 use Rattle.wit_includes.specs.Included.{copies_behind, AreIncludedEntries}
+use Rattle.wit_plans.specs.Moves.{moved_include}
+use Rattle.wit_elaborated.specs.Elaborated.{imported, plain_entries}
 use Rattle.wit_joined.specs.Joined.{State, Includes, includes_none, includes_one}
 use Rattle.wit_plain_texts.specs.Plain.{IsPlain}
 use Rattle.wit_labels.specs.Plain.{ArePlainApart}
-use Rattle.wit_labels.specs.Named.{IsNamedItem, IsPlainEntry, IsSidePlain, IsSideNamed, AreSidesPlain, ArePlainChanges, AreSidesNamed, SidesAreNamed, MovedSidesAreNamed, BroughtSidesArePlain, JoinedSidesAreNamed}
+use Rattle.wit_labels.specs.Named.{IsNamedItem, IsPlainEntry, IsSidePlain, IsSideNamed, AreSidesPlain, ArePlainChanges, AreChangesPlain, AreSidesNamed, SidesAreNamed, MovedSidesAreNamed, MovedWorldsAreNamed, ElaboratedSidesAreNamed, BroughtSidesArePlain, JoinedSidesAreNamed}
 use Rattle.wit_labels.proofs.Every.{each_join, each_front, each_behind, each_at}
 use Rattle.wit_labels.proofs.Renaming.{renamed_one, renamed_plain}
 
@@ -108,6 +111,57 @@ moved_sides features places interfaces old new (stay, items, is) h = subst IsSid
   apart = keys_apart (to interfaces) stay (kept_apart _ (to places) (to interfaces) old stay items h.apart);
   plain = keys_plain (to interfaces) stay (kept_plain _ (to places) (to interfaces) old stay items h.plain);
 })
+
+-- ---- worlds that include others
+
+include_stays : (places : Places) (b : Bool) (n : WorldInclude) → ArePlainChanges n.names.items → AreChangesPlain (if b then record n { id = to places n.id } ∷ [] else [])
+include_stays places true n h = (h, tt)
+include_stays places false n h = tt
+
+changes_stay : (features : FeatureSet) (places : Places) (ns : List WorldInclude) → AreChangesPlain ns → AreChangesPlain (flat_map (moved_include features places) ns)
+changes_stay features places [] h = tt
+changes_stay features places (n ∷ ns) h =
+    each_join (λ (i : WorldInclude). ArePlainChanges i.names.items) (moved_include features places n) (flat_map (moved_include features places) ns) (include_stays places (stays features n.stability) n h.0) (changes_stay features places ns h.1)
+
+pub moved_named : MovedWorldsAreNamed
+moved_named features s old new is h = record {
+  imports_named = moved_sides features s.types s.interfaces old.imports.entries new.imports.items is.imports h.imports_named;
+  exports_named = moved_sides features s.types s.interfaces old.exports.entries new.exports.items is.exports h.exports_named;
+  changes = subst AreChangesPlain (sym is.includes) (changes_stay features s.worlds old.includes.items h.changes);
+}
+
+-- ---- all that a world imports in the end
+
+plain_was : (es : List Entry) (e : Entry) → Has (plain_entries es) e → Has es e
+plain_was [] e h = absurd h
+plain_was ((key.Name x, b) ∷ es) e (inl here) = inl here
+plain_was ((key.Name x, b) ∷ es) e (inr later) = inr (plain_was es e later)
+plain_was ((key.Interface i, b) ∷ es) e h = inr (plain_was es e h)
+
+entries_apart : (es : List Entry) → ArePlainApart es → ArePlainApart (plain_entries es)
+entries_apart [] h = tt
+entries_apart ((key.Name x, b) ∷ es) h = (λ y d has same. h.0 y d (plain_was es (key.Name y, d) has) same, entries_apart es h.1)
+entries_apart ((key.Interface i, b) ∷ es) h = entries_apart es h
+
+entries_plain : (es : List Entry) → IsSidePlain es → IsSidePlain (plain_entries es)
+entries_plain [] h = tt
+entries_plain ((key.Name x, b) ∷ es) h = (h.0, entries_plain es h.1)
+entries_plain ((key.Interface i, b) ∷ es) h = entries_plain es h.1
+
+-- behind interfaces
+behind_apart : (at : ℕ → WorldItem) (order : List ℕ) (es : List Entry) → ArePlainApart es → ArePlainApart (map (λ (i : ℕ). (key.Interface i, at i)) order ++ es)
+behind_apart at [] es h = h
+behind_apart at (i ∷ order) es h = behind_apart at order es h
+
+behind_plain : (at : ℕ → WorldItem) (order : List ℕ) (es : List Entry) → IsSidePlain es → IsSidePlain (map (λ (i : ℕ). (key.Interface i, at i)) order ++ es)
+behind_plain at [] es h = h
+behind_plain at (i ∷ order) es h = (tt, behind_plain at order es h)
+
+pub elaborated_sides : ElaboratedSidesAreNamed
+elaborated_sides types interfaces uses world found is h =
+    let es = world.imports.entries in
+    subst IsSideNamed (sym is.imports)
+    (record { apart = behind_apart (imported interfaces es) is.order (plain_entries es) (entries_apart es h.apart); plain = behind_plain (imported interfaces es) is.order (plain_entries es) (entries_plain es h.plain) })
 
 -- ---- what is brought
 

@@ -4,6 +4,8 @@ use Rattle.std.specs.Prelude.{◌≡◌, ℕ, List, String, string_bytes}
 use Rattle.std.specs.List.{AllByRecursion as Each}
 use Rattle.std.specs.declared.alloc.Global.{Global}
 use Rattle.wit_order.specs.Order.{Has}
+use Rattle.wit_order.specs.Places.{Rows}
+use Rattle.wit_types.specs.declared.interface.Interface.{Interface}
 use Rattle.wit_types.specs.declared.interface.TypeDef.{TypeDef}
 use Rattle.wit_types.specs.declared.world.IncludeName.{IncludeName}
 use Rattle.wit_types.specs.declared.world.World.{World}
@@ -15,7 +17,10 @@ use Rattle.wit_types.specs.declared.world_key.WorldKey.TheVariants as key
 use Rattle.wit_features.specs.Features.{FeatureSet}
 use Rattle.wit_moves.specs.Moved.{Places}
 use Rattle.wit_moves.specs.Worlds.{IsMovedSide}
+use Rattle.wit_plans.specs.Checks.{Standing}
+use Rattle.wit_plans.specs.Moves.{IsMovedWorld}
 use Rattle.wit_plans.specs.declared.moves.MovedWorld.{MovedWorld}
+use Rattle.wit_elaborated.specs.Worlds.{IsElaboratedWorld}
 use Rattle.wit_includes.specs.Included.{IsIncluded}
 use Rattle.wit_includes.specs.declared.worlds.Included.{Included}
 use Rattle.wit_joined.specs.Joined.{IsJoinedWorld}
@@ -60,6 +65,24 @@ SidesAreNamed =
 abbrev pub MovedSidesAreNamed : Type 0
 MovedSidesAreNamed = (features : FeatureSet) (places interfaces : Places) (old new : List (WorldKey × WorldItem)) → IsMovedSide features places interfaces old new → IsSideNamed old → IsSideNamed new
 
+-- and so is what stays of a world, with names to which those of worlds that it includes are changed
+abbrev pub AreChangesPlain : List WorldInclude → Type 0
+AreChangesPlain includes = Each (λ (i : WorldInclude). ArePlainChanges i.names.items) includes
+
+pub record IsWorldNamed (imports exports : List (WorldKey × WorldItem)) (includes : List WorldInclude) : Type 0 where
+  pub imports_named : IsSideNamed imports
+  pub exports_named : IsSideNamed exports
+  pub changes : AreChangesPlain includes
+
+abbrev pub MovedWorldsAreNamed : Type 0
+MovedWorldsAreNamed =
+    (features : FeatureSet) (s : Standing) (old : World) (new : MovedWorld) → IsMovedWorld features s old new → IsWorldNamed old.imports.entries old.exports.entries old.includes.items
+    → IsWorldNamed new.imports.items new.exports.items new.includes.items
+
+-- and all that a world imports in the end
+abbrev pub ElaboratedSidesAreNamed : Type 0
+ElaboratedSidesAreNamed = (types : List TypeDef) (interfaces : List Interface) (uses : Rows) (world found : World) → IsElaboratedWorld types interfaces uses world found → IsSideNamed world.imports.entries → IsSideNamed found.imports.entries
+
 -- what a world brings, under changed names, has no marks
 abbrev pub BroughtSidesArePlain : Type 0
 BroughtSidesArePlain =
@@ -73,5 +96,5 @@ pub record AreSidesNamed (imports exports : List (WorldKey × WorldItem)) : Type
 
 abbrev pub JoinedSidesAreNamed : Type 0
 JoinedSidesAreNamed =
-    (worlds : List World) (id owner : ℕ) (m : MovedWorld) (old new : List TypeDef) (w : World) → IsJoinedWorld worlds id owner m old new w → Each (λ (i : WorldInclude). ArePlainChanges i.names.items) m.includes.items
+    (worlds : List World) (id owner : ℕ) (m : MovedWorld) (old new : List TypeDef) (w : World) → IsJoinedWorld worlds id owner m old new w → AreChangesPlain m.includes.items
     → Each (λ (v : World). AreSidesPlain v.imports.entries v.exports.entries) worlds → AreSidesPlain m.imports.items m.exports.items → AreSidesNamed w.imports.entries w.exports.entries

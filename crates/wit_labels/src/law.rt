@@ -1,7 +1,7 @@
 //! Laws of names within types and functions.
 
 ghost use Rattle.wit_labels.specs.Included.{BroughtIsApart, JoinedWorldsAreApart};
-ghost use Rattle.wit_labels.specs.Named.{BroughtSidesArePlain, JoinedSidesAreNamed, MovedSidesAreNamed, SidesAreNamed};
+ghost use Rattle.wit_labels.specs.Named.{BroughtSidesArePlain, ElaboratedSidesAreNamed, JoinedSidesAreNamed, MovedSidesAreNamed, MovedWorldsAreNamed, SidesAreNamed};
 ghost use Rattle.wit_labels.specs.Moved.{ElaboratedWorldsAreApart, MovedInterfacesAreApart, MovedTypesHaveLabelsApart, MovedWorldsAreApart};
 
 /// What stays of types whose labels differ has labels that differ (WIT, Types, Feature Gates).
@@ -53,4 +53,14 @@ pub fn law_brought_sides_are_plain()
 /// Both sides of a world of a package with all that it includes are named, where its own and those that it includes are plain.
 pub fn law_joined_sides_are_named()
     ensures { JoinedSidesAreNamed }
+{}
+
+/// What stays of a world whose sides are named, without what it includes, has named sides, and names to which others are changed without marks.
+pub fn law_moved_worlds_are_named()
+    ensures { MovedWorldsAreNamed }
+{}
+
+/// All that a world imports in the end is named, where what it imports is.
+pub fn law_elaborated_sides_are_named()
+    ensures { ElaboratedSidesAreNamed }
 {}
