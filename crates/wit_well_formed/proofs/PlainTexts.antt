@@ -37,7 +37,7 @@ use Rattle.wit_resolved_scopes.specs.InArena.{Context}
 use Rattle.wit_resolved_scopes.specs.Texts as text
 use Rattle.wit_resolved_scopes.specs.Texts.{InterfaceText, interface_text, labelled_texts, interfaces_of, worlds_of, interface_texts, KeyText, plain, path, listed_member, own_member, own_members, side_member, side_members, included_in, includes_of, key_text}
 use Rattle.wit_resolved_scopes.proofs.Eaches.{each_right}
-use Rattle.wit_resolved_scopes.proofs.Orders.{placed, sorted_has}
+use Rattle.wit_resolved_scopes.proofs.Orders.{listed, placed, sorted_has}
 use Rattle.wit_readiness.proofs.Flat.{in_flat, has_one}
 use Rattle.wit_readiness.proofs.Labelled.{labelled_given}
 use Rattle.wit_readiness.proofs.Named.{type_label, type_given}
@@ -48,19 +48,21 @@ use Rattle.wit_plain_texts.specs.Law.{NamesOfTextsArePlain}
 use Rattle.wit_plain_texts.specs.Scopes.{IsPlainMember, IsPlainListed, IsPlainWorldMember, IsPlainScope}
 use Rattle.wit_plain_texts.proofs.Files.{names_of_texts_are_plain}
 use Rattle.wit_plain_texts.proofs.Scopes.{scopes_are_plain, packages_are_plain, nested_files_are_plain}
+use Rattle.wit_labels.specs.Named.{ArePlainChanges}
 use Rattle.wit_labels.proofs.Every.{each_at, each_of}
+use Rattle.wit_labels.proofs.Naming.{sides_are_named}
 use Rattle.wit_graph_parts.specs.Own.{asked, own_parts}
 use Rattle.wit_package.specs.Group.{AreRead, AreParsed}
 use Rattle.wit_package.specs.Resolved.{IsResolved, context_of}
 use Rattle.wit_package.specs.Steps.{Resolves}
 use Rattle.wit_package.proofs.Scoping.{interface_there, world_there}
 use Rattle.wit_reach.proofs.Holding.{got}
-use Rattle.wit_well_formed.specs.Marks.{HasPlainSide, HasPlainSides, HasPlainNames, ParsedPackagesHavePlainNames}
+use Rattle.wit_well_formed.specs.Marks.{HasPlainSide, HasPlainSides, HasPlainNames, ParsedPackagesHavePlainNames, ParsedWorldsAreNamed}
 use Rattle.wit_well_formed.proofs.Belonging.{counted}
 use Rattle.wit_well_formed.proofs.Lists.{get_drop, got_mapped}
 use Rattle.wit_well_formed.proofs.NamesWithin.{of_worlds}
 use Rattle.wit_well_formed.proofs.Parameters.{side_given}
-use Rattle.wit_well_formed.proofs.PlainNames.{entry_named, type_entry}
+use Rattle.wit_well_formed.proofs.PlainNames.{entry_named, type_entry, worlds_are_under_their_names}
 use Rattle.wit_well_formed.proofs.Whole.{ready}
 
 -- ---- members of worlds
@@ -206,15 +208,39 @@ files_plain texts files read =
     let t = got texts k (omega (arith, within, so_many)) in
     names_of_texts_are_plain (total (take k texts)) t.0.contents f (read.each k t.0 f t.1 at)))
 
-pub parsed_are_plain : ParsedPackagesHavePlainNames
-parsed_are_plain texts main nested parsed p (inl same) =
+-- a package to which files are resolved whose names have no marks
+record IsOfPlain (p : UnresolvedPackage) : Type 0 where
+  files : List FileTree
+  are : Every IsPlainFile files
+  resolves : Resolves files p
+
+of_plain : (texts : List SourceText) (main : UnresolvedPackage) (nested : List UnresolvedPackage) → AreParsed texts main nested → (p : UnresolvedPackage) → order.Has (main ∷ nested) p → IsOfPlain p
+of_plain texts main nested parsed p (inl same) =
     let are = nested_files_are_plain parsed.files (files_plain texts parsed.files parsed.read) in
-    subst HasPlainNames (sym same) (resolved_plain (own_files parsed.files) are.0 main parsed.resolved.main_is)
-parsed_are_plain texts main nested parsed p (inr has) =
+    record { files = own_files parsed.files; are = are.0; resolves = subst (Resolves (own_files parsed.files)) (sym same) parsed.resolved.main_is }
+of_plain texts main nested parsed p (inr has) =
     let are = nested_files_are_plain parsed.files (files_plain texts parsed.files parsed.read) in
     let all = parsed.resolved.nested_are in
     let at = placed nested p has in
     let within : at.0 < length nested = slice_get_within nested at.0 p at.1 in
     let so_many = all.so_many in
     let f = got (nested_files parsed.files) at.0 (omega (arith, within, so_many)) in
-    resolved_plain (f.0 ∷ []) (each_at IsPlainFile (nested_files parsed.files) are.1 at.0 f.0 f.1, tt) p (all.each at.0 f.0 p f.1 at.1)
+    record { files = f.0 ∷ []; are = (each_at IsPlainFile (nested_files parsed.files) are.1 at.0 f.0 f.1, tt); resolves = all.each at.0 f.0 p f.1 at.1 }
+
+pub parsed_are_plain : ParsedPackagesHavePlainNames
+parsed_are_plain texts main nested parsed p has = (let r = of_plain texts main nested parsed p has in resolved_plain r.files r.are p r.resolves)
+
+pub worlds_are_named : ParsedWorldsAreNamed
+worlds_are_named texts main nested parsed p has w in_package =
+    let r = of_plain texts main nested parsed p has in
+    let under = worlds_are_under_their_names r.files p r.resolves w in_package in
+    let marks = (resolved_plain r.files r.are p r.resolves).worlds w in_package in
+    record {
+      imports_named = sides_are_named p.types w.imports.entries under.imports marks.imports;
+      exports_named = sides_are_named p.types w.exports.entries under.exports marks.exports;
+      changes =
+          each_of (λ (i : WorldInclude). ArePlainChanges i.names.items) w.includes.items
+          (λ k i at_i.
+          each_of (λ (n : IncludeName). IsPlain (string_bytes n.as_)) i.names.items
+          (λ l n at_n. marks.includes i n (listed w.includes.items i (k, at_i)) (listed i.names.items n (l, at_n))));
+    }

@@ -11,6 +11,7 @@ use Rattle.wit_types.specs.declared.world.WorldItem.{WorldItem}
 use Rattle.wit_types.specs.declared.world_key.WorldKey.{WorldKey}
 use Rattle.wit_types.specs.declared.world_key.WorldKey.TheVariants as key
 use Rattle.wit_types.specs.declared.«package».UnresolvedPackage.{UnresolvedPackage}
+use Rattle.wit_labels.specs.Named.{IsWorldNamed}
 use Rattle.wit_graph_parts.specs.Own.{own_parts}
 use Rattle.wit_package.specs.Group.{AreParsed}
 use Rattle.wit_offsets.specs.Offsets.{package_at}
@@ -40,3 +41,9 @@ ParsedPackagesHavePlainNames = (texts : List SourceText) (main : UnresolvedPacka
 -- wherever its places are
 abbrev pub MovedPackagesHavePlainNames : Type 0
 MovedPackagesHavePlainNames = (p : UnresolvedPackage) (n : ℕ) → HasPlainNames p → HasPlainNames (package_at n p)
+
+-- and each world of a package of texts is named
+abbrev pub ParsedWorldsAreNamed : Type 0
+ParsedWorldsAreNamed =
+    (texts : List SourceText) (main : UnresolvedPackage) (nested : List UnresolvedPackage) → AreParsed texts main nested → (p : UnresolvedPackage) → Has (main ∷ nested) p → (w : World) → Has p.worlds w
+    → IsWorldNamed w.imports.entries w.exports.entries w.includes.items

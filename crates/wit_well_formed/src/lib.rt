@@ -15,7 +15,10 @@ pub use law::{
     law_spans_are_counted, law_unknown_types_are_there,
 };
 pub use listed::{law_own_types_are_owned, law_types_are_listed};
-pub use marks::{law_moved_packages_have_plain_names, law_parsed_packages_have_plain_names};
+pub use marks::{
+    law_moved_packages_have_plain_names, law_parsed_packages_have_plain_names,
+    law_parsed_worlds_are_named,
+};
 pub use naming::law_names_are_apart;
 pub use plain::{law_moved_worlds_are_under_their_names, law_worlds_are_under_their_names};
 pub use within::{
