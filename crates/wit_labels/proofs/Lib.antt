@@ -3,3 +3,4 @@ pub mod Moving
 pub mod Including
 pub mod Renaming
 pub mod Naming
+pub mod Typing

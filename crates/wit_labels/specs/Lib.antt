@@ -3,3 +3,4 @@ pub mod Moved
 pub mod Included
 pub mod Plain
 pub mod Named
+pub mod Types
