@@ -179,21 +179,26 @@ module _ (files : List FileTree) (p : UnresolvedPackage) (r : Resolves files p) 
   ]
 
   -- so are worlds
-  pub of_worlds : (P : World → Type 0) → ((d : World) → d.imports.entries ≡ [] → d.exports.entries ≡ [] → d.includes.items ≡ [] → P d)
-      → ((k : ℕ) (w : WorldScope) (d : World) → slice_get (worlds_of s.sorted) k ≡ Some w → IsWorldIn c p.types w (length s.foreign_worlds + k) d → P d) → (n : ℕ) (d : World) → slice_get p.worlds n ≡ Some d → P d
-  of_worlds P empty own n d at = elim (get_either s.foreign_worlds s.own_worlds n d (subst (λ (ds : List World). slice_get ds n ≡ Some d) s.worlds_are at)) as (λ _. P d) [
+  pub of_worlds_at : (P : ℕ → World → Type 0) → ((n : ℕ) (d : World) → d.imports.entries ≡ [] → d.exports.entries ≡ [] → d.includes.items ≡ [] → P n d)
+      → ((k : ℕ) (w : WorldScope) (d : World) → slice_get (worlds_of s.sorted) k ≡ Some w → IsWorldIn c p.types w (length s.foreign_worlds + k) d → P (length s.foreign_worlds + k) d)
+      → (n : ℕ) (d : World) → slice_get p.worlds n ≡ Some d → P n d
+  of_worlds_at P empty own n d at = elim (get_either s.foreign_worlds s.own_worlds n d (subst (λ (ds : List World). slice_get ds n ≡ Some d) s.worlds_are at)) as (λ _. P n d) [
     | inl other ↦
         let within : n < length s.foreign_worlds = slice_get_within s.foreign_worlds n d other in
         let so_many : length s.foreign_worlds ≡ worlds_in s.items = s.foreign_are.so_many_worlds in
         let one = world_item (files_need s.me files) s.items s.items_are n (omega (arith, within, so_many)) in
         let is = s.foreign_are.worlds one.0 n d one.1 other in
-        empty d is.imports is.exports is.includes
+        empty n d is.imports is.exports is.includes
     | inr o ↦
         let within : o.0 < length s.own_worlds = slice_get_within s.own_worlds o.0 d o.2 in
         let size : length s.own_worlds ≡ length (worlds_of s.sorted) = s.own_worlds_are.so_many in
         let w = got (worlds_of s.sorted) o.0 (omega (arith, within, size)) in
-        own o.0 w.0 d w.1 (s.own_worlds_are.each o.0 w.0 d w.1 o.2)
+        subst (λ (m : ℕ). P m d) (sym o.1) (own o.0 w.0 d w.1 (s.own_worlds_are.each o.0 w.0 d w.1 o.2))
   ]
+
+  pub of_worlds : (P : World → Type 0) → ((d : World) → d.imports.entries ≡ [] → d.exports.entries ≡ [] → d.includes.items ≡ [] → P d)
+      → ((k : ℕ) (w : WorldScope) (d : World) → slice_get (worlds_of s.sorted) k ≡ Some w → IsWorldIn c p.types w (length s.foreign_worlds + k) d → P d) → (n : ℕ) (d : World) → slice_get p.worlds n ≡ Some d → P d
+  of_worlds P empty own = of_worlds_at (λ _ d. P d) (λ n d imports exports includes. empty d imports exports includes) own
 
   world_kept : (k : ℕ) (w : WorldScope) → slice_get (worlds_of s.sorted) k ≡ Some w → IsKept (WorldBreaks w.members)
   world_kept k w at = world_keeps (package_scopes s.me files) kept w (world_there (package_scopes s.me files) s.sorted s.are_sorted w (k, at))

@@ -29,14 +29,15 @@ use Rattle.wit_offsets.specs.Offsets.{param_by, function_by, field_by, case_by, 
 use Rattle.wit_plain_texts.specs.Plain.{IsPlain}
 use Rattle.wit_plain_texts.proofs.Scopes.{each_map}
 use Rattle.wit_labels.specs.Labels.{labels_of, HasLabelsApart, HasParametersApart, HaveParametersApart, functions_in, IsInterfaceApart, IsItemApart, IsSideApart, IsWorldApart}
+use Rattle.wit_labels.specs.Types.{IsOwnType, IsOwnItem, HasOwnTypes}
 use Rattle.wit_labels.specs.Plain.{ArePlainApart, AreUnderTheirNames, IsWorldUnderItsNames}
 use Rattle.wit_graph_parts.specs.Own.{asked}
 use Rattle.wit_reach.proofs.Holding.{has_mapped}
 use Rattle.wit_resolved_scopes.proofs.Orders.{listed, placed}
 use Rattle.wit_well_formed.specs.Within.{MovedPackagesHaveNamesApart}
-use Rattle.wit_well_formed.specs.Plain.{MovedWorldsAreUnderTheirNames}
+use Rattle.wit_well_formed.specs.Plain.{MovedWorldsAreUnderTheirNames, AreOwnTypes, MovedWorldsHaveOwnTypes}
 use Rattle.wit_well_formed.specs.Marks.{HasPlainSide, HasPlainSides, MovedPackagesHavePlainNames}
-use Rattle.wit_well_formed.proofs.Lists.{got_behind}
+use Rattle.wit_well_formed.proofs.Lists.{got_mapped, got_behind}
 use Rattle.wit_well_formed.proofs.New.{read_through}
 use Rattle.wit_well_formed.proofs.Offsets.{items_are}
 
@@ -133,6 +134,16 @@ module _ (f : Span → Span) where
         (type_def_by f t.0, slice_get-map (type_def_by f) types id ∙ ap (option_map (type_def_by f)) t.1, t.2));
   }
 
+  item_own : (types : List TypeDef) (w : ℕ) (x : String Global) (b : WorldItem) → IsOwnItem types w x b → IsOwnItem (map (type_def_by f) types) w x (item_by f b)
+  item_own types w x (item.Interface id stability span) h = tt
+  item_own types w x (item.Function g) h = tt
+  item_own types w x (item.TypeItem id span) h = record { def = type_def_by f h.def; there = slice_get-map (type_def_by f) types id ∙ ap (option_map (type_def_by f)) h.there; name = h.name; owner = h.owner }
+
+  own_side : (types : List TypeDef) (w : ℕ) (es : List Entry) → HasOwnTypes types w es → HasOwnTypes (map (type_def_by f) types) w (map entry_by es)
+  own_side types w [] h = tt
+  own_side types w ((key.Name x, b) ∷ es) h = (item_own types w x b h.0, own_side types w es h.1)
+  own_side types w ((key.Interface i, b) ∷ es) h = (tt, own_side types w es h.1)
+
   plain_side : (es : List Entry) → HasPlainSide es → HasPlainSide (map entry_by es)
   plain_side es h x b has = (let o = was es (key.Name x) b has in h x o.before o.has)
 
@@ -171,3 +182,10 @@ moved_plain p n h = record {
       h.interfaces o.0 x (listed (drop (asked p).interfaces p.interfaces) o.0 (at.0, o.1)) (ap (λ (z : Interface). z.name) o.2 ∙ named));
   worlds = λ w has. (let r = has_mapped (world_by (span_at n)) p.worlds w has in subst HasPlainSides r.2 (plain_sides (span_at n) r.0 (h.worlds r.0 r.1)));
 }
+
+pub moved_own_types : MovedWorldsHaveOwnTypes
+moved_own_types p n h i w at =
+    let o = got_mapped (world_by (span_at n)) p.worlds i w at in
+    let is = h i o.0 o.1 in
+    subst (AreOwnTypes (map (type_def_by (span_at n)) p.types) i) o.2
+    (record { imports = own_side (span_at n) p.types i o.0.imports.entries is.imports; exports = own_side (span_at n) p.types i o.0.exports.entries is.exports })

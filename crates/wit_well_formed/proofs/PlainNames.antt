@@ -36,11 +36,12 @@ use Rattle.wit_resolved_scopes.specs.Texts.{KeyText, plain, own_members, side_me
 use Rattle.wit_resolved_scopes.proofs.Eaches.{each_right}
 use Rattle.wit_resolved_scopes.proofs.Orders.{placed, sorted_has, sorted_distinct}
 use Rattle.wit_worlds.specs.Worlds.{Entry, IsTypeEntry, IsExternEntry, IsEntryOf, IsWorldIn}
+use Rattle.wit_labels.specs.Types.{IsOwnType, IsOwnItem, HasOwnTypes}
 use Rattle.wit_labels.specs.Plain.{ArePlainApart, AreUnderTheirNames, IsWorldUnderItsNames}
 use Rattle.wit_package.specs.Resolved.{IsResolved, context_of}
 use Rattle.wit_package.specs.Steps.{Resolves}
-use Rattle.wit_well_formed.specs.Plain.{WorldsAreUnderTheirNames}
-use Rattle.wit_well_formed.proofs.NamesWithin.{entry_type, of_worlds}
+use Rattle.wit_well_formed.specs.Plain.{WorldsAreUnderTheirNames, AreOwnTypes, WorldsHaveOwnTypes}
+use Rattle.wit_well_formed.proofs.NamesWithin.{entry_type, of_worlds_at, of_worlds}
 use Rattle.wit_well_formed.proofs.Whole.{ready}
 
 -- ---- plain names that are apart
@@ -132,6 +133,19 @@ module _ (c : Context) (w : WorldScope) (a : List TypeDef) (table : Entries) whe
         let m = each_right IsEntry (side_members side w.members) es are k (key.Name x, item.TypeItem id s) at in
         entry_type c w.name.text a table (key.Name x) id s m.0 m.2
 
+-- ---- types that stand on a side
+
+item_own : (a : List TypeDef) (w : ℕ) (x : String Global) (b : WorldItem) → ((i : ℕ) (s : Span) → b ≡ item.TypeItem i s → IsOwnType a w x i) → IsOwnItem a w x b
+item_own a w x (item.Interface id stability span) h = tt
+item_own a w x (item.Function f) h = tt
+item_own a w x (item.TypeItem id span) h = h id span refl
+
+all_own : (a : List TypeDef) (w : ℕ) (es : List Entry) → ((x : String Global) (i : ℕ) (s : Span) → order.Has es (key.Name x, item.TypeItem i s) → IsOwnType a w x i) → HasOwnTypes a w es
+all_own a w [] h = tt
+all_own a w ((key.Name x, b) ∷ es) h =
+    (item_own a w x b (λ i s is. h x i s (inl (ap (λ (z : WorldItem). (key.Name x, z)) (sym is)))), all_own a w es (λ y i s has. h y i s (inr has)))
+all_own a w ((key.Interface j, b) ∷ es) h = (tt, all_own a w es (λ y i s has. h y i s (inr has)))
+
 -- ---- a world
 
 module _ (c : Context) (w : WorldScope) (is : List InterfaceScope) (ws : List WorldScope) (others : Foreign) (fit : IsWorldReady is ws others w) (a : List TypeDef) (id : ℕ) (d : World) (here : IsWorldIn c a w id d) where
@@ -179,18 +193,27 @@ module _ (c : Context) (w : WorldScope) (is : List InterfaceScope) (ws : List Wo
         | inr o ↦ side_functions c w a here.table Import here.other_imports here.lists_are.imports_are x f (o.0, o.2)
       ]
 
-  imported_type : (x : String Global) (i : ℕ) (s : Span) → order.Has all_imports (key.Name x, item.TypeItem i s) → (t : TypeDef) × (slice_get a i ≡ Some t) × (option_map string_bytes t.name ≡ Some (string_bytes x))
-  imported_type x i s has =
+  own_type : (x : String Global) (i : ℕ) (s : Span) → order.Has all_imports (key.Name x, item.TypeItem i s) → IsOwnType a id x i
+  own_type x i s has =
       let p = placed all_imports (key.Name x, item.TypeItem i s) has in
-      elim (get_either here.type_entries here.other_imports p.0 (key.Name x, item.TypeItem i s) p.1) as (λ _. (t : TypeDef) × (slice_get a i ≡ Some t) × (option_map string_bytes t.name ≡ Some (string_bytes x))) [
+      elim (get_either here.type_entries here.other_imports p.0 (key.Name x, item.TypeItem i s) p.1) as (λ _. IsOwnType a id x i) [
         | inl first ↦
             let m = type_entry p.0 x (item.TypeItem i s) first in
             let e : item.TypeItem i s ≡ item.TypeItem m.entry.1 m.listed.def.span = m.listed.item in
             let same : m.entry.1 ≡ i = cc in
             let is = m.type_is in
-            (is.def, subst (λ (j : ℕ). slice_get a j ≡ Some is.def) same is.there, is.is.name ∙ ap (λ (n : Name). Some n) (sym m.named))
+            record { def = is.def; there = subst (λ (j : ℕ). slice_get a j ≡ Some is.def) same is.there; name = is.is.name ∙ ap (λ (n : Name). Some n) (sym m.named); owner = is.is.owner }
         | inr o ↦ absurd (side_no_types c w a here.table Import here.other_imports here.lists_are.imports_are x i s (o.0, o.2))
       ]
+
+  imported_type : (x : String Global) (i : ℕ) (s : Span) → order.Has all_imports (key.Name x, item.TypeItem i s) → (t : TypeDef) × (slice_get a i ≡ Some t) × (option_map string_bytes t.name ≡ Some (string_bytes x))
+  imported_type x i s has = (let t = own_type x i s has in (t.def, t.there, t.name))
+
+  own_types : AreOwnTypes a id d
+  own_types = record {
+    imports = subst (HasOwnTypes a id) (sym here.imports_are) (all_own a id all_imports own_type);
+    exports = all_own a id d.exports.entries (λ x i s has. absurd (side_no_types c w a here.table Export d.exports.entries here.lists_are.exports_are x i s (placed d.exports.entries (key.Name x, item.TypeItem i s) has)));
+  }
 
   under_its_names : IsWorldUnderItsNames a d
   under_its_names = record {
@@ -222,3 +245,9 @@ worlds_are_under_their_names files p r v has =
       exports = subst (AreUnderTheirNames p.types) (sym exports) (record { apart = tt; functions = λ x f h. absurd h; types_are = λ x i s h. absurd h });
     })
     (λ k w d at_w is. under_its_names (context_of s.me files s.items s.sorted) w _ _ _ ((ready files p r).worlds.each k w at_w) p.types (length s.foreign_worlds + k) d is) at.0 v at.1
+
+pub worlds_have_own_types : WorldsHaveOwnTypes
+worlds_have_own_types files p r n v at =
+    let s = r.resolved in
+    of_worlds_at files p r (AreOwnTypes p.types) (λ m d imports exports _. record { imports = subst (HasOwnTypes p.types m) (sym imports) tt; exports = subst (HasOwnTypes p.types m) (sym exports) tt })
+    (λ k w d at_w is. own_types (context_of s.me files s.items s.sorted) w _ _ _ ((ready files p r).worlds.each k w at_w) p.types (length s.foreign_worlds + k) d is) n v at
