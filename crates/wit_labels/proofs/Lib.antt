@@ -4,3 +4,4 @@ pub mod Including
 pub mod Renaming
 pub mod Naming
 pub mod Typing
+pub mod Forming

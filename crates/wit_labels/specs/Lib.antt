@@ -4,3 +4,4 @@ pub mod Included
 pub mod Plain
 pub mod Named
 pub mod Types
+pub mod Forms

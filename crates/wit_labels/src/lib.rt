@@ -12,5 +12,6 @@ pub use law::{
 };
 pub use types::{
     law_brought_sides_have_own_types, law_joined_sides_have_own_types,
-    law_moved_sides_have_own_types, law_own_types_stay,
+    law_joined_types_are_forms_or_named, law_moved_sides_have_own_types,
+    law_moved_types_are_forms_or_named, law_own_types_stay,
 };
