@@ -78,7 +78,7 @@ module _ (files : List FileTree) (p : UnresolvedPackage) (r : Resolves files p) 
   ]
 
   -- no more are counted
-  no_more : (asked p).interfaces ≤ interfaces_in s.items
+  pub no_more : (asked p).interfaces ≤ interfaces_in s.items
   no_more = interfaces_few (files_need s.me files) s.items s.items_are p.foreign_deps.entries p.foreign_dep_spans.items s.deps_are
 
   -- one of another package has no types

@@ -22,3 +22,4 @@ mod NamesWithin
 mod PlainNames
 mod PlainTexts
 mod OffsetNames
+mod InterfaceNames

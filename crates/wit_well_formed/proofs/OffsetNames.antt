@@ -34,6 +34,7 @@ use Rattle.wit_labels.specs.Plain.{ArePlainApart, AreUnderTheirNames, IsWorldUnd
 use Rattle.wit_graph_parts.specs.Own.{asked}
 use Rattle.wit_reach.proofs.Holding.{has_mapped}
 use Rattle.wit_resolved_scopes.proofs.Orders.{listed, placed}
+use Rattle.wit_well_formed.specs.Naming.{MovedInterfacesAreNamedApart}
 use Rattle.wit_well_formed.specs.Within.{MovedPackagesHaveNamesApart}
 use Rattle.wit_well_formed.specs.Plain.{MovedWorldsAreUnderTheirNames, AreOwnTypes, MovedWorldsHaveOwnTypes}
 use Rattle.wit_well_formed.specs.Marks.{HasPlainSide, HasPlainSides, MovedPackagesHavePlainNames}
@@ -189,3 +190,9 @@ moved_own_types p n h i w at =
     let is = h i o.0 o.1 in
     subst (AreOwnTypes (map (type_def_by (span_at n)) p.types) i) o.2
     (record { imports = own_side (span_at n) p.types i o.0.imports.entries is.imports; exports = own_side (span_at n) p.types i o.0.exports.entries is.exports })
+
+pub moved_named_apart : MovedInterfacesAreNamedApart
+moved_named_apart p n h i j d e x y at_i at_j x_is y_is same =
+    let a = got_behind (interface_by (span_at n)) (asked p).interfaces p.interfaces i d at_i in
+    let b = got_behind (interface_by (span_at n)) (asked p).interfaces p.interfaces j e at_j in
+    h i j a.0 b.0 x y a.1 b.1 (ap (λ (z : Interface). z.name) a.2 ∙ x_is) (ap (λ (z : Interface). z.name) b.2 ∙ y_is) same

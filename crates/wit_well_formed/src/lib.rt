@@ -19,7 +19,9 @@ pub use marks::{
     law_moved_packages_have_plain_names, law_parsed_packages_have_plain_names,
     law_parsed_worlds_are_named,
 };
-pub use naming::law_names_are_apart;
+pub use naming::{
+    law_interfaces_are_named_apart, law_moved_interfaces_are_named_apart, law_names_are_apart,
+};
 pub use plain::{
     law_moved_worlds_are_under_their_names, law_moved_worlds_have_own_types,
     law_worlds_are_under_their_names, law_worlds_have_own_types,
