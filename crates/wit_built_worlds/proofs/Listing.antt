@@ -38,8 +38,8 @@ module _ (k : KnownTypes) (a b c : List TypeDef) (types ms : List MemberTree) (t
     (labelled : NewTypesAreListed interfaces2 [] b c) (worlds worlds2 : List World) (resolves : ResolvesScope k (belongs.World (length worlds)) a types ms b table fs) (d : World) (behind : worlds2 ≡ worlds ++ d ∷ [])
     (ps : PathsTree) (w : WorldScope) (ids : List ℕ) (makes : MakesWorld ps w c table fs ids d)
   where
-    own : (i : ℕ) (o : TypeOwner) → IsListedIn (belongs.World (length worlds)) table i o → IsListed interfaces2 worlds2 i o
-    own = listed_at interfaces2 worlds2 (belongs.World (length worlds)) table (λ x i has. (d, ap (λ (ds : List World). slice_get ds (length worlds)) behind ∙ get_last worlds d, imports_type ps w c table fs ids d makes x i has))
+    own : (i : ℕ) (t : TypeDef) → IsListedIn (belongs.World (length worlds)) table i t → IsListed interfaces2 worlds2 i t
+    own = listed_at interfaces2 worlds2 (belongs.World (length worlds)) table (λ x i t has. (d, ap (λ (ds : List World). slice_get ds (length worlds)) behind ∙ get_last worlds d, imports_type ps w c table fs ids d makes x i has))
 
     pub world_listed : NewTypesAreListed interfaces2 worlds2 a c
     world_listed =

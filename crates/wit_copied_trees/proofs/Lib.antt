@@ -2,7 +2,7 @@ pub mod Members
 pub mod Owners
 mod Backward
 mod Renaming
-mod Clones
+pub mod Clones
 mod Definitions
 pub mod Named
 mod Copying

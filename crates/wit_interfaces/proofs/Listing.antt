@@ -19,24 +19,27 @@ use Rattle.wit_resolved_scopes.specs.Texts.{InterfaceText}
 use Rattle.wit_resolved_scopes.proofs.Listing.{new_through, resolved_listed}
 use Rattle.wit_interfaces.specs.Interfaces.{IsInterfaceOf}
 use Rattle.wit_interfaces.specs.Adding.{MakesInterface}
-use Rattle.wit_interfaces.specs.Listed.{HasType, IsListed, NewTypesAreListed}
+use Rattle.wit_interfaces.specs.Listed.{HasType, IsListedAt, IsListed, NewTypesAreListed}
 
 -- with more of them, what was listed still is, and so are the types of one step and then another
 module _ (interfaces interfaces2 more : List Interface) (behind : interfaces2 ≡ interfaces ++ more) (worlds worlds2 others : List World) (worlds_behind : worlds2 ≡ worlds ++ others) where
-  pub listed_still : (i : ℕ) (o : TypeOwner) → IsListed interfaces worlds i o → IsListed interfaces2 worlds2 i o
-  listed_still i belongs.None is = tt
-  listed_still i (belongs.Interface j) (d, at, has) = (d, ap (λ (ds : List Interface). slice_get ds j) behind ∙ get_kept interfaces more j d at, has)
-  listed_still i (belongs.World w) (d, at, has) = (d, ap (λ (ds : List World). slice_get ds w) worlds_behind ∙ get_kept worlds others w d at, has)
+  still_at : (i : ℕ) (t : TypeDef) (o : TypeOwner) → IsListedAt interfaces worlds i t o → IsListedAt interfaces2 worlds2 i t o
+  still_at i t belongs.None is = is
+  still_at i t (belongs.Interface j) (d, at, has) = (d, ap (λ (ds : List Interface). slice_get ds j) behind ∙ get_kept interfaces more j d at, has)
+  still_at i t (belongs.World w) (d, at, has) = (d, ap (λ (ds : List World). slice_get ds w) worlds_behind ∙ get_kept worlds others w d at, has)
+
+  pub listed_still : (i : ℕ) (t : TypeDef) → IsListed interfaces worlds i t → IsListed interfaces2 worlds2 i t
+  listed_still i t is = still_at i t t.owner is
 
   pub listed_through : (a b c : List TypeDef) → NewTypesAreListed interfaces worlds a b → NewTypesAreListed interfaces2 worlds2 b c → NewTypesAreListed interfaces2 worlds2 a c
-  listed_through a b c = new_through (IsListed interfaces worlds) (IsListed interfaces2 worlds2) (IsListed interfaces2 worlds2) a b c listed_still (λ i o is. is)
+  listed_through a b c = new_through (IsListed interfaces worlds) (IsListed interfaces2 worlds2) (IsListed interfaces2 worlds2) a b c listed_still (λ i t is. is)
 
 -- a scope's are listed in what is made of it
-pub listed_at : (interfaces : List Interface) (worlds : List World) (whose : TypeOwner) (table : Entries) → ((x : Name) (i : ℕ) → Has table (x, i) → IsListed interfaces worlds i whose) → (i : ℕ) (o : TypeOwner) → IsListedIn whose table i o
-    → IsListed interfaces worlds i o
-listed_at interfaces worlds whose table has i o is = elim is as (λ _. IsListed interfaces worlds i o) [
-  | inl free ↦ subst (IsListed interfaces worlds i) (sym free) tt
-  | inr (x, there_, its) ↦ subst (IsListed interfaces worlds i) (sym its) (has x i there_)
+pub listed_at : (interfaces : List Interface) (worlds : List World) (whose : TypeOwner) (table : Entries) → ((x : Name) (i : ℕ) (t : TypeDef) → Has table (x, i) → IsListedAt interfaces worlds i t whose) → (i : ℕ) (t : TypeDef) → IsListedIn whose table i t
+    → IsListed interfaces worlds i t
+listed_at interfaces worlds whose table has i t is = elim is as (λ _. IsListed interfaces worlds i t) [
+  | inl form ↦ subst (IsListedAt interfaces worlds i t) (sym form.1.owner) form
+  | inr (x, there_, its) ↦ subst (IsListedAt interfaces worlds i t) (sym its) (has x i t there_)
 ]
 
 -- ---- an interface
@@ -49,11 +52,11 @@ has_type t table fs d is x i has =
 
 -- the types that are brought in with an interface, which goes behind others, are listed in it
 module _ (k : KnownTypes) (a b : List TypeDef) (t : InterfaceText) (old new : List Interface) (worlds : List World) (table : Entries) (d : Interface) (makes : MakesInterface k a t (length old) b table d) (behind : new ≡ old ++ d ∷ []) where
-  here : (i : ℕ) (o : TypeOwner) → IsListedIn (belongs.Interface (length old)) table i o → IsListed new worlds i o
-  here = listed_at new worlds (belongs.Interface (length old)) table (λ x i has. (d, ap (λ (ds : List Interface). slice_get ds (length old)) behind ∙ get_last old d, has_type t table makes.functions d makes.is x i has))
+  here : (i : ℕ) (e : TypeDef) → IsListedIn (belongs.Interface (length old)) table i e → IsListed new worlds i e
+  here = listed_at new worlds (belongs.Interface (length old)) table (λ x i e has. (d, ap (λ (ds : List Interface). slice_get ds (length old)) behind ∙ get_last old d, has_type t table makes.functions d makes.is x i has))
 
   pub interface_listed : NewTypesAreListed new worlds a b
-  interface_listed i e at = elim (resolved_listed k (belongs.Interface (length old)) a b (types_of t.members) t.members table makes.functions makes.resolves i e at) as (λ _. (slice_get a i ≡ Some e) ⊎ IsListed new worlds i e.owner) [
+  interface_listed i e at = elim (resolved_listed k (belongs.Interface (length old)) a b (types_of t.members) t.members table makes.functions makes.resolves i e at) as (λ _. (slice_get a i ≡ Some e) ⊎ IsListed new worlds i e) [
     | inl was ↦ inl was
-    | inr is ↦ inr (here i e.owner is)
+    | inr is ↦ inr (here i e is)
   ]

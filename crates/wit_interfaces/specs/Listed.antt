@@ -10,7 +10,7 @@ use Rattle.wit_types.specs.declared.world.World.{World}
 use Rattle.wit_types.specs.declared.world.WorldItem.TheVariants as item
 use Rattle.wit_types.specs.declared.world_key.WorldKey.{WorldKey}
 use Rattle.wit_arena.specs.Meaning.{Has}
-use Rattle.wit_resolved_scopes.specs.Listed.{NewTypesBelong}
+use Rattle.wit_resolved_scopes.specs.Listed.{NewTypesBelong, IsForm}
 
 -- the interface has the type, under whatever name
 abbrev pub HasType : Interface → ℕ → Type 0
@@ -20,11 +20,14 @@ HasType d i = (x : String Global) × Has d.types.entries (x, i)
 abbrev pub ImportsType : World → ℕ → Type 0
 ImportsType d i = (k : WorldKey) × (s : Span) × Has d.imports.entries (k, item.TypeItem i s)
 
--- a type belongs nowhere, or to one of these interfaces that has it, or to one of these worlds that imports it
-abbrev pub IsListed : List Interface → List World → ℕ → TypeOwner → Type 0
-IsListed interfaces worlds i belongs.None = Unit {0}
-IsListed interfaces worlds i (belongs.Interface j) = (d : Interface) × (slice_get interfaces j ≡ Some d) × HasType d i
-IsListed interfaces worlds i (belongs.World w) = (d : World) × (slice_get worlds w ≡ Some d) × ImportsType d i
+-- a type that belongs nowhere is a form; another belongs to one of these interfaces that has it, or to one of these worlds that imports it
+abbrev pub IsListedAt : List Interface → List World → ℕ → TypeDef → TypeOwner → Type 0
+IsListedAt interfaces worlds i t belongs.None = IsForm t
+IsListedAt interfaces worlds i t (belongs.Interface j) = (d : Interface) × (slice_get interfaces j ≡ Some d) × HasType d i
+IsListedAt interfaces worlds i t (belongs.World w) = (d : World) × (slice_get worlds w ≡ Some d) × ImportsType d i
+
+abbrev pub IsListed : List Interface → List World → ℕ → TypeDef → Type 0
+IsListed interfaces worlds i t = IsListedAt interfaces worlds i t t.owner
 
 -- so does each type that is new in an arena
 abbrev pub NewTypesAreListed : List Interface → List World → List TypeDef → List TypeDef → Type 0

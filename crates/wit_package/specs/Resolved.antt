@@ -98,7 +98,7 @@ pub record IsResolved (files : List FileTree) (p : UnresolvedPackage) : Type 0 w
   pub own_worlds : List World
   pub worlds_are : p.worlds ≡ foreign_worlds ++ own_worlds
   pub own_worlds_are : AreWorldsIn (context_of me files items sorted) p.types (length foreign_worlds) (worlds_of sorted) own_worlds
-  -- each of its own types belongs nowhere, or to one of these, in which it stands
+  -- each of its own types is a form without a name that belongs nowhere, or belongs to one of these, in which it stands
   pub listed : NewTypesAreListed p.interfaces p.worlds unknown p.types
   -- of interfaces and worlds of other packages nothing is known but their names and where they are first asked for
   pub foreign_are : ArePlaceholders (files_need me files) items foreign_interfaces foreign_worlds

@@ -1,4 +1,4 @@
--- What is brought in with a scope belongs to it and is listed in it, or belongs nowhere.
+-- What is brought in with a scope belongs to it and is listed in it, or is a form that is made of other types.
 use Rattle.std.proofs.Common.{◌≡◌, ◌⊎◌, ℕ, List, [], ◌∷◌, ◌++◌, length, Option, Some, inl, inr, sym, subst}
 use Rattle.std.specs.Prelude.{slice_get}
 use Rattle.wit_words.specs.declared.source_map.Span.{Span}
@@ -7,7 +7,6 @@ use Rattle.wit_types.specs.declared.kind.TypeDefKind.{TypeDefKind}
 use Rattle.wit_types.specs.declared.function.Function.{Function}
 use Rattle.wit_types.specs.declared.interface.TypeDef.{TypeDef}
 use Rattle.wit_types.specs.declared.interface.TypeOwner.{TypeOwner}
-use Rattle.wit_types.specs.declared.interface.TypeOwner.TheVariants as belongs
 use Rattle.wit_productions.specs.TypeTree.{TypeTree, TypeShape, TypeOption}
 use Rattle.wit_items.specs.ItemTree.{TypeDefKindTree}
 use Rattle.wit_scopes.specs.Members.{MemberKind, MemberTree}
@@ -21,42 +20,42 @@ use Rattle.wit_arena.proofs.Lists.{get_more, has_left, has_right, has_here}
 use Rattle.wit_package_types.specs.Known.{KnownTypes}
 use Rattle.wit_package_types.specs.Fill.{GivesKind, gives_defined, gives_used, Defines, Fills, fills_none, fills_more}
 use Rattle.wit_resolved_scopes.specs.Scope.{AddsFunction, adds_function, passes_type, LowersFunctions, no_members, one_more}
-use Rattle.wit_resolved_scopes.specs.Listed.{NewTypesBelong, IsListedIn, ResolvedScopesListTheirTypes}
+use Rattle.wit_resolved_scopes.specs.Listed.{NewTypesBelong, IsForm, IsListedIn, ResolvedScopesListTheirTypes}
 
 -- ---- one arena behind the other
 
-module _ (May : ℕ → TypeOwner → Type 0) where
+module _ (May : ℕ → TypeDef → Type 0) where
   pub none_new : (a : List TypeDef) → NewTypesBelong May a a
   none_new a i d at = inl at
 
-  pub one_new : (a : List TypeDef) (d : TypeDef) → May (length a) d.owner → NewTypesBelong May a (a ++ d ∷ [])
-  one_new a d may i e at = elim (get_more a d e i at) as (λ _. (slice_get a i ≡ Some e) ⊎ May i e.owner) [
+  pub one_new : (a : List TypeDef) (d : TypeDef) → May (length a) d → NewTypesBelong May a (a ++ d ∷ [])
+  one_new a d may i e at = elim (get_more a d e i at) as (λ _. (slice_get a i ≡ Some e) ⊎ May i e) [
     | inl was ↦ inl was
-    | inr (is, same) ↦ inr (subst (λ (j : ℕ). May j e.owner) (sym is) (subst (λ (z : TypeDef). May (length a) z.owner) (sym same) may))
+    | inr (is, same) ↦ inr (subst (λ (j : ℕ). May j e) (sym is) (subst (May (length a)) (sym same) may))
   ]
 
 -- where each of two steps adds what may be added by both
-pub new_through : (First Second May : ℕ → TypeOwner → Type 0) (a b c : List TypeDef) → ((i : ℕ) (o : TypeOwner) → First i o → May i o) → ((i : ℕ) (o : TypeOwner) → Second i o → May i o)
+pub new_through : (First Second May : ℕ → TypeDef → Type 0) (a b c : List TypeDef) → ((i : ℕ) (d : TypeDef) → First i d → May i d) → ((i : ℕ) (d : TypeDef) → Second i d → May i d)
     → NewTypesBelong First a b → NewTypesBelong Second b c → NewTypesBelong May a c
-new_through First Second May a b c from_first from_second first second i d at = elim (second i d at) as (λ _. (slice_get a i ≡ Some d) ⊎ May i d.owner) [
-  | inl was ↦ elim (first i d was) as (λ _. (slice_get a i ≡ Some d) ⊎ May i d.owner) [ inl before ↦ inl before | inr may ↦ inr (from_first i d.owner may) ]
-  | inr may ↦ inr (from_second i d.owner may)
+new_through First Second May a b c from_first from_second first second i d at = elim (second i d at) as (λ _. (slice_get a i ≡ Some d) ⊎ May i d) [
+  | inl was ↦ elim (first i d was) as (λ _. (slice_get a i ≡ Some d) ⊎ May i d) [ inl before ↦ inl before | inr may ↦ inr (from_first i d may) ]
+  | inr may ↦ inr (from_second i d may)
 ]
 
 -- ---- types without names
 
-abbrev IsFree : ℕ → TypeOwner → Type 0
-IsFree i o = o ≡ belongs.None
+abbrev IsFree : ℕ → TypeDef → Type 0
+IsFree i d = IsForm d
 
 abbrev AddsFree : List TypeDef → List TypeDef → Type 0
 AddsFree a b = NewTypesBelong IsFree a b
 
 free_through : (a b c : List TypeDef) → AddsFree a b → AddsFree b c → AddsFree a c
-free_through a b c = new_through IsFree IsFree IsFree a b c (λ i o h. h) (λ i o h. h)
+free_through a b c = new_through IsFree IsFree IsFree a b c (λ i d h. h) (λ i d h. h)
 
 interned_free : (a b : List TypeDef) (k : ShapeTree) (s : Span) (r : Ref) → Interns a k s b r → AddsFree a b
 interned_free a b k s r (there i d at is same) = subst (AddsFree a) (sym same) (none_new IsFree a)
-interned_free a b k s r (fresh d is stands last none) = subst (AddsFree a) (sym last) (one_new IsFree a d is.owner)
+interned_free a b k s r (fresh d is stands last none) = subst (AddsFree a) (sym last) (one_new IsFree a d (k, is))
 
 module _ (table : Entries) where
   mutual
@@ -110,23 +109,23 @@ module _ (table : Entries) where
 
 module _ (k : KnownTypes) (whose : TypeOwner) where
   -- with one name more
-  listed_more : (table more : Entries) (i : ℕ) (o : TypeOwner) → IsListedIn whose table i o → IsListedIn whose (table ++ more) i o
-  listed_more table more i o is = elim is as (λ _. IsListedIn whose (table ++ more) i o) [ inl free ↦ inl free | inr (x, has, its) ↦ inr (x, has_left table more (x, i) has, its) ]
+  listed_more : (table more : Entries) (i : ℕ) (d : TypeDef) → IsListedIn whose table i d → IsListedIn whose (table ++ more) i d
+  listed_more table more i d is = elim is as (λ _. IsListedIn whose (table ++ more) i d) [ inl free ↦ inl free | inr (x, has, its) ↦ inr (x, has_left table more (x, i) has, its) ]
 
   defined_listed : (table : Entries) (b c : List TypeDef) (m : MemberTree) (i : ℕ) → Defines k table whose b m c i → NewTypesBelong (IsListedIn whose (table ++ (m.name.text, i) ∷ [])) b c
   defined_listed table b c m i d =
-      let Here : ℕ → TypeOwner → Type 0 = IsListedIn whose (table ++ (m.name.text, i) ∷ []) in
-      let own : Here (length d.before) d.def.owner = inr (m.name.text, subst (λ (j : ℕ). Has (table ++ (m.name.text, i) ∷ []) (m.name.text, j)) d.id_is (has_right table ((m.name.text, i) ∷ []) (m.name.text, i) (has_here (m.name.text, i) [])), d.is.owner) in
+      let Here : ℕ → TypeDef → Type 0 = IsListedIn whose (table ++ (m.name.text, i) ∷ []) in
+      let own : Here (length d.before) d.def = inr (m.name.text, subst (λ (j : ℕ). Has (table ++ (m.name.text, i) ∷ []) (m.name.text, j)) d.id_is (has_right table ((m.name.text, i) ∷ []) (m.name.text, i) (has_here (m.name.text, i) [])), d.is.owner) in
       subst (NewTypesBelong Here b) (sym d.last)
-      (new_through IsFree Here Here b d.before (d.before ++ d.def ∷ []) (λ j o free. inl free) (λ j o h. h) (given_free table k b d.before m.kind d.kind d.gives) (one_new Here d.before d.def own))
+      (new_through IsFree Here Here b d.before (d.before ++ d.def ∷ []) (λ j e free. inl free) (λ j e h. h) (given_free table k b d.before m.kind d.kind d.gives) (one_new Here d.before d.def own))
 
   filled_listed : (a b : List TypeDef) (ms : List MemberTree) (table : Entries) → Fills k whose a ms b table → NewTypesBelong (IsListedIn whose table) a b
   filled_listed a b ms table fills_none = none_new (IsListedIn whose []) a
   filled_listed a b ms table (fills_more ns m b2 c t i f d) =
-      let Here : ℕ → TypeOwner → Type 0 = IsListedIn whose (t ++ (m.name.text, i) ∷ []) in
-      new_through (IsListedIn whose t) Here Here a b2 c (listed_more t ((m.name.text, i) ∷ [])) (λ j o h. h) (filled_listed a b2 ns t f) (defined_listed t b2 c m i d)
+      let Here : ℕ → TypeDef → Type 0 = IsListedIn whose (t ++ (m.name.text, i) ∷ []) in
+      new_through (IsListedIn whose t) Here Here a b2 c (listed_more t ((m.name.text, i) ∷ [])) (λ j e h. h) (filled_listed a b2 ns t f) (defined_listed t b2 c m i d)
 
 pub resolved_listed : ResolvedScopesListTheirTypes
 resolved_listed k whose a b types ms table fs r =
-    let Here : ℕ → TypeOwner → Type 0 = IsListedIn whose table in
-    new_through Here IsFree Here a r.between b (λ i o h. h) (λ i o free. inl free) (filled_listed k whose a r.between r.types_are.sorted table r.types_are.fills) (functions_free table r.between b ms fs r.functions)
+    let Here : ℕ → TypeDef → Type 0 = IsListedIn whose table in
+    new_through Here IsFree Here a r.between b (λ i d h. h) (λ i d free. inl free) (filled_listed k whose a r.between r.types_are.sorted table r.types_are.fills) (functions_free table r.between b ms fs r.functions)

@@ -3,21 +3,26 @@ use Rattle.std.specs.Prelude.{◌≡◌, ◌⊎◌, ℕ, List, Some, slice_get}
 use Rattle.wit_types.specs.declared.function.Function.{Function}
 use Rattle.wit_types.specs.declared.interface.TypeDef.{TypeDef}
 use Rattle.wit_types.specs.declared.interface.TypeOwner.{TypeOwner}
-use Rattle.wit_types.specs.declared.interface.TypeOwner.TheVariants as belongs
 use Rattle.wit_scopes.specs.Members.{MemberTree}
 use Rattle.wit_arena.specs.Tree.{Name}
+use Rattle.wit_arena.specs.Shape.{ShapeTree}
+use Rattle.wit_arena.specs.Arena.{IsUnnamed}
 use Rattle.wit_arena.specs.Table.{Entries}
 use Rattle.wit_arena.specs.Meaning.{Has}
 use Rattle.wit_package_types.specs.Known.{KnownTypes}
 use Rattle.wit_resolved_scopes.specs.Scope.{ResolvesScope}
 
--- each type of an arena stood there before, or belongs where a new one at its place may
-abbrev pub NewTypesBelong : (ℕ → TypeOwner → Type 0) → List TypeDef → List TypeDef → Type 0
-NewTypesBelong May a b = (i : ℕ) (d : TypeDef) → slice_get b i ≡ Some d → (slice_get a i ≡ Some d) ⊎ May i d.owner
+-- each type of an arena stood there before, or is as a new one at its place may be
+abbrev pub NewTypesBelong : (ℕ → TypeDef → Type 0) → List TypeDef → List TypeDef → Type 0
+NewTypesBelong May a b = (i : ℕ) (d : TypeDef) → slice_get b i ≡ Some d → (slice_get a i ≡ Some d) ⊎ May i d
 
--- a type of a scope with this table belongs nowhere, or to the scope, and then the table has it
-abbrev pub IsListedIn : TypeOwner → Entries → ℕ → TypeOwner → Type 0
-IsListedIn whose table i o = (o ≡ belongs.None) ⊎ ((x : Name) × Has table (x, i) × (o ≡ whose))
+-- a form that is made of other types: it has no name, and belongs nowhere
+abbrev pub IsForm : TypeDef → Type 0
+IsForm d = (k : ShapeTree) × IsUnnamed k d
+
+-- a type of a scope with this table is a form, or belongs to the scope, and then the table has it
+abbrev pub IsListedIn : TypeOwner → Entries → ℕ → TypeDef → Type 0
+IsListedIn whose table i d = IsForm d ⊎ ((x : Name) × Has table (x, i) × (d.owner ≡ whose))
 
 -- so does each that is brought in with the scope
 abbrev pub ResolvedScopesListTheirTypes : Type 0

@@ -16,8 +16,8 @@ pub fn law_resolved_scopes_are_in_the_arena()
     ensures { ResolvedScopesAreIn }
 {}
 
-/// Each type that is brought into an arena with a scope belongs to it, and then its table has it, or belongs nowhere (WIT,
-/// Items).
+/// Each type that is brought into an arena with a scope belongs to it, and then its table has it, or is a form without a name
+/// that is made of other types and belongs nowhere (WIT, Items, Types).
 pub fn law_resolved_scopes_list_their_types()
     ensures { ResolvedScopesListTheirTypes }
 {}

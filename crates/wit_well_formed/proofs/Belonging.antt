@@ -20,7 +20,7 @@ use Rattle.wit_arena.proofs.Lists.{has_map, has_none}
 use Rattle.wit_foreign.specs.Items.{interfaces_in}
 use Rattle.wit_foreign.proofs.Numbers.{interface_below}
 use Rattle.wit_resolved_scopes.proofs.Orders.{listed}
-use Rattle.wit_interfaces.specs.Listed.{IsListed}
+use Rattle.wit_interfaces.specs.Listed.{IsListedAt}
 use Rattle.wit_reach.specs.Deps.{interface_of}
 use Rattle.wit_reach.specs.Holding.{listed_types}
 use Rattle.wit_package.specs.TopUses.{files_need}
@@ -50,7 +50,7 @@ module _ (files : List FileTree) (p : UnresolvedPackage) (r : Resolves files p) 
   looked_up rule at b = r.kept rule at (by_lookups s.me s.named b)
 
   -- all interfaces that are asked for are counted
-  counted : interfaces_in s.items ≤ (asked p).interfaces
+  pub counted : interfaces_in s.items ≤ (asked p).interfaces
   counted = interfaces_counted (files_need s.me files) s.items s.items_are (one_owner s.me (file_uses files) (package_scopes s.me files) looked_up) p.foreign_deps.entries p.foreign_dep_spans.items s.deps_are
 
   -- types of other packages belong to these
@@ -66,19 +66,19 @@ module _ (files : List FileTree) (p : UnresolvedPackage) (r : Resolves files p) 
       let below = interface_below (files_need s.me files) s.items s.items_are e.0.0.0 known.interface known.item in
       omega (arith, below, number)
 
-  stands : (i j : ℕ) (d : Interface) → slice_get p.interfaces j ≡ Some d → IsListed p.interfaces p.worlds i (belongs.Interface j) → order.Has (listed_types d) i
-  stands i j d at (f, at_f, (x, has)) =
+  stands : (i j : ℕ) (t : TypeDef) (d : Interface) → slice_get p.interfaces j ≡ Some d → IsListedAt p.interfaces p.worlds i t (belongs.Interface j) → order.Has (listed_types d) i
+  stands i j t d at (f, at_f, (x, has)) =
       let one : f ≡ d = same_Some f d (sym at_f ∙ at) in
       subst (λ (z : Interface). order.Has (listed_types z) i) one (listed (listed_types f) i (has_map (λ (e : String Global × ℕ). e.1) f.types.entries (x, i) has))
 
   own : (i k : ℕ) (d : Interface) (t : TypeDef) → slice_get (drop (asked p).interfaces p.interfaces) k ≡ Some d → slice_get p.types i ≡ Some t → t.owner ≡ belongs.Interface ((asked p).interfaces + k) → order.Has (listed_types d) i
   own i k d t at at_t of = elim (s.listed i t at_t) as (λ _. order.Has (listed_types d) i) [
     | inl unknown ↦ absurd (let below = other i ((asked p).interfaces + k) t unknown of in omega (arith, below, counted))
-    | inr is ↦ stands i ((asked p).interfaces + k) d (get_drop (asked p).interfaces p.interfaces k d at) (subst (IsListed p.interfaces p.worlds i) of is)
+    | inr is ↦ stands i ((asked p).interfaces + k) t d (get_drop (asked p).interfaces p.interfaces k d at) (subst (IsListedAt p.interfaces p.worlds i t) of is)
   ]
 
   -- no more are counted
-  no_more : (asked p).interfaces ≤ interfaces_in s.items
+  pub no_more : (asked p).interfaces ≤ interfaces_in s.items
   no_more = interfaces_few (files_need s.me files) s.items s.items_are p.foreign_deps.entries p.foreign_dep_spans.items s.deps_are
 
   -- one of another package has no types
@@ -99,7 +99,7 @@ module _ (files : List FileTree) (p : UnresolvedPackage) (r : Resolves files p) 
         let places : asked_types p ≡ length s.names = s.unknown_are.so_many_spans in
         omega (arith, within, types, places))
     | inr is ↦ elim (cases_lt j (asked p).interfaces) as (λ _. (asked p).interfaces ≤ j) [
-      | inl less ↦ absurd (let h = subst (IsListed p.interfaces p.worlds (asked_types p + k)) of is in none_stand j h.0 h.1 less (h.2.0, asked_types p + k) h.2.1)
+      | inl less ↦ absurd (let h = subst (IsListedAt p.interfaces p.worlds (asked_types p + k) t) of is in none_stand j h.0 h.1 less (h.2.0, asked_types p + k) h.2.1)
       | inr past ↦ past
     ]
   ]

@@ -15,3 +15,11 @@ mod Numbers
 mod Few
 mod Names
 mod Belonging
+mod New
+mod Labels
+mod Parameters
+mod NamesWithin
+mod PlainNames
+mod PlainTexts
+mod OffsetNames
+mod InterfaceNames

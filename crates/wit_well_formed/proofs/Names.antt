@@ -132,7 +132,7 @@ module _ (c : Context) (a : List TypeDef) (t : InterfaceText) (id : ℕ) (d : In
 -- ---- all of a package
 
 -- members of each interface of a package that keeps its rules keep theirs
-text_keeps : (scopes sorted : List ItemScope) → IsKept (ScopesBreak scopes) → AreItemsSorted scopes sorted → (t : InterfaceText) → Has (interface_texts sorted) t → IsKept (MembersBreak t.members)
+pub text_keeps : (scopes sorted : List ItemScope) → IsKept (ScopesBreak scopes) → AreItemsSorted scopes sorted → (t : InterfaceText) → Has (interface_texts sorted) t → IsKept (MembersBreak t.members)
 text_keeps scopes sorted kept are t (k, at) = elim (get_either (map interface_text (interfaces_of sorted)) (flat_map labelled_texts (worlds_of sorted)) k t at) as (λ _. IsKept (MembersBreak t.members)) [
   | inl named ↦
       let i = map_has interface_text (interfaces_of sorted) t (k, named) in
@@ -148,7 +148,7 @@ module _ (files : List FileTree) (p : UnresolvedPackage) (r : Resolves files p) 
   abbrev s : IsResolved files p
   s = r.resolved
 
-  scopes_keep : IsKept (ScopesBreak (package_scopes s.me files))
+  pub scopes_keep : IsKept (ScopesBreak (package_scopes s.me files))
   scopes_keep = declared_kept files s.me (package_scopes s.me files) (record { named = s.named; scopes_are = refl; kept = λ rule at b. r.kept rule at (by_files b) })
 
   each_apart : (k : ℕ) (d : Interface) → slice_get p.interfaces k ≡ Some d → HasNamesApart d

@@ -42,7 +42,7 @@ use Rattle.wit_well_formed.proofs.Lists.{got_mapped, got_behind}
 same_length : {X : Type 0} (g : X → X) (v : Vec X Global) → length (items_by g v).items ≡ length v.items
 same_length g v = sym (items_by g v).ok.0 ∙ v.ok.0
 
-items_are : {X : Type 0} (g : X → X) (v : Vec X Global) → (items_by g v).items ≡ map g v.items
+pub items_are : {X : Type 0} (g : X → X) (v : Vec X Global) → (items_by g v).items ≡ map g v.items
 items_are g v = with_items_is v (map g v.items) (length-map v.items g ∙ sym v.ok.0)
 
 module _ (f : Span → Span) where

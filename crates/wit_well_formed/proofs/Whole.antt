@@ -107,7 +107,7 @@ module _ (files : List FileTree) (p : UnresolvedPackage) (r : Resolves files p) 
   all_needed : (n : NeedTree) → Has (needs_in (package_scopes r.resolved.me files)) n → Has (files_need r.resolved.me files) n
   all_needed n has = has_right (files_top_needs r.resolved.me (needs_in (package_scopes r.resolved.me files)) (file_uses files)) (needs_in (package_scopes r.resolved.me files)) n has
 
-  ready : AreReadyInOrder (package_scopes r.resolved.me files) r.resolved.sorted (others_of r.resolved.items r.resolved.names)
+  pub ready : AreReadyInOrder (package_scopes r.resolved.me files) r.resolved.sorted (others_of r.resolved.items r.resolved.names)
   ready =
       let s = r.resolved in
       packages_are_ready files s.me (package_scopes s.me files) s.sorted (others_of s.items s.names) declared looked_up s.are_sorted

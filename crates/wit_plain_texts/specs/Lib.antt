@@ -1,0 +1,4 @@
+pub mod Plain
+pub mod Trees
+pub mod Law
+pub mod Scopes
