@@ -1,7 +1,7 @@
-mod Keeping
-mod Readying
+pub mod Keeping
+pub mod Readying
 mod Refusing
-mod Finishing
+pub mod Finishing
 mod Closing
 pub mod Depending
 mod Rising

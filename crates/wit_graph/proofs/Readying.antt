@@ -44,7 +44,7 @@ map_long f (x ∷ xs) = (let e = map_long f xs in omega (arith, e))
 module _ (features : FeatureSet) (owner : ℕ) (t : Items) (foreign : OwnerPlaces) (p : Parts) (owners : OwnerPlaces) (places : Places) (r : IsReady features t foreign p owners places) (types : List TypeDef)
     (a : AreTypesAdded owners places (length p.unknown) p.types t.types types) (found : FoundTypesAreThere) (backward : MovedTypesAreBackward)
   where
-    abbrev others : Places
+    abbrev pub others : Places
     others = found_of t.interfaces.all foreign p
 
     others_long : length others ≡ length p.unknown
@@ -72,7 +72,7 @@ module _ (features : FeatureSet) (owner : ℕ) (t : Items) (foreign : OwnerPlace
         (take_places : InterfacesTakePlaces) (belong : MovedTypesBelong) (hold : MovedInterfacesHoldTheirTypes) (are_there : MovedInterfacesAreThere)
         (kept : IsKept (AnyOf (InterfaceBreaks features (standing owners places)) p.interfaces))
       where
-        behind : AreBehind features owners (standing owners places) owner p.unknown p.types t.types a.defs others p.interfaces b.moved foreign.interfaces (length t.interfaces.all)
+        pub behind : AreBehind features owners (standing owners places) owner p.unknown p.types t.types a.defs others p.interfaces b.moved foreign.interfaces (length t.interfaces.all)
         behind = record {
           so_many = others_long;
           others_within = others_within;
@@ -89,7 +89,7 @@ module _ (features : FeatureSet) (owner : ℕ) (t : Items) (foreign : OwnerPlace
         all_long : length i.all ≡ length t.interfaces.all + length b.moved
         all_long = ap (λ (ds : List Interface). length ds) b.added.all_are ∙ length-append t.interfaces.all b.moved
 
-        moved_there : (d : Interface) → Has b.moved d → IsInterfaceThere types d
+        pub moved_there : (d : Interface) → Has b.moved d → IsInterfaceThere types d
         moved_there d h = are_there features (standing owners places) owner types p.interfaces b.moved types_below kept b.are_moved d h
 
         was_there : (d : Interface) → Has t.interfaces.all d → IsInterfaceThere types d
@@ -106,7 +106,7 @@ module _ (features : FeatureSet) (owner : ℕ) (t : Items) (foreign : OwnerPlace
             (rows_append types t.interfaces.all b.moved t.interfaces.uses b.added.rows
             (subst (λ (ds : List TypeDef). AreRows ds t.interfaces.all t.interfaces.uses) (sym a.types_are) (rows_kept t.types a.defs r.whole.sound.backward t.interfaces.all t.interfaces.uses r.whole.interfaces_are r.whole.rows)) b.added.are_rows))
 
-        holds : HoldTheirTypes 0 types i.all
+        pub holds : HoldTheirTypes 0 types i.all
         holds =
             subst (HoldTheirTypes 0 types) (sym b.added.all_are)
             (subst (λ (ds : List TypeDef). HoldTheirTypes 0 ds (t.interfaces.all ++ b.moved)) (sym a.types_are)

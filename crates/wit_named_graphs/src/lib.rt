@@ -1,0 +1,6 @@
+//! Laws: the items of a graph are named with a package that was added to it.
+#![tactic(auto)]
+
+mod law;
+
+pub use law::{law_added_items_are_named, law_pushed_graphs_are_named};
