@@ -1,5 +1,6 @@
 -- What is known behind definitions: as many of each sort as index spaces have.
-use Rattle.std.proofs.Common.{◌≡◌, ◌<◌, ℕ, ◌+◌, Bool, false, ◌&&◌, List, [], ◌∷◌, ◌++◌, length, Option, Some, refl, sym, ap, subst, ◌∙◌, arith, true, zero, suc}
+use Rattle.std.proofs.Common.{◌≡◌, ◌<◌, ℕ, ◌+◌, Bool, List, [], ◌∷◌, ◌++◌, length, Option, Some, refl, sym, ap, subst, ◌∙◌, arith, true, zero, suc}
+use Rattle.std.proofs.lemmas.Bool.{and_parts}
 use Rattle.std.proofs.lemmas.Option.{slice_get_within}
 use Rattle.std.specs.Prelude.{slice_get, option_and_then, string_bytes}
 use Rattle.binary_grammar.specs.Several.{grown}
@@ -7,12 +8,14 @@ use Rattle.distinct_names.specs.Names.{is_new, with_name, all_new}
 use Rattle.wit_types.specs.declared.function.Function.{Function}
 use Rattle.wasm_types.specs.declared.types.ExportKind.TheVariants as kinds
 use Rattle.component_entries.specs.Entries.{DefinedValue, nothing}
-use Rattle.component_sections.specs.Component.{DefinitionValue, with_definition, exports_behind, Follows, Follow}
+use Rattle.component_sections.specs.Component.{DefinitionValue, with_definition, exports_behind, Follows}
+use Rattle.type_sinks.proofs.Placed.{follow_push, named}
 use Rattle.component_builder.specs.Builder.{with_space}
 use Rattle.component_meaning.specs.Core.{MainModule, CoreItem}
 use Rattle.component_meaning.specs.Spaces.{meaning, core_at}
 use Rattle.component_encoding.specs.Growing.{IsMainInstance}
-use Rattle.component_encoding.specs.Placing.{ArePlaced, known_behind, names_exported, StayPlaced, StayPlacedWith, function_names}
+use Rattle.component_imports.specs.Functions.{function_names}
+use Rattle.component_encoding.specs.Placing.{ArePlaced, known_behind, names_exported, StayPlaced, StayPlacedWith}
 use Rattle.component_encoding.proofs.Counts.{Lengths, counted, lengths, counts}
 
 -- ---- counts
@@ -49,10 +52,6 @@ module _ (main : MainModule) (ds : List DefinitionValue) where
       omega (arith, below, same)
 
 -- ---- one more
-
-follow_push : (k : DefinedValue) (ds : List DefinitionValue) (d : DefinitionValue) → Follow k ds → Follows (grown with_definition k ds) d → Follow k (ds ++ d ∷ [])
-follow_push k [] d h one = (one, tt)
-follow_push k (x ∷ ds) d h one = (h.0, follow_push (with_definition k x) ds d h.1 one)
 
 pub placed_with : (ds new : List DefinitionValue) (d : DefinitionValue) → new ≡ ds ++ d ∷ [] → Follows (known_behind ds) d → ArePlaced ds → ArePlaced new
 placed_with ds new d same one h = subst ArePlaced (sym same) (follow_push nothing ds d h one)
@@ -95,18 +94,10 @@ others_at [] n f at = absurd cc
 others_at (g ∷ gs) zero f at = (let same : g ≡ f = cc in ap (λ x. x ∷ gs) same)
 others_at (g ∷ gs) (suc n) f at = (let same : suc (n + 1) ≡ suc n + 1 = omega arith in others_at gs n f at ∙ ap (λ k. f ∷ others k (g ∷ gs)) same)
 
-named : (names : List (List ℕ)) (n : List ℕ) → is_new names n ≡ true → with_name names n ≡ names ++ n ∷ []
-named names n new = rw new refl
-
-both : (a b : Bool) → (a && b) ≡ true → (a ≡ true) × (b ≡ true)
-both true true h = (refl, refl)
-both true false h = absurd cc
-both false b h = absurd cc
-
 pub placed_next : (start old new : List DefinitionValue) (fs : List Function) (n : ℕ) (f : Function) → slice_get fs n ≡ Some f → StayPlacedTo start old fs n → StayPlacedWith old new (string_bytes f.name) → StayPlacedTo start new fs (n + 1)
 placed_next start old new fs n f at was one differ placed =
     let before = was differ placed in
-    let split = both (is_new (names_exported old) (string_bytes f.name)) (all_new (names_exported old ++ string_bytes f.name ∷ []) (function_names (others (n + 1) fs))) (ap (λ gs. all_new (names_exported old) (function_names gs)) (sym (others_at fs n f at)) ∙ before.0) in (
+    let split = and_parts (is_new (names_exported old) (string_bytes f.name)) (all_new (names_exported old ++ string_bytes f.name ∷ []) (function_names (others (n + 1) fs))) (ap (λ gs. all_new (names_exported old) (function_names gs)) (sym (others_at fs n f at)) ∙ before.0) in (
       ap (λ ns. all_new ns (function_names (others (n + 1) fs))) (one.names ∙ named (names_exported old) (string_bytes f.name) split.0) ∙ split.1,
       one.placed split.0 before.1,
     )

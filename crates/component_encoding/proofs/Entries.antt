@@ -10,12 +10,10 @@ use Rattle.component_entries.specs.declared.entry.Entry.{Entry}
 use Rattle.component_entries.specs.Entries.{EntryValue, entry_value, an_alias, a_type, an_import, an_export}
 use Rattle.component_sections.specs.Component.{DefinitionValue, an_entry}
 use Rattle.type_meaning.specs.Scope.{Scope, no_scope, joined as scopes_joined, adds as scope_adds, after as scope_after, meaning as scope_meaning}
+use Rattle.type_sinks.specs.Placing.{as_definitions}
 use Rattle.component_meaning.specs.Core.{MainModule}
 use Rattle.component_meaning.specs.Spaces.{Spaces, no_spaces, core_entry, core_again, core_alias, adds, after, meaning}
 use Rattle.component_meaning.proofs.Staying.{spaces_end}
-
-abbrev pub entry_definitions : List EntryValue → List DefinitionValue
-entry_definitions es = map (λ e. an_entry e) es
 
 -- beside what is in the scope an entry adds core items alone
 record AddsNone (s : Spaces) : Type 0 where
@@ -53,7 +51,7 @@ pub record AreOfEntries (s : Spaces) (es : List EntryValue) (before : Scope) : T
   pub modules : s.modules ≡ []
   pub instances : s.core_instances ≡ []
 
-entries_from : (main : MainModule) (s : Spaces) (es : List EntryValue) → s.modules ≡ [] → s.core_instances ≡ [] → AreOfEntries (fold (after main) s (entry_definitions es)) es s.scope
+entries_from : (main : MainModule) (s : Spaces) (es : List EntryValue) → s.modules ≡ [] → s.core_instances ≡ [] → AreOfEntries (fold (after main) s (as_definitions es)) es s.scope
 entries_from main s [] modules instances = record { scope = refl; modules = modules; instances = instances }
 entries_from main s (e ∷ es) modules instances =
     let none = of_entry s e in
@@ -62,19 +60,19 @@ entries_from main s (e ∷ es) modules instances =
     let rest = entries_from main next es ((λ i. modules i ++ none.modules i)) ((λ i. instances i ++ none.instances i)) in
     record { scope = rest.scope ∙ ap (λ t. fold scope_after t es) scope; modules = rest.modules; instances = rest.instances }
 
-pub are_of_entries : (main : MainModule) (es : List EntryValue) → AreOfEntries (meaning main (entry_definitions es)) es no_scope
+pub are_of_entries : (main : MainModule) (es : List EntryValue) → AreOfEntries (meaning main (as_definitions es)) es no_scope
 unfolding meaning
 are_of_entries main es = entries_from main no_spaces es refl refl
 
-pub entry_scope : (main : MainModule) (es : List EntryValue) → (meaning main (entry_definitions es)).scope ≡ scope_meaning es
+pub entry_scope : (main : MainModule) (es : List EntryValue) → (meaning main (as_definitions es)).scope ≡ scope_meaning es
 unfolding scope_meaning
 entry_scope main es = (are_of_entries main es).scope
 
 -- one more
-pub entry_next : (start old new : List DefinitionValue) (xs : List Entry) (x : Entry) → old ≡ start ++ entry_definitions (map entry_value xs) → new ≡ old ++ an_entry (entry_value x) ∷ [] → new ≡ start ++ entry_definitions (map entry_value (xs ++ x ∷ []))
+pub entry_next : (start old new : List DefinitionValue) (xs : List Entry) (x : Entry) → old ≡ start ++ as_definitions (map entry_value xs) → new ≡ old ++ an_entry (entry_value x) ∷ [] → new ≡ start ++ as_definitions (map entry_value (xs ++ x ∷ []))
 entry_next start old new xs x was added =
     added
     ∙ ap (λ l. l ++ an_entry (entry_value x) ∷ []) was
-    ∙ append_assoc start (entry_definitions (map entry_value xs)) (an_entry (entry_value x) ∷ [])
+    ∙ append_assoc start (as_definitions (map entry_value xs)) (an_entry (entry_value x) ∷ [])
     ∙ ap (λ l. start ++ l) (sym (map-append (λ e. an_entry e) (map entry_value xs) (entry_value x ∷ [])))
-    ∙ ap (λ l. start ++ entry_definitions l) (sym (map-append entry_value xs (x ∷ [])))
+    ∙ ap (λ l. start ++ as_definitions l) (sym (map-append entry_value xs (x ∷ [])))

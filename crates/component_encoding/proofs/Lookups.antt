@@ -1,6 +1,6 @@
 -- What the main module is given, by looking up.
 use Rattle.std.proofs.Common.{◌≡◌, ℕ, zero, suc, ◌+◌, ◌<◌, List, [], ◌∷◌, ◌++◌, length, Bool, true, false, Option, Some, None, refl, sym, ap, ◌∙◌, arith, inl, inr}
-use Rattle.std.proofs.lemmas.Bool.{cases_Bool}
+use Rattle.std.proofs.lemmas.Bool.{cases_Bool, and_parts}
 use Rattle.std.proofs.lemmas.Slice.Eq.{bytes_eq-Decides}
 use Rattle.std.specs.Prelude.{slice_get, option_map, bytes_eq, ◌&&◌, if◌then◌else◌}
 use Rattle.wasm_types.specs.declared.types.ExportKind.TheVariants.{Func}
@@ -116,10 +116,6 @@ given_next base is us i n at h q m =
 pair_itself : (i : ImportValue) → is_pair i.place i.name i ≡ true
 pair_itself i = (λ k. (bytes_eq-Decides i.place i.place).1 refl k && (bytes_eq-Decides i.name i.name).1 refl k)
 
-both_true : (a b : Bool) → (a && b) ≡ true → (a ≡ true) × (b ≡ true)
-both_true true b e = (refl, e)
-both_true false b e = absurd cc
-
 -- behind others that have another pair
 first_at : (n : ℕ) (is : List ImportValue) (k : ℕ) (i : ImportValue) → ((j : ℕ) (x : ImportValue) → j < k → slice_get is j ≡ Some x → is_pair i.place i.name x ≡ true → ⊥) → slice_get is k ≡ Some i → first_from n is i.place i.name ≡ Some (n + k)
 first_at n [] k i apart at = absurd cc
@@ -136,7 +132,7 @@ first_at n (x ∷ xs) (suc k) i apart at = elim (cases_Bool (is_pair i.place i.n
 
 pub first_is : (n : ℕ) (is : List ImportValue) (k : ℕ) (i : ImportValue) → (RepeatsPair is → ⊥) → slice_get is k ≡ Some i → first_from n is i.place i.name ≡ Some (n + k)
 first_is n is k i once at = first_at n is k i (λ j x lt there same. (
-    let both = both_true (bytes_eq i.place x.place) (bytes_eq i.name x.name) same in
+    let both = and_parts (bytes_eq i.place x.place) (bytes_eq i.name x.name) same in
     once (record {
       first = j;
       second = k;

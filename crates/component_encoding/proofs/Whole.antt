@@ -32,8 +32,10 @@ use Rattle.component_encoding.specs.Growing.{IsMainInstance}
 use Rattle.component_encoding.specs.Instances.{AreLowerable, IsInstantiated}
 use Rattle.component_encoding.specs.Exports.{IsEntryOffered, AreTypes, AreExported}
 use Rattle.component_encoding.specs.Component.{ArePlacedBehind}
-use Rattle.component_encoding.specs.Placing.{ArePlaced, names_exported, StayPlaced, StayPlacedWithAll, function_names}
-use Rattle.component_encoding.proofs.Entries.{entry_definitions, entry_scope, are_of_entries}
+use Rattle.component_imports.specs.Functions.{function_names}
+use Rattle.component_encoding.specs.Placing.{ArePlaced, names_exported, StayPlaced, StayPlacedWithAll}
+use Rattle.type_sinks.specs.Placing.{as_definitions}
+use Rattle.component_encoding.proofs.Entries.{entry_scope, are_of_entries}
 use Rattle.component_encoding.proofs.Growth.{grows}
 use Rattle.component_encoding.proofs.Lowerable.{are_lowerable}
 use Rattle.component_encoding.proofs.Offered.{entries_offered}
@@ -53,11 +55,11 @@ are_types l names scope s fs lifts are same = each_of _ lifts (λ ty has.
     (written (root_label names) stands.0, ap (λ (z : Scope). type_at is_function z.types ty) same ∙ stands.2))
 
 -- entries that export nothing
-none_exported : (es : List EntryValue) → EntriesArePlaced es → (scope_meaning es).exports ≡ [] → names_exported (entry_definitions es) ≡ []
+none_exported : (es : List EntryValue) → EntriesArePlaced es → (scope_meaning es).exports ≡ [] → names_exported (as_definitions es) ≡ []
 none_exported es placed none = ap (λ (k : DefinedValue). k.exports) (known es placed) ∙ ap entry_names none
 
 pub whole : (flat : UnfoldedFunctionsAreFlat) (keep : WrittenTreesKeepCoreTypes) (l : Linking) (names : InterfaceNames) (bytes : List ℕ) (t : Table) (es : List EntryValue) (first second last : List DefinitionValue) (lowers lifts : List ℕ) (instance : ℕ)
-    → IsTable l t → AreTypesBackward (types_of l) → AreInterfaceNames l.names names → AreImportsWritten l t names (scope_meaning es) lowers lifts → first ≡ entry_definitions es → Begins second last
+    → IsTable l t → AreTypesBackward (types_of l) → AreInterfaceNames l.names names → AreImportsWritten l t names (scope_meaning es) lowers lifts → first ≡ as_definitions es → Begins second last
     → (AreLowerable (main_of bytes l.main) (meaning (main_of bytes l.main) first) lowers → IsInstantiated (main_of bytes l.main) (meaning (main_of bytes l.main) first) (meaning (main_of bytes l.main) second) lowers instance)
     → (Each (IsEntryOffered l (main_of bytes l.main)) t.exports → IsMainInstance (main_of bytes l.main) (meaning (main_of bytes l.main) second) instance → AreTypes (meaning (main_of bytes l.main) second) lifts
     → AreExported l (meaning (main_of bytes l.main) second) (meaning (main_of bytes l.main) last) t.exports lifts × StayPlacedWithAll second last (exported_functions l.names.world))

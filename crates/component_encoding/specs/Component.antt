@@ -11,7 +11,8 @@ use Rattle.right_components.specs.Main.{main_of}
 use Rattle.right_components.specs.Right.{IsRightFor}
 use Rattle.type_sinks.specs.Placing.{ArePlaced as EntriesArePlaced}
 use Rattle.linked_imports.specs.Imports.{AreNeeded, AreListed, AreNamed}
-use Rattle.component_encoding.specs.Placing.{ArePlaced, function_names}
+use Rattle.component_imports.specs.Functions.{function_names}
+use Rattle.component_encoding.specs.Placing.{ArePlaced}
 
 -- items are known by their names, and whatever the table needs, the world lists what that is made of
 pub record AreNeededListed (l : Linking) (world : ℕ) : Type 0 where

@@ -1,9 +1,10 @@
 -- Where definitions may stand: behind those of which their indices speak, and under names that are new (Component Model Binary, Component
 -- Definitions).
-use Rattle.std.specs.Prelude.{◌≡◌, ℕ, List, map, true, string_bytes}
+use Rattle.std.specs.Prelude.{◌≡◌, ℕ, List, true}
 use Rattle.binary_grammar.specs.Several.{grown}
 use Rattle.distinct_names.specs.Names.{is_new, with_name, all_new}
 use Rattle.wit_types.specs.declared.function.Function.{Function}
+use Rattle.component_imports.specs.Functions.{function_names}
 use Rattle.component_entries.specs.Entries.{DefinedValue, nothing}
 use Rattle.component_sections.specs.Component.{DefinitionValue, with_definition, Follow}
 
@@ -27,10 +28,6 @@ pub record StayPlaced (old new : List DefinitionValue) : Type 0 where
 pub record StayPlacedWith (old new : List DefinitionValue) (name : List ℕ) : Type 0 where
   pub placed : is_new (names_exported old) name ≡ true → ArePlaced old → ArePlaced new
   pub names : names_exported new ≡ with_name (names_exported old) name
-
--- the names of functions
-abbrev pub function_names : List Function → List (List ℕ)
-function_names fs = map (λ (f : Function). string_bytes f.name) fs
 
 -- so they are where functions are exported under their names, if these differ
 abbrev pub StayPlacedWithAll : List DefinitionValue → List DefinitionValue → List Function → Type 0

@@ -2,10 +2,9 @@
 
 ghost use Rattle.std.specs.Prelude.{◌≡◌, ◌++◌, [], length, map, string_bytes, IfOk, IfErr, OnOk, true};
 ghost use Rattle.component_entries.specs.Entries.{entry_value};
-ghost use Rattle.component_imports.specs.Functions.{functions_of};
+ghost use Rattle.component_imports.specs.Functions.{functions_of, function_names};
 ghost use Rattle.component_imports.specs.Interfaces.{EarlierAreApart};
 ghost use Rattle.component_meaning.specs.Spaces.{meaning};
-ghost use Rattle.component_sections.specs.Component.{an_entry};
 ghost use Rattle.linked_imports.specs.Imports as imported;
 ghost use Rattle.link_table.specs.Linking.{linking_value, types_of, exported_functions as functions_exported, AreFunctionsThere};
 ghost use Rattle.link_table.specs.View.{IsTableOf};
@@ -13,6 +12,7 @@ ghost use Rattle.right_components.specs.Main.{main_of};
 ghost use Rattle.right_components.specs.Outside.{AreInterfaceNames};
 ghost use Rattle.right_components.specs.Right.{IsRightFor};
 ghost use Rattle.type_meaning.specs.Scope.{meaning as scope_meaning};
+ghost use Rattle.type_sinks.specs.Placing.{as_definitions};
 ghost use Rattle.type_sinks.specs.Root.{InterfaceNames};
 ghost use Rattle.type_writing.specs.Refusals.{IsCause};
 ghost use Rattle.wit_reach.specs.Lists.{AreOwnersThere};
@@ -48,7 +48,7 @@ fn add_entries<'e>(
     builder: &mut ComponentBuilder<'e>,
     entries: Vec<Entry<'e>>,
 ) -> Result<(), WriteFault>
-    ensures { OnOk result (builder.new ≡ builder.old ++ map (λ e. an_entry e) (map entry_value entries.entry.items)) }
+    ensures { OnOk result (builder.new ≡ builder.old ++ as_definitions (map entry_value entries.entry.items)) }
 {
     for entry in entries {
         builder.add(Definition::Entry(entry))?;
@@ -110,7 +110,7 @@ pub fn component_of<'e>(
     requires owners { AreOwnersThere (length (linking_value linking.now).names.known.interfaces) (types_of (linking_value linking.now)) }
     requires apart { EarlierAreApart (types_of (linking_value linking.now)) }
     ensures right { (is : IsTableOf (linking_value linking.entry.now) table.now) → spec.AreNeededListed (linking_value linking.entry.now) world → IfOk result (λ b. IsRightFor (linking_value linking.entry.now) bytes.entry.now is.table (meaning (main_of bytes.entry.now (linking_value linking.entry.now).main) b)) }
-    ensures placed { imported.ArePartsApart (linking_value linking.entry.now) → all_new [] (placing.function_names (functions_exported (linking_value linking.entry.now).names.world)) ≡ true → IfOk result placing.ArePlaced }
+    ensures placed { imported.ArePartsApart (linking_value linking.entry.now) → all_new [] (function_names (functions_exported (linking_value linking.entry.now).names.world)) ≡ true → IfOk result placing.ArePlaced }
     ensures importable { imported.IsImportable (linking_value linking.entry.now) world (map string_bytes names.entry.now) → IfErr result (IsCause ⊥ (Unit {0})) }
 {
     let exported = exported_functions(alloc, linking.names.world)?;
@@ -147,7 +147,7 @@ pub fn encode<'e>(
     requires there { AreFunctionsThere (linking_value linking.now).names }
     requires owners { AreOwnersThere (length (linking_value linking.now).names.known.interfaces) (types_of (linking_value linking.now)) }
     requires apart { EarlierAreApart (types_of (linking_value linking.now)) }
-    ensures right { (is : IsTableOf (linking_value linking.entry.now) table.now) → spec.AreNeededListed (linking_value linking.entry.now) world → imported.ArePartsApart (linking_value linking.entry.now) → all_new [] (placing.function_names (functions_exported (linking_value linking.entry.now).names.world)) ≡ true → IfOk result (λ v. spec.IsEncoding (linking_value linking.entry.now) bytes.entry.now is.table v.items) }
+    ensures right { (is : IsTableOf (linking_value linking.entry.now) table.now) → spec.AreNeededListed (linking_value linking.entry.now) world → imported.ArePartsApart (linking_value linking.entry.now) → all_new [] (function_names (functions_exported (linking_value linking.entry.now).names.world)) ≡ true → IfOk result (λ v. spec.IsEncoding (linking_value linking.entry.now) bytes.entry.now is.table v.items) }
     ensures importable { imported.IsImportable (linking_value linking.entry.now) world (map string_bytes names.entry.now) → IfErr result (IsCause ⊥ (Unit {0})) }
 {
     let component = component_of(alloc, linking, table, world, names, bytes)?;

@@ -25,7 +25,7 @@ pub struct ExportLink {
     pub options: LinkOptions,
 }
 
-/// The function that a world exports itself at a place; none where it's something else.
+/// The function that a world exports itself at a place among its exports, which has to be there; none where it's something else (WIT, Item: `world`).
 pub fn exported_function(world: &World, entry: usize) -> Option<&Function>
     requires { entry < length world.now.exports.entries }
     ensures { option_map (λ f. f.now) result ≡ option_and_then (λ e. function_at e.1) (slice_get world.entry.now.exports.entries entry) }

@@ -12,7 +12,7 @@ mod lookup;
 mod options;
 mod table;
 
-pub use exports::ExportLink;
+pub use exports::{ExportLink, exported_function};
 pub use fault::TableFault;
 pub use law::law_tables_are_one;
 pub use linking::Linking;

@@ -1,12 +1,12 @@
 //! What the component imports.
 
-ghost use Rattle.std.specs.Prelude.{◌≡◌, ◌<◌, ◌+◌, ◌++◌, ℕ, List, Option, length, map, slice_get, option_map, option_and_then, string_bytes, IfOk, IfErr, Some, None};
+ghost use Rattle.std.specs.Prelude.{◌≡◌, ◌<◌, ◌+◌, ◌++◌, ℕ, List, Option, length, map, slice_get, string_bytes, IfOk, IfErr, Some, None};
 ghost use Rattle.component_entries.specs.Entries.{entry_value};
 ghost use Rattle.component_imports.specs.Functions.{functions_of, function_names};
 ghost use Rattle.component_imports.specs.Interfaces.{ids_of, linked_of, asked, EarlierAreApart};
 ghost use Rattle.core_links.specs.Names.{Names, names_in};
 ghost use Rattle.core_links.specs.View.{AreLinksOf};
-ghost use Rattle.link_table.specs.Linking.{linking_value, types_of, function_at as function_of_item, exported_functions as functions_exported, AreFunctionsThere};
+ghost use Rattle.link_table.specs.Linking.{linking_value, types_of, exported_functions as functions_exported, AreFunctionsThere};
 ghost use Rattle.link_table.specs.Pairwise.{Pairwise};
 ghost use Rattle.link_table.specs.Table.{ImportEntry, Table, IsTable};
 ghost use Rattle.link_table.specs.View.{IsTableOf};
@@ -35,7 +35,7 @@ use component_imports::{
     ImportedInterfaces, add_functions, import_functions, import_interfaces, write_functions,
 };
 use core_links::{CoreNames, ImportLinks, NeededFunctions};
-use link_table::{LinkTable, Linking};
+use link_table::{LinkTable, Linking, exported_function};
 use name_places::FirstPlaces;
 use std::alloc::{AllocError, Global};
 use type_sinks::Root;
@@ -52,16 +52,6 @@ pub struct WrittenImports<'e> {
     pub lowered: Vec<u32>,
     /// The index of the type of each function that the world exports, in their order.
     pub lifted: Vec<u32>,
-}
-
-/// The function that a world exports itself at a place; none where it's something else.
-fn exported_function(world: &World, entry: usize) -> Option<&Function>
-    ensures { option_map (λ f. f.now) result ≡ option_and_then (λ e. function_of_item e.1) (slice_get world.entry.now.exports.entries entry) }
-{
-    match world.exports.get_index(entry) {
-        Some((_, WorldItem::Function(function))) => Some(function),
-        _ => None,
-    }
 }
 
 /// The functions that a world exports itself, in its order. Fails only for want of memory.

@@ -19,7 +19,7 @@ use Rattle.core_links.specs.Needed.{IsPartOf, empty, with_it, without, own_funct
 use Rattle.component_imports.specs.Functions.{function_names}
 use Rattle.component_imports.specs.Interfaces.{is_needed, name_if, names_from}
 use Rattle.component_imports.specs.Ready.{AreDistinct}
-use Rattle.wit_item_names.specs.Plain.{ArePlainApart}
+use Rattle.wit_labels.specs.Plain.{ArePlainApart}
 use Rattle.linked_worlds.proofs.Needed.{part_has}
 
 -- ---- names of which each is none of those behind it

@@ -28,8 +28,10 @@ use Rattle.wit_graph.specs.declared.tables.Tables.{Tables}
 use Rattle.linked_worlds.specs.Linked.{AreNamesOf}
 use Rattle.wit_item_names.specs.Used.{IsNamed}
 use Rattle.linked_worlds.specs.Named.{AreItemsNamed, WorldsHaveTextsApart}
-use Rattle.wit_item_names.specs.Apart.{AreNamedApart, IsPlain}
-use Rattle.wit_item_names.specs.Plain.{ArePlainApart, ArePlainlyNamed}
+use Rattle.wit_plain_texts.specs.Plain.{IsPlain}
+use Rattle.wit_item_names.specs.Apart.{AreNamedApart}
+use Rattle.wit_labels.specs.Plain.{ArePlainApart}
+use Rattle.wit_item_names.specs.Plain.{ArePlainlyNamed}
 use Rattle.linked_worlds.specs.Texts.{HaveTexts, AreTextsApart}
 use Rattle.wit_graph_worlds.proofs.Alike.{interface_alike}
 use Rattle.linked_worlds.proofs.Asked as asked

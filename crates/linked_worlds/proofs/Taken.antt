@@ -1,5 +1,5 @@
 -- Types that are asked for and remembered may be taken.
-use Rattle.std.proofs.Common.{ℕ, length, arith, ◌<◌}
+use Rattle.std.proofs.Common.{length, arith, ◌<◌}
 use Rattle.wit_reach.proofs.Holding.{got}
 use Rattle.linked_worlds.specs.Ready.{RememberedMayBeTaken}
 

@@ -21,8 +21,10 @@ use Rattle.wit_reach.specs.Lists.{item_interface}
 use Rattle.wit_elaborated.specs.Worlds.{IsKeyOfItem, AreKeysOfItems}
 use Rattle.wit_names.specs.Names.{named_in, text_at}
 use Rattle.wit_item_names.proofs.Texts.{split_mark, has_mark}
-use Rattle.wit_item_names.specs.Apart.{IsWithout, IsPlain, AreNamedApart}
-use Rattle.wit_item_names.specs.Plain.{ArePlainApart, ArePlainlyNamed}
+use Rattle.wit_plain_texts.specs.Plain.{IsWithout, IsPlain}
+use Rattle.wit_item_names.specs.Apart.{AreNamedApart}
+use Rattle.wit_labels.specs.Plain.{ArePlainApart}
+use Rattle.wit_item_names.specs.Plain.{ArePlainlyNamed}
 use Rattle.wit_item_names.specs.Used.{HasText}
 use Rattle.linked_worlds.specs.Texts.{AreTextsApart}
 

@@ -37,7 +37,7 @@ grow s more t f i is es a b c d e =
     λ j. with_counts (types j) (functions j) (instances j) (imports j) (exports j)
 
 -- a name that is new
-named : (names : List (List ℕ)) (n : List ℕ) → is_new names n ≡ true → with_name names n ≡ names ++ n ∷ []
+pub named : (names : List (List ℕ)) (n : List ℕ) → is_new names n ≡ true → with_name names n ≡ names ++ n ∷ []
 named names n new = rw new refl
 
 -- there is nothing of that sort
@@ -91,7 +91,7 @@ known es h = known_behind nothing no_scope es h refl
 
 -- ---- one more
 
-follow_push : (k : DefinedValue) (ds : List DefinitionValue) (d : DefinitionValue) → Follow k ds → Follows (grown with_definition k ds) d → Follow k (ds ++ d ∷ [])
+pub follow_push : (k : DefinedValue) (ds : List DefinitionValue) (d : DefinitionValue) → Follow k ds → Follows (grown with_definition k ds) d → Follow k (ds ++ d ∷ [])
 follow_push k [] d h one = (one, tt)
 follow_push k (x ∷ ds) d h one = (h.0, follow_push (with_definition k x) ds d h.1 one)
 

@@ -15,7 +15,8 @@ use Rattle.wit_plans.specs.Moves.{AreMovedInterfaces}
 use Rattle.wit_placed.specs.Order.{interface_places}
 use Rattle.wit_placed.proofs.Own.{interface_from, IsFrom}
 use Rattle.wit_uses.proofs.Moving.{get_either}
-use Rattle.wit_item_names.specs.Apart.{IsPlain, AreNamedApart, AreOwnNamedApart}
+use Rattle.wit_plain_texts.specs.Plain.{IsPlain}
+use Rattle.wit_item_names.specs.Apart.{AreNamedApart, AreOwnNamedApart}
 use Rattle.wit_item_names.specs.Placed.{IsNewName, PlacedAreNamedApart}
 
 module _ (features : FeatureSet) (s : Standing) (packages : List Package) (q : Package) (interfaces own new : List Interface) (moved : AreMovedInterfaces features s (length packages) own new)

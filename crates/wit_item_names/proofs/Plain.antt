@@ -50,8 +50,9 @@ use Rattle.wit_graph_worlds.proofs.Adding.{each_of}
 use Rattle.wit_graph_worlds.proofs.Belonging.{includes_named}
 use Rattle.wit_graph_worlds.proofs.Taking.{begins, all_keep}
 use Rattle.wit_item_names.specs.Added.{ArePlainWorlds, IsPlainWorld, AddedWorldsArePlain}
-use Rattle.wit_item_names.specs.Apart.{IsPlain}
-use Rattle.wit_item_names.specs.Plain.{ArePlainApart, ArePlainlyNamed, AreUnderPlainNames, ArePlainRenames, ArePlainIncludes}
+use Rattle.wit_plain_texts.specs.Plain.{IsPlain}
+use Rattle.wit_labels.specs.Plain.{ArePlainApart}
+use Rattle.wit_item_names.specs.Plain.{ArePlainlyNamed, AreUnderPlainNames, ArePlainRenames, ArePlainIncludes}
 use Rattle.wit_item_names.proofs.Entries.{text_of_item, same_name, named_from, function_from, renamed_function, type_from, renamed_type}
 use Rattle.wit_item_names.proofs.Included.{type_ids}
 use Rattle.wit_item_names.proofs.Renaming.{renamed_same, renamed_plain}

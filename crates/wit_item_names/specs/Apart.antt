@@ -1,19 +1,10 @@
 -- Names that tell packages and their interfaces apart (WIT, Package Names; Component Model, Import and Export Definitions).
 use Rattle.std.specs.Prelude.{◌≡◌, ℕ, List, Some, String, slice_get, string_bytes}
 use Rattle.std.specs.declared.alloc.Global.{Global}
-use Rattle.wit_order.specs.Order.{Has}
 use Rattle.wit_types.specs.Package.{package_text}
 use Rattle.wit_types.specs.declared.interface.Interface.{Interface}
 use Rattle.wit_types.specs.declared.«package».Package.{Package}
-
-abbrev pub IsWithout : ℕ → List ℕ → Type 0
-IsWithout mark text = Has text mark → ⊥
-
--- none of the marks that stand between names in the text of an interface: `:`, `/`, `@`
-pub record IsPlain (text : List ℕ) : Type 0 where
-  pub colon : IsWithout 58 text
-  pub slash : IsWithout 47 text
-  pub at : IsWithout 64 text
+use Rattle.wit_plain_texts.specs.Plain.{IsPlain}
 
 -- no two packages have one text, and no two interfaces of a package one name; parts of names have no marks
 pub record AreNamedApart (packages : List Package) (interfaces : List Interface) : Type 0 where

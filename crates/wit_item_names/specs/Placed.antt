@@ -23,7 +23,8 @@ use Rattle.wit_reach.specs.Types.{IsOfItem}
 use Rattle.wit_placed.specs.There.{IsInterfaceThere}
 use Rattle.wit_placed.specs.Order.{AreBehind}
 use Rattle.wit_uses.specs.Uses.{TakesByUse}
-use Rattle.wit_item_names.specs.Apart.{IsPlain, AreNamedApart, AreOwnNamedApart}
+use Rattle.wit_plain_texts.specs.Plain.{IsPlain}
+use Rattle.wit_item_names.specs.Apart.{AreNamedApart, AreOwnNamedApart}
 use Rattle.wit_item_names.specs.Added.{IsPlainWorld}
 use Rattle.wit_item_names.specs.Plain.{AreUnderPlainNames, ArePlainIncludes}
 use Rattle.wit_item_names.specs.Used.{IsNamed, SidesUseNamed, AreOwnUsedNamed}

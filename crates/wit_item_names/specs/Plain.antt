@@ -1,5 +1,5 @@
 -- Plain names of what a world imports (WIT, Item: `world`; Component Model, Import and Export Definitions).
-use Rattle.std.specs.Prelude.{◌≡◌, ℕ, List, [], ◌∷◌, String, string_bytes}
+use Rattle.std.specs.Prelude.{◌≡◌, ℕ, List, String, string_bytes}
 use Rattle.std.specs.declared.alloc.Global.{Global}
 use Rattle.wit_order.specs.Order.{Has}
 use Rattle.wit_words.specs.declared.source_map.Span.{Span}
@@ -12,15 +12,10 @@ use Rattle.wit_types.specs.declared.world.WorldItem.TheVariants as item
 use Rattle.wit_types.specs.declared.world_key.WorldKey.{WorldKey}
 use Rattle.wit_types.specs.declared.world_key.WorldKey.TheVariants as key
 use Rattle.wit_core_names.specs.Texts.{IsNameOf}
-use Rattle.wit_item_names.specs.Apart.{IsPlain}
+use Rattle.wit_plain_texts.specs.Plain.{IsPlain}
+use Rattle.wit_labels.specs.Plain.{ArePlainApart}
 
--- no plain name stands twice
-abbrev pub ArePlainApart : List (WorldKey × WorldItem) → Type 0
-ArePlainApart [] = Unit {0}
-ArePlainApart ((key.Name x, a) ∷ es) = ((y : String Global) (b : WorldItem) → Has es (key.Name y, b) → string_bytes x ≡ string_bytes y → ⊥) × ArePlainApart es
-ArePlainApart ((key.Interface i, a) ∷ es) = ArePlainApart es
-
--- and none has marks; functions and types stand under their names
+-- no plain name stands twice and none has marks; functions and types stand under their names
 pub record ArePlainlyNamed (types : List TypeDef) (es : List (WorldKey × WorldItem)) : Type 0 where
   pub apart : ArePlainApart es
   pub plain : (x : String Global) (a : WorldItem) → Has es (key.Name x, a) → IsPlain (string_bytes x)

@@ -8,7 +8,7 @@ use Rattle.link_table.specs.View.{AreLinksOfEntries}
 use Rattle.right_components.specs.Main.{main_of}
 use Rattle.component_encoding.specs.Instances.{AreLowerable, IsInstantiated}
 use Rattle.component_encoding.specs.Exports.{AreTypes}
-use Rattle.component_encoding.proofs.Entries.{entry_definitions}
+use Rattle.type_sinks.specs.Placing.{as_definitions}
 use Rattle.component_encoding.proofs.Whole.{whole, places_there, exported_of}
 use Rattle.component_encoding.proofs.component.add_linked.Goals as goal
 
@@ -29,7 +29,7 @@ returns c = record {
       let lifts = c.args.imports.lifted.items in
       whole c.law_unfolded_functions_are_flat.ensures c.law_written_trees_keep_core_types.ensures l names c.args.bytes.now is.table (map entry_value c.args.imports.entries.items) first second last lowers lifts c.in_ok-instance.instance is.is
       c.requires.backward named written
-      (c.in_ok-add_entries.ensures ∙ ap (λ ds. ds ++ entry_definitions (map entry_value c.args.imports.entries.items)) c.requires.empty)
+      (c.in_ok-add_entries.ensures ∙ ap (λ ds. ds ++ as_definitions (map entry_value c.args.imports.entries.items)) c.requires.empty)
       c.in_ok-add_exports.ensures.begins
       (λ low. subst (λ fs. IsInstantiated main (meaning main first) (meaning main second) fs c.in_ok-instance.instance) c.as_slice.ensures.value
       (c.in_ok-instance.ensures.instance (subst (AreLowerable main (meaning main first)) (sym c.as_slice.ensures.value) low)))
