@@ -18,6 +18,7 @@ use Rattle.wit_component.specs.Right.{MeetsAll}
 use Rattle.component_audit.specs.Judged.{IsFinding, IsBeyond}
 use Rattle.wit_component.proofs.NoCause.{any_each}
 use Rattle.component_session.proofs.NoCause.{one_linking, no_cause}
+use Rattle.component_session.proofs.Refusals.{input_cause_is}
 
 -- what right bytes stand for meets all conditions, however they are linked and read
 meets : (input : Input) (bytes : List ℕ) → IsRight input bytes → (l : Linking) → IsReady input l → (ds : List DefinitionValue) → IsComponent bytes ds → MeetsAll l (meaning l.main ds)
@@ -43,5 +44,7 @@ none_beyond input bytes h l ready (inr (ds, is, other)) =
     at.2 at.1
 
 pub right_is_judged : (input : Input) (bytes : List ℕ) (l : Linking) → IsReady input l → IsRight input bytes → (fault : Fault) → IsAuditCause input bytes fault → fault ≡ faults.OutOfMemory
-right_is_judged input bytes l ready h fault (inl cause) = no_cause input l ready fault cause
-right_is_judged input bytes l ready h fault (inr (later, k, is, beyond)) = absurd (none_beyond input bytes h k is beyond)
+right_is_judged input bytes l ready h fault (IsAuditCause.of_input cause) = no_cause input l ready fault (input_cause_is input fault cause)
+right_is_judged input bytes l ready h fault (IsAuditCause.of_world later wide) = absurd (ready.plain wide)
+right_is_judged input bytes l ready h fault (IsAuditCause.of_links plain cause) = no_cause input l ready fault cause
+right_is_judged input bytes l ready h fault (IsAuditCause.of_bytes later k is beyond) = absurd (none_beyond input bytes h k is beyond)

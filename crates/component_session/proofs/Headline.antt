@@ -1,11 +1,13 @@
 -- What is answered for a linking, said of its input.
-use Rattle.std.proofs.Common.{List, ℕ, ap, ◌∙◌}
+use Rattle.std.proofs.Common.{List, ℕ, ap, inl, inr, ◌∙◌}
 use Rattle.known_definitions.specs.Component.{IsComponent}
 use Rattle.known_definitions.specs.Component.{Fits}
-use Rattle.component_session.specs.Input.{Input, IsLinkingOf}
+use Rattle.component_session.specs.Input.{Input, IsLinkingOf, IsWideLinkingOf}
 use Rattle.wit_component.specs.Linking.{Linking}
 use Rattle.wit_component.specs.Cause.{IsLinkable}
-use Rattle.component_session.specs.Refusals.{AsksBeyond}
+use Rattle.component_session.specs.Refusals.{AsksBeyond, IsWide, OptionsBeyond, IsReady}
+use Rattle.link_table.specs.Linking.{Linking as WideLinking}
+use Rattle.linked_components.specs.Build.{HasLines, IsComponentOf}
 use Rattle.wit_component.specs.Component.{component_of}
 use Rattle.component_session.specs.Headline.{IsRight, IsBuilt, IsLinkTable, IsJudged, IsVerdict}
 use Rattle.component_audit.specs.Judged.{Says}
@@ -22,22 +24,36 @@ use Rattle.wit_component.specs.Table.{IsLinked}
 pub written_right : (input : Input) (l : Linking) (bytes : List ℕ) → IsLinkingOf input l → IsLinked l → IsComponent bytes (component_of l) → IsRight input bytes
 written_right input l bytes links h format = record { linking = l; links_input = links; definitions = component_of l; format = format; meets = written_meets l h }
 
-pub built : (input : Input) (l : Linking) (bytes : List ℕ) → IsLinkingOf input l → (AsksBeyond input → ⊥) → IsLinkable l → Fits (component_of l) → IsComponent bytes (component_of l) → IsBuilt input bytes
-built input l bytes links plain linkable fits is = record {
-  linking = l;
-  ready = record { links_input = links; plain = plain; linkable = linkable };
-  fits = λ large. large fits;
-  right = written_right input l bytes links linkable.linked is;
-  imports = λ ds h. ap (λ es. (meaning l.main es).imports) (one_list bytes ds (component_of l) h is) ∙ ap (λ (s : Spaces). s.imports) (written l linkable.linked);
-}
-
 says : (input : Input) (l : Linking) (bytes : List ℕ) (verdict : Verdict) → IsLinkingOf input l → Says l bytes verdict → IsVerdict input l bytes verdict
 says input l bytes Yes links (ds, is, meets) = record { linking = l; links_input = links; definitions = ds; format = is; meets = meets }
 says input l bytes (Finding kind offset) links h = h
 
-module _ (input : Input) (l : Linking) (links : IsLinkingOf input l) (plain : AsksBeyond input → ⊥) where
+-- ---- plain functions
+
+module _ (input : Input) (l : Linking) (links : IsLinkingOf input l) (here : AsksBeyond input → ⊥) (plain : IsWide input → ⊥) where
+  ready : IsLinkable l → IsReady input l
+  ready linkable = record { links_input = links; here = here; plain = plain; linkable = linkable }
+
+  pub built : (bytes : List ℕ) → IsLinkable l → Fits (component_of l) → IsComponent bytes (component_of l) → IsBuilt input bytes
+  built bytes linkable fits is = inl (record {
+    linking = l;
+    ready = ready linkable;
+    fits = λ large. large fits;
+    right = written_right input l bytes links linkable.linked is;
+    imports = λ ds h. ap (λ es. (meaning l.main es).imports) (one_list bytes ds (component_of l) h is) ∙ ap (λ (s : Spaces). s.imports) (written l linkable.linked);
+  })
+
   pub judged : (bytes : List ℕ) (verdict : Verdict) → Says l bytes verdict → IsLinkable l → IsJudged input bytes verdict
-  judged bytes verdict h linkable = record { linking = l; ready = record { links_input = links; plain = plain; linkable = linkable }; says = says input l bytes verdict links h }
+  judged bytes verdict h linkable = record { linking = l; ready = ready linkable; says = says input l bytes verdict links h }
 
   pub listed : (found : List LinkValue) → AreLinks l found → IsLinkable l → IsLinkTable input found
-  listed found h linkable = record { linking = l; ready = record { links_input = links; plain = plain; linkable = linkable }; links = h }
+  listed found h linkable = IsLinkTable.plain (record { linking = l; ready = ready linkable; links = h })
+
+-- ---- all that a world has
+
+module _ (input : Input) (l : WideLinking) (links : IsWideLinkingOf input l) (here : AsksBeyond input → ⊥) (wide : IsWide input) (options : OptionsBeyond input → ⊥) where
+  pub wide_listed : (found : List LinkValue) → HasLines l found → IsLinkTable input found
+  wide_listed found (t, is, lines) = IsLinkTable.wide (record { linking = l; ready = record { links_input = links; here = here; wide = wide; options = options; table = t; is = is }; links = lines })
+
+  pub wide_built : (bytes : List ℕ) → IsComponentOf l links.handed.bytes bytes → IsBuilt input bytes
+  wide_built bytes (t, is, right) = inr (record { linking = l; ready = record { links_input = links; here = here; wide = wide; options = options; table = t; is = is }; right = right })

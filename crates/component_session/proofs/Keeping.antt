@@ -7,7 +7,7 @@ use Rattle.wit_resolution.specs.Pushes.{Resolved, nothing_resolved, AreTextsPush
 use Rattle.wit_types.specs.declared.«package».PackageName.{PackageName}
 use Rattle.wit_types.specs.declared.world.World.{World}
 use Rattle.wit_words.specs.Sources.{SourceText}
-use Rattle.component_session.specs.Coming.{nothing, after, features, pushed, refused}
+use Rattle.text_graphs.specs.Coming.{nothing, after, features, pushed, refused}
 use Rattle.component_session.specs.Input.{ModuleInput, worlds_of}
 use Rattle.component_session.specs.Kept.{WellKept}
 

@@ -1,36 +1,25 @@
 -- What is linked.
-use Rattle.std.proofs.Common.{◌≡◌, ℕ, Bool, true, false, List, Any, Option, Some, None, map, slice_get, refl, sym, ap, subst, ◌∙◌}
+use Rattle.std.proofs.Common.{◌≡◌, ◌↔◌, ℕ, Bool, true, false, List, [], ◌∷◌, length, Any, String, Option, Some, None, map, slice_get, refl, sym, ap, subst, ◌∙◌}
 use Rattle.std.proofs.lemmas.Option.{same_Some}
+use Rattle.std.specs.declared.alloc.Global.{Global}
+use Rattle.component_session.specs.Handed.{pairs_of}
 use Rattle.std.specs.Prelude.{option_and_then, option_map, if◌then◌else◌}
-use Rattle.std.specs.Option.{ForSome}
 use Rattle.indexmap.specs.IndexMap.{values}
 use Rattle.plain_imports.specs.Imports.{IsBeyond, names_of}
 use Rattle.plain_worlds.specs.World.{WorldMeaning, plain_world, if_so, world_fits, with_exports, each_of, item_of, function_item}
 use Rattle.plain_worlds.specs.declared.world.Function.{Function}
-use Rattle.wasm_format.specs.declared.fault.ModuleFault.{ModuleFault}
-use Rattle.wasm_format.specs.declared.fault.ModuleFault.TheVariants as modules
 use Rattle.wasm_format.specs.Module.{ModuleValue}
 use Rattle.wasm_format.specs.Grammar.{IsModule}
 use Rattle.wasm_format.proofs.Modules.{one_module}
 use Rattle.wasm_types.specs.Entries.{import_value}
 use Rattle.wasm_types.specs.declared.entries.Import.{Import}
-use Rattle.component_session.specs.declared.fault.Fault.{Fault}
 use Rattle.wit_core_names.specs.Texts.{Known}
 use Rattle.wit_resolution.specs.Names.{known_of}
 use Rattle.wit_types.specs.declared.world.World.{World}
-use Rattle.component_session.specs.Faults.{of_module}
 use Rattle.wit_component.specs.Linking.{reading}
 use Rattle.wit_component.proofs.Readings.{reading_is}
-use Rattle.component_session.specs.Input.{Input, ModuleInput, world_at, worlds_of, IsChosen}
-use Rattle.component_session.specs.Refusals.{AsksBeyond, ImportsBeyond, IsCause}
-
--- reading the main module again fails for want of memory alone
-pub memory_alone : (input : Input) (handed : ModuleInput) (fault : ModuleFault) → ForSome input.main (λ m. (core : ModuleValue) × IsModule m.bytes core) → input.main ≡ Some handed
-    → ((m : ModuleValue) → IsModule handed.bytes m → fault ≡ modules.OutOfMemory) → (r : Fault) → r ≡ of_module fault → IsCause input r
-memory_alone input handed fault was is only r r-is =
-    let read = was handed is in
-    let same : r ≡ of_module modules.OutOfMemory = r-is ∙ ap of_module (only read.0 read.1) in
-    rw same tt
+use Rattle.component_session.specs.Input.{Input, ModuleInput, world_at, worlds_of}
+use Rattle.component_session.specs.Refusals.{ImportsBeyond, IsWide}
 
 -- a plain world fits
 so_fits : {A : Type 0} (p : A → Bool) (o : Option A) (x : A) → if_so p o ≡ Some x → p x ≡ true
@@ -45,9 +34,6 @@ pub plain_fits : (w : World) (m : WorldMeaning) → plain_world w ≡ Some m →
 plain_fits w m e = so_fits world_fits (option_map (with_exports w) (each_of item_of (values w.exports))) m e
 
 -- ---- what stands in the way
-
-pub chosen_is : (input : Input) (w : ℕ) (plain : WorldMeaning) → IsChosen input plain → input.world ≡ Some w → world_at input w ≡ Some plain
-chosen_is input w plain (k, chooses, at) is = ap (world_at input) (same_Some w k (sym is ∙ chooses)) ∙ at
 
 module _ (input : Input) (w : ℕ) (plain : WorldMeaning) (handed : ModuleInput) (core : ModuleValue) where
   abbrev Beyond : World → WorldMeaning → ModuleValue → Type 0
@@ -79,14 +65,12 @@ module _ (input : Input) (w : ℕ) (plain : WorldMeaning) (handed : ModuleInput)
     beyond = beyond;
   }
 
-  pub nothing_beyond : input.world ≡ Some w → world_at input w ≡ Some plain → (input.options.shim_return_call_ref ≡ false) × (input.options.debug_names ≡ false) → (ImportsBeyond input → ⊥) → AsksBeyond input → ⊥
-  nothing_beyond chooses world options none (AsksBeyond.by_stand_ins on) = let off = options.0 in absurd cc
-  nothing_beyond chooses world options none (AsksBeyond.by_names on) = let off = options.1 in absurd cc
-  nothing_beyond chooses world options none (AsksBeyond.by_world k chosen other) =
+  pub not_wide : input.world ≡ Some w → world_at input w ≡ Some plain → (ImportsBeyond input → ⊥) → IsWide input → ⊥
+  not_wide chooses world none (IsWide.by_world k chosen other) =
       let same : k ≡ w = same_Some k w (sym chosen ∙ chooses) in
       let bad : None ≡ Some plain = sym other ∙ (ap (world_at input) same ∙ world) in
       absurd cc
-  nothing_beyond chooses world options none (AsksBeyond.by_import h) = none h
+  not_wide chooses world none (IsWide.by_import h) = none h
 
 -- core imports by what was read
 pub beyond_moved : (k k2 : Known) (w w2 : World) (fs fs2 : List Function) (is is2 : List Import) → k ≡ k2 → w ≡ w2 → fs ≡ fs2 → is ≡ is2
@@ -100,3 +84,13 @@ beyond_moved k k2 w w2 fs fs2 is is2 a b c d h =
 -- a module is what its bytes are read as
 pub read_is : (bytes : List ℕ) (m : ModuleValue) → IsModule bytes m → reading bytes ≡ Some m
 read_is bytes m h = reading_is bytes m h
+
+-- what isn't something is nothing
+pub none_plain : {X : Type 0} (o : Option X) → ((x : X) → o ≡ Some x → ⊥) → o ≡ None
+none_plain None never = refl
+none_plain (Some x) never = absurd (never x refl)
+
+-- a map with entries isn't empty
+pub some_pairs : (es : List (String Global × String Global)) → pairs_of es ≡ [] → (empty : Bool) → (empty ≡ true ↔ (length es ≡ 0)) → empty ≡ false → ⊥
+some_pairs [] none empty when is = (let yes : empty ≡ true = when.1 refl in let bad : true ≡ false = sym yes ∙ is in absurd cc)
+some_pairs (e ∷ es) none empty when is = absurd cc

@@ -1,23 +1,8 @@
--- Packages that are resolved come of texts alone (WIT, Packages).
-use Rattle.std.specs.Prelude.{◌≡◌, ℕ, Bool, List, map}
-use Rattle.wit_features.specs.Features.{FeatureSet}
+-- Files of groups that were read from their texts (WIT, Packages).
+use Rattle.std.specs.Prelude.{List, map}
 use Rattle.wit_resolution.specs.Groups.{UnresolvedPackageGroup}
-use Rattle.wit_resolution.specs.Pushes.{Resolved, nothing_resolved, AreTextsPushed, AreTextsRefused}
-use Rattle.wit_types.specs.declared.«package».PackageName.{PackageName}
 use Rattle.wit_words.specs.Sources.{SourceText}
 
 -- the files of groups, each of which was read from its texts
 abbrev pub files_of_groups : List UnresolvedPackageGroup → List (List SourceText)
 files_of_groups gs = map (λ (g : UnresolvedPackageGroup). g.source_map) gs
-
-module _ (eq : PackageName → PackageName → Bool) where
-  -- one call: other features are active from then on, texts of packages are pushed, or are refused
-  pub data IsCall (old new : Resolved) : Type 0 where
-    features : (set : FeatureSet) → new ≡ record old { features = set } → IsCall old new
-    pushed : (files : List (List SourceText)) (id : ℕ) → AreTextsPushed eq old files new id → IsCall old new
-    refused : (files : List (List SourceText)) → AreTextsRefused eq old files new → IsCall old new
-
-  -- nothing is there at first, and then comes call after call
-  pub data ComeOfTexts : Resolved → Type 0 where
-    nothing : ComeOfTexts nothing_resolved
-    after : (old new : Resolved) → ComeOfTexts old → IsCall old new → ComeOfTexts new

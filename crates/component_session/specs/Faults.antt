@@ -5,6 +5,14 @@ use Rattle.wasm_format.specs.declared.fault.ModuleFault.TheVariants as reading
 use Rattle.wit_component.specs.declared.fault.Fault.{Fault as LinkFault}
 use Rattle.wit_component.specs.declared.fault.Fault.TheVariants as linking
 use Rattle.wit_component.specs.Code as link
+use Rattle.core_links.specs.declared.fault.LinkFault.{LinkFault as CoreFault}
+use Rattle.core_links.specs.declared.fault.LinkFault.TheVariants as core
+use Rattle.linked_types.specs.declared.fault.TypeFault.{TypeFault}
+use Rattle.linked_types.specs.declared.fault.TypeFault.TheVariants as types
+use Rattle.link_table.specs.declared.fault.TableFault.{TableFault}
+use Rattle.link_table.specs.declared.fault.TableFault.TheVariants as tables
+use Rattle.linked_components.specs.declared.fault.ComponentFault.{ComponentFault}
+use Rattle.linked_components.specs.declared.fault.ComponentFault.TheVariants as components
 use Rattle.component_session.specs.declared.fault.ModuleCause.{ModuleCause}
 use Rattle.component_session.specs.declared.fault.ModuleCause.TheVariants as modules
 use Rattle.component_session.specs.declared.fault.Fault.{Fault}
@@ -29,12 +37,44 @@ of_linking linking.MissingCoreExport = faults.Linking linking.MissingCoreExport
 of_linking linking.TooLarge = faults.Linking linking.TooLarge
 of_linking linking.OutOfMemory = faults.OutOfMemory
 
+-- of names and core types that aren't those of the world
+abbrev pub of_core : CoreFault → Fault
+of_core core.NotYet = faults.NotYet
+of_core core.DuplicateImport = faults.Linking linking.DuplicateImport
+of_core core.UnknownImport = faults.Linking linking.UnknownImport
+of_core core.Ambiguous = faults.Linking linking.Ambiguous
+of_core core.LegacyName = faults.Linking linking.LegacyName
+of_core core.WrongCoreType = faults.Linking linking.WrongCoreType
+of_core core.MissingCoreExport = faults.Linking linking.MissingCoreExport
+of_core core.OutOfMemory = faults.OutOfMemory
+
+-- of a link table over all types
+abbrev pub of_table : TableFault → Fault
+of_table tables.NotYet = faults.NotYet
+of_table (tables.Link fault) = of_core fault
+of_table tables.NoMemory = faults.NoMemory
+of_table tables.NoRealloc = faults.NoRealloc
+of_table (tables.Types fault) = faults.Types fault
+of_table tables.OutOfMemory = faults.OutOfMemory
+
+-- of a component over all types
+abbrev pub of_component : ComponentFault → Fault
+of_component (components.Table fault) = of_table fault
+of_component components.TooLarge = faults.Linking linking.TooLarge
+
 -- ---- codes and names
 
 abbrev pub module_code : ModuleCause → List ℕ
 module_code modules.Malformed = codes "M1"
 module_code modules.Unsupported = codes "M2"
 module_code modules.TooLarge = codes "M3"
+
+abbrev pub type_code : TypeFault → Option (List ℕ)
+type_code types.NotYet = Some (codes "X1")
+type_code types.AsyncReached = Some (codes "B15")
+type_code types.EmptyTypeReached = Some (codes "B16")
+type_code types.TooManyFlags = Some (codes "B17")
+type_code types.OutOfMemory = None
 
 -- want of memory has no code
 abbrev pub code : Fault → Option (List ℕ)
@@ -43,6 +83,9 @@ code faults.NoModule = Some (codes "B1")
 code faults.NoWorld = Some (codes "B2")
 code (faults.BadModule cause) = Some (module_code cause)
 code (faults.Linking fault) = link.code fault
+code faults.NoMemory = Some (codes "B13")
+code faults.NoRealloc = Some (codes "B14")
+code (faults.Types fault) = type_code fault
 code faults.OutOfMemory = None
 
 abbrev pub module_name : ModuleCause → List ℕ
@@ -50,12 +93,22 @@ module_name modules.Malformed = codes "Malformed"
 module_name modules.Unsupported = codes "Unsupported"
 module_name modules.TooLarge = codes "TooLarge"
 
+abbrev pub type_name : TypeFault → List ℕ
+type_name types.NotYet = codes "NotYet"
+type_name types.AsyncReached = codes "AsyncReached"
+type_name types.EmptyTypeReached = codes "EmptyTypeReached"
+type_name types.TooManyFlags = codes "TooManyFlags"
+type_name types.OutOfMemory = codes "OutOfMemory"
+
 abbrev pub name : Fault → List ℕ
 name faults.NotYet = codes "NotYet"
 name faults.NoModule = codes "NoModule"
 name faults.NoWorld = codes "NoWorld"
 name (faults.BadModule cause) = module_name cause
 name (faults.Linking fault) = link.name fault
+name faults.NoMemory = codes "NoMemory"
+name faults.NoRealloc = codes "NoRealloc"
+name (faults.Types fault) = type_name fault
 name faults.OutOfMemory = codes "OutOfMemory"
 
 -- its place in a text: none has one

@@ -6,7 +6,7 @@
 -- shows. The bytes of a component are a list of definitions by the grammar of components (in known_definitions, Component.antt). What their
 -- indices stand for is one fold over the list (in wit_component, Meaning.antt), and what has to hold of that is one condition for each kind
 -- of finding (there, Right.antt).
-use Rattle.std.specs.Prelude.{◌≡◌, ℕ, ◌≤◌, List, length, map}
+use Rattle.std.specs.Prelude.{◌≡◌, ◌⊎◌, ℕ, ◌≤◌, List, length, map}
 use Rattle.known_definitions.specs.Definition.{DefinitionValue}
 use Rattle.known_definitions.specs.Component.{IsComponent}
 use Rattle.wit_component.specs.Linking.{Linking}
@@ -20,7 +20,10 @@ use Rattle.component_audit.specs.declared.verdict.Verdict.{Verdict}
 use Rattle.component_audit.specs.declared.verdict.Verdict.TheVariants.{Yes, Finding}
 use Rattle.component_audit.specs.Judged.{IsFinding}
 use Rattle.component_session.specs.Input.{Input, IsLinkingOf}
-use Rattle.component_session.specs.Refusals.{IsReady}
+use Rattle.component_encoding.specs.Component.{IsEncoding}
+use Rattle.link_table.specs.Linking.{Linking as WideLinking}
+use Rattle.link_table.specs.Lines.{AreLines}
+use Rattle.component_session.specs.Refusals.{IsReady, IsWideReady}
 
 -- ---- right for the input (Component Model Binary; Component Model, Explainer, Component Definitions)
 
@@ -36,22 +39,44 @@ pub record IsRight (input : Input) (bytes : List ℕ) : Type 0 where
 
 -- ---- `links`
 
--- nothing stands in the way, and these are the lines of the input's link table, in order
-pub record IsLinkTable (input : Input) (found : List LinkValue) : Type 0 where
+-- nothing stands in the way, and these are the lines of the link table of plain functions, in order
+pub record IsPlainTable (input : Input) (found : List LinkValue) : Type 0 where
   pub linking : Linking
   pub ready : IsReady input linking
   pub links : AreLinks linking found
 
+-- or of that of all that the world has
+pub record IsWideTable (input : Input) (found : List LinkValue) : Type 0 where
+  pub linking : WideLinking
+  pub ready : IsWideReady input linking
+  pub links : AreLines linking ready.table found
+
+-- of the one or the other, as the input is plain or wide
+pub data IsLinkTable (input : Input) (found : List LinkValue) : Type 0 where
+  plain : IsPlainTable input found → IsLinkTable input found
+  wide : IsWideTable input found → IsLinkTable input found
+
 -- ---- `build`
 
--- nothing stands in the way, and the bytes are right for the input; however they are read, they import exactly what links need, in the
--- order of the world
-pub record IsBuilt (input : Input) (bytes : List ℕ) : Type 0 where
+-- nothing stands in the way of plain functions, and the bytes are right for the input; however they are read, they import exactly what
+-- links need, in the order of the world
+pub record IsPlainlyBuilt (input : Input) (bytes : List ℕ) : Type 0 where
   pub linking : Linking
   pub ready : IsReady input linking
   pub fits : IsTooLarge linking → ⊥
   pub right : IsRight input bytes
   pub imports : (ds : List DefinitionValue) → IsComponent bytes ds → (meaning linking.main ds).imports ≡ map listed (needed linking)
+
+-- or of all that the world has, and the bytes are a component that is right for its link table: it imports at least what links need and at
+-- most what the world lists, exports what the world does, instantiates the module once, and each core import and each export ends as its entry
+-- says (in right_components, Right.antt)
+pub record IsWidelyBuilt (input : Input) (bytes : List ℕ) : Type 0 where
+  pub linking : WideLinking
+  pub ready : IsWideReady input linking
+  pub right : IsEncoding linking ready.links_input.handed.bytes ready.table bytes
+
+abbrev pub IsBuilt : Input → List ℕ → Type 0
+IsBuilt input bytes = IsPlainlyBuilt input bytes ⊎ IsWidelyBuilt input bytes
 
 -- ---- `audit`
 

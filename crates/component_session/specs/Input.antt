@@ -4,6 +4,8 @@ use Rattle.wasm_format.specs.Module.{ModuleValue}
 use Rattle.wasm_format.specs.Grammar.{IsModule}
 use Rattle.wit_component.specs.Linking.{Linking, main_of}
 use Rattle.link_lines.specs.declared.encoding.StringEncoding.{StringEncoding}
+use Rattle.link_table.specs.Linking.{Linking as WideLinking}
+use Rattle.linked_worlds.specs.Linked.{AreNamesOf}
 use Rattle.plain_worlds.specs.World.{WorldMeaning, plain_world}
 use Rattle.wit_resolution.specs.Pushes.{Resolved, nothing_resolved}
 use Rattle.wit_types.specs.declared.world.World.{World}
@@ -58,7 +60,15 @@ world_at input w = option_and_then plain_world (slice_get (worlds_of input.resol
 abbrev pub IsChosen : Input → WorldMeaning → Type 0
 IsChosen input plain = (chosen : ℕ) × (input.world ≡ Some chosen) × (world_at input chosen ≡ Some plain)
 
--- the chosen world, and the module that was handed in last, as its bytes are read
+-- the main module that was handed in, as its bytes are read
+pub record IsMainModule (input : Input) (bytes : List ℕ) (encoding : StringEncoding) (core : ModuleValue) : Type 0 where
+  pub handed : ModuleInput
+  pub hands : input.main ≡ Some handed
+  pub bytes_are : bytes ≡ handed.bytes
+  pub encoding_is : encoding ≡ handed.encoding
+  pub reads : IsModule handed.bytes core
+
+-- the plain functions of the chosen world, and the module that was handed in last, as its bytes are read
 pub record IsLinkingOf (input : Input) (l : Linking) : Type 0 where
   pub chosen : ℕ
   pub handed : ModuleInput
@@ -69,3 +79,14 @@ pub record IsLinkingOf (input : Input) (l : Linking) : Type 0 where
   pub reads : IsModule handed.bytes core
   pub main : l.main ≡ main_of handed.bytes core
   pub rejects : l.rejects_legacy ≡ input.options.reject_legacy_names
+
+-- the chosen world with all that it has, and that module
+pub record IsWideLinkingOf (input : Input) (l : WideLinking) : Type 0 where
+  pub chosen : ℕ
+  pub handed : ModuleInput
+  pub chooses : input.world ≡ Some chosen
+  pub names : AreNamesOf input.resolved.graph.tables chosen l.names
+  pub hands : input.main ≡ Some handed
+  pub reads : IsModule handed.bytes l.main
+  pub encoding : l.encoding ≡ handed.encoding
+  pub rejects : l.names.rejects_legacy ≡ input.options.reject_legacy_names

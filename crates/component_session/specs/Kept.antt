@@ -5,7 +5,7 @@ use Rattle.wasm_format.specs.Module.{ModuleValue}
 use Rattle.wasm_format.specs.Grammar.{IsModule}
 use Rattle.wit_resolution.specs.Pushes.{Resolved}
 use Rattle.wit_types.specs.declared.«package».PackageName.{PackageName}
-use Rattle.component_session.specs.Coming.{ComeOfTexts}
+use Rattle.text_graphs.specs.Coming.{ComeOfTexts}
 use Rattle.component_session.specs.Input.{ModuleInput, worlds_of}
 
 pub record WellKept (eq : PackageName → PackageName → Bool) (resolved : Resolved) (world : Option ℕ) (main : Option ModuleInput) : Type 0 where

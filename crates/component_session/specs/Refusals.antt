@@ -1,5 +1,5 @@
 -- Why calls are refused: each a fact of the input, and of the bytes that are judged.
-use Rattle.std.specs.Prelude.{◌≡◌, ◌⊎◌, ℕ, List, Some, None, true, Any, slice_get}
+use Rattle.std.specs.Prelude.{◌≡◌, ◌⊎◌, ℕ, List, [], Some, None, true, Any, slice_get}
 use Rattle.plain_imports.specs.Imports.{IsBeyond as IsImportBeyond, names_of}
 use Rattle.plain_worlds.specs.World.{WorldMeaning, plain_world}
 use Rattle.wasm_format.specs.Module.{ModuleValue}
@@ -10,14 +10,22 @@ use Rattle.wit_component.specs.declared.fault.Fault.TheVariants as linking
 use Rattle.component_session.specs.declared.fault.Fault.{Fault}
 use Rattle.component_session.specs.declared.fault.Fault.TheVariants as faults
 use Rattle.component_session.specs.Faults.{of_module}
+use Rattle.interface_names.specs.Names.{HasTwoNames}
 use Rattle.wit_component.specs.Linking.{Linking}
 use Rattle.wit_component.specs.Cause.{IsStillToCome, IsLinkCause, IsLinkable, IsTooLarge}
+use Rattle.core_links.specs.declared.fault.LinkFault.{LinkFault as CoreFault}
+use Rattle.core_links.specs.declared.fault.LinkFault.TheVariants as core
+use Rattle.link_table.specs.declared.fault.TableFault.TheVariants as tables
+use Rattle.link_table.specs.Linking.{Linking as WideLinking}
+use Rattle.link_table.specs.Table.{Table, IsTable}
+use Rattle.link_table.specs.Cause.{IsTableCause}
+use Rattle.linked_components.specs.Tracks.{HasOneTrack}
 use Rattle.component_audit.specs.Judged.{IsBeyond}
 use Rattle.wit_resolution.specs.Names.{known_of}
 use Rattle.wit_types.specs.declared.world.World.{World}
-use Rattle.component_session.specs.Input.{Input, ModuleInput, IsLinkingOf, world_at, worlds_of}
+use Rattle.component_session.specs.Input.{Input, ModuleInput, IsChosen, IsLinkingOf, IsWideLinkingOf, world_at, worlds_of}
 
--- ---- what is still to come
+-- ---- what isn't plain, and what is still to come
 
 -- a core import of the main module stands for something of the chosen world that isn't one of its plain functions, or for two things
 pub record ImportsBeyond (input : Input) : Type 0 where
@@ -33,13 +41,29 @@ pub record ImportsBeyond (input : Input) : Type 0 where
   pub reads : IsModule handed.bytes core
   pub beyond : Any (IsImportBeyond (known_of input.resolved.graph.tables) world (names_of plain.imports)) core.imports
 
--- the input asks for what is still to come
+-- options ask for what is still to come
 pub data AsksBeyond (input : Input) : Type 0 where
   by_stand_ins : input.options.shim_return_call_ref ≡ true → AsksBeyond input
   by_names : input.options.debug_names ≡ true → AsksBeyond input
-  -- the chosen world exports something else than plain functions, or two names of one of its sides are alike
-  by_world : (w : ℕ) → input.world ≡ Some w → world_at input w ≡ None → AsksBeyond input
-  by_import : ImportsBeyond input → AsksBeyond input
+
+-- ---- plain and wide inputs
+
+-- all that the chosen world has is linked, and not its plain functions alone: it exports something else, or two names of one of its sides are
+-- alike, or a core import stands for something else
+pub data IsWide (input : Input) : Type 0 where
+  by_world : (w : ℕ) → input.world ≡ Some w → world_at input w ≡ None → IsWide input
+  by_import : ImportsBeyond input → IsWide input
+
+-- options ask for names of imports that are still to come: canonical ones, names that are given, or one for interfaces of one version track
+pub data OptionsBeyond (input : Input) : Type 0 where
+  by_canonical_names : input.options.emit_canonical_names ≡ true → OptionsBeyond input
+  by_given_names : (input.options.import_name_map ≡ [] → ⊥) → OptionsBeyond input
+  by_tracks : input.options.merge_imports_based_on_semver ≡ true → (l : WideLinking) → IsWideLinkingOf input l → HasOneTrack l.names → OptionsBeyond input
+
+-- the chosen world has these plain functions, and they alone are linked
+pub record IsPlain (input : Input) (plain : WorldMeaning) : Type 0 where
+  pub chosen : IsChosen input plain
+  pub here : IsWide input → ⊥
 
 -- ---- why links aren't answered
 
@@ -47,43 +71,83 @@ pub data AsksBeyond (input : Input) : Type 0 where
 abbrev pub IsModuleCause : List ℕ → Fault → Type 0
 IsModuleCause bytes fault = (m : ModuleFault) × (of_module m ≡ fault) × IsModuleFault bytes m
 
--- the input links what nothing of it asks beyond, and this is so of that
+-- the input links plain functions, nothing of it asks beyond, and this is so of that
 abbrev pub OfLinking : Input → (Linking → Type 0) → Type 0
-OfLinking input P = (l : Linking) × IsLinkingOf input l × (AsksBeyond input → ⊥) × P l
+OfLinking input P = (l : Linking) × IsLinkingOf input l × (AsksBeyond input → ⊥) × (IsWide input → ⊥) × P l
 
--- there is no link table for what is linked; X1 and want of memory are causes of the input's own
+-- or it links all that the world has
+abbrev pub OfWide : Input → (WideLinking → Type 0) → Type 0
+OfWide input P = (l : WideLinking) × IsWideLinkingOf input l × (AsksBeyond input → ⊥) × IsWide input × P l
+
+-- there is no link table for one or the other
+abbrev pub HasNoTable : Input → LinkFault → CoreFault → Type 0
+HasNoTable input fault wide = OfLinking input (λ l. IsLinkCause l fault) ⊎ OfWide input (λ l. IsTableCause l (tables.Link wide))
+
+-- X1 and want of memory are causes of the input's own
 abbrev pub IsLinkingCause : Input → LinkFault → Type 0
 IsLinkingCause input linking.NotYet = ⊥
-IsLinkingCause input linking.DuplicateImport = OfLinking input (λ l. IsLinkCause l linking.DuplicateImport)
-IsLinkingCause input linking.UnknownImport = OfLinking input (λ l. IsLinkCause l linking.UnknownImport)
-IsLinkingCause input linking.Ambiguous = OfLinking input (λ l. IsLinkCause l linking.Ambiguous)
-IsLinkingCause input linking.LegacyName = OfLinking input (λ l. IsLinkCause l linking.LegacyName)
-IsLinkingCause input linking.WrongCoreType = OfLinking input (λ l. IsLinkCause l linking.WrongCoreType)
-IsLinkingCause input linking.MissingCoreExport = OfLinking input (λ l. IsLinkCause l linking.MissingCoreExport)
+IsLinkingCause input linking.DuplicateImport = HasNoTable input linking.DuplicateImport core.DuplicateImport
+IsLinkingCause input linking.UnknownImport = HasNoTable input linking.UnknownImport core.UnknownImport
+IsLinkingCause input linking.Ambiguous = HasNoTable input linking.Ambiguous core.Ambiguous
+IsLinkingCause input linking.LegacyName = HasNoTable input linking.LegacyName core.LegacyName
+IsLinkingCause input linking.WrongCoreType = HasNoTable input linking.WrongCoreType core.WrongCoreType
+IsLinkingCause input linking.MissingCoreExport = HasNoTable input linking.MissingCoreExport core.MissingCoreExport
 IsLinkingCause input linking.TooLarge = ⊥
 IsLinkingCause input linking.OutOfMemory = ⊥
 
+-- what is linked doesn't count
+abbrev pub IsInputCause : Input → Fault → Type 0
+IsInputCause input faults.NotYet = AsksBeyond input
+IsInputCause input faults.NoModule = input.main ≡ None
+IsInputCause input faults.NoWorld = input.world ≡ None
+IsInputCause input (faults.BadModule cause) = (handed : ModuleInput) × (input.main ≡ Some handed) × IsModuleCause handed.bytes (faults.BadModule cause)
+IsInputCause input (faults.Linking cause) = ⊥
+IsInputCause input faults.NoMemory = ⊥
+IsInputCause input faults.NoRealloc = ⊥
+IsInputCause input (faults.Types cause) = ⊥
+IsInputCause input faults.OutOfMemory = Unit {0}
+
 -- why links aren't answered
 abbrev pub IsCause : Input → Fault → Type 0
-IsCause input faults.NotYet = AsksBeyond input ⊎ ((l : Linking) × IsLinkingOf input l × IsStillToCome l)
+IsCause input faults.NotYet = AsksBeyond input ⊎ (OfLinking input IsStillToCome ⊎ (OfWide input (λ l. OptionsBeyond input) ⊎ OfWide input (λ l. IsTableCause l tables.NotYet)))
 IsCause input faults.NoModule = input.main ≡ None
 IsCause input faults.NoWorld = input.world ≡ None
 IsCause input (faults.BadModule cause) = (handed : ModuleInput) × (input.main ≡ Some handed) × IsModuleCause handed.bytes (faults.BadModule cause)
 IsCause input (faults.Linking cause) = IsLinkingCause input cause
+IsCause input faults.NoMemory = OfWide input (λ l. IsTableCause l tables.NoMemory)
+IsCause input faults.NoRealloc = OfWide input (λ l. IsTableCause l tables.NoRealloc)
+IsCause input (faults.Types cause) = OfWide input (λ l. IsTableCause l (tables.Types cause))
 IsCause input faults.OutOfMemory = Unit {0}
 
 -- ---- and of what is handed over beside
 
--- nothing stands in the way of the links
+-- nothing stands in the way of the links of plain functions
 pub record IsReady (input : Input) (l : Linking) : Type 0 where
   pub links_input : IsLinkingOf input l
-  pub plain : AsksBeyond input → ⊥
+  pub here : AsksBeyond input → ⊥
+  pub plain : IsWide input → ⊥
   pub linkable : IsLinkable l
 
--- why a component isn't built: what links are refused for, or 32 bits can't say an index, a count or a size of it
-abbrev pub IsBuildCause : Input → Fault → Type 0
-IsBuildCause input fault = IsCause input fault ⊎ ((fault ≡ faults.Linking linking.TooLarge) × (l : Linking) × IsReady input l × IsTooLarge l)
+-- and of those of all that a world has
+pub record IsWideReady (input : Input) (l : WideLinking) : Type 0 where
+  pub links_input : IsWideLinkingOf input l
+  pub here : AsksBeyond input → ⊥
+  pub wide : IsWide input
+  pub options : OptionsBeyond input → ⊥
+  pub table : Table
+  pub is : IsTable l table
 
--- why bytes aren't judged: what links are refused for, or what they have beyond
-abbrev pub IsAuditCause : Input → List ℕ → Fault → Type 0
-IsAuditCause input bytes fault = IsCause input fault ⊎ ((fault ≡ faults.NotYet) × (l : Linking) × IsReady input l × IsBeyond l bytes)
+-- why a component isn't built: what links are refused for, or 32 bits can't say an index, a count or a size of it; or one interface would be
+-- imported under two names, which is still to come
+pub data IsBuildCause (input : Input) (fault : Fault) : Type 0 where
+  of_links : IsCause input fault → IsBuildCause input fault
+  of_size : fault ≡ faults.Linking linking.TooLarge → (l : Linking) → IsReady input l → IsTooLarge l → IsBuildCause input fault
+  of_wide_size : fault ≡ faults.Linking linking.TooLarge → (l : WideLinking) → IsWideReady input l → IsBuildCause input fault
+  of_names : fault ≡ faults.NotYet → (l : WideLinking) → IsWideReady input l → HasTwoNames l.names → IsBuildCause input fault
+
+-- why bytes aren't judged: the input isn't plain, or what links are refused for, or what the bytes have beyond
+pub data IsAuditCause (input : Input) (bytes : List ℕ) (fault : Fault) : Type 0 where
+  of_input : IsInputCause input fault → IsAuditCause input bytes fault
+  of_world : fault ≡ faults.NotYet → IsWide input → IsAuditCause input bytes fault
+  of_links : (IsWide input → ⊥) → IsCause input fault → IsAuditCause input bytes fault
+  of_bytes : fault ≡ faults.NotYet → (l : Linking) → IsReady input l → IsBeyond l bytes → IsAuditCause input bytes fault

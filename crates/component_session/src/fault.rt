@@ -2,8 +2,12 @@
 
 ghost use Rattle.std.specs.Prelude.{◌≡◌, option_map};
 ghost use Rattle.component_session.specs.Faults as spec;
-ghost use Rattle.component_session.specs.Faults.{of_module};
+ghost use Rattle.component_session.specs.Faults.{of_core, of_module};
 
+use core_links::LinkFault as CoreFault;
+use link_table::TableFault;
+use linked_components::ComponentFault;
+use linked_types::TypeFault;
 use std::alloc::{AllocError, AllocFailed};
 use thiserror::Error;
 use wasm_format::ModuleFault;
@@ -42,6 +46,16 @@ pub enum Fault {
     /// `OutOfMemory`.
     #[error("{0}")]
     Linking(LinkFault),
+    /// B13: a linked function asks for a memory, and the main module exports none.
+    #[error("B13 NoMemory")]
+    NoMemory,
+    /// B14: a linked function asks for what makes room in the memory, and the main module exports none.
+    #[error("B14 NoRealloc")]
+    NoRealloc,
+    /// B15 to B17: a linked function, or a type that it reaches, isn't linked. Never X1 or want of memory, which are `NotYet` and
+    /// `OutOfMemory`.
+    #[error("{0}")]
+    Types(TypeFault),
     /// A request for memory was refused.
     #[error("out of memory")]
     OutOfMemory,
@@ -84,6 +98,78 @@ impl From<LinkFault> for Fault {
             | LinkFault::MissingCoreExport
             | LinkFault::TooLarge => Fault::Linking(fault),
         }
+    }
+}
+
+/// What names and core types are refused for that aren't those of the world.
+fn core_refusal(fault: CoreFault) -> Fault
+    ensures { result ≡ of_core fault }
+{
+    match fault {
+        CoreFault::NotYet => Fault::NotYet,
+        CoreFault::DuplicateImport => Fault::Linking(LinkFault::DuplicateImport),
+        CoreFault::UnknownImport => Fault::Linking(LinkFault::UnknownImport),
+        CoreFault::Ambiguous => Fault::Linking(LinkFault::Ambiguous),
+        CoreFault::LegacyName => Fault::Linking(LinkFault::LegacyName),
+        CoreFault::WrongCoreType => Fault::Linking(LinkFault::WrongCoreType),
+        CoreFault::MissingCoreExport => Fault::Linking(LinkFault::MissingCoreExport),
+        CoreFault::OutOfMemory => Fault::OutOfMemory,
+    }
+}
+
+impl From<TableFault> for Fault {
+    ghost use Rattle.component_session.specs.Faults.{of_table};
+
+    ghost from_gives = { λ fault e. e ≡ of_table fault };
+
+    fn from(fault: TableFault) -> Fault {
+        match fault {
+            TableFault::NotYet => Fault::NotYet,
+            TableFault::Link(fault) => core_refusal(fault),
+            TableFault::NoMemory => Fault::NoMemory,
+            TableFault::NoRealloc => Fault::NoRealloc,
+            TableFault::Types(fault) => Fault::Types(fault),
+            TableFault::OutOfMemory => Fault::OutOfMemory,
+        }
+    }
+}
+
+impl From<ComponentFault> for Fault {
+    ghost use Rattle.component_session.specs.Faults.{of_component};
+
+    ghost from_gives = { λ fault e. e ≡ of_component fault };
+
+    fn from(fault: ComponentFault) -> Fault {
+        match fault {
+            ComponentFault::Table(fault) => Fault::from(fault),
+            ComponentFault::TooLarge => Fault::Linking(LinkFault::TooLarge),
+        }
+    }
+}
+
+/// The code of a type that isn't linked, as `B15`.
+fn type_code(fault: TypeFault) -> Option<&'static str>
+    ensures { option_map (λ s. s.now) result ≡ spec.type_code fault }
+{
+    match fault {
+        TypeFault::NotYet => Some("X1"),
+        TypeFault::AsyncReached => Some("B15"),
+        TypeFault::EmptyTypeReached => Some("B16"),
+        TypeFault::TooManyFlags => Some("B17"),
+        TypeFault::OutOfMemory => None,
+    }
+}
+
+/// Its name, as `AsyncReached`.
+fn type_name(fault: TypeFault) -> &'static str
+    ensures { result.now ≡ spec.type_name fault }
+{
+    match fault {
+        TypeFault::NotYet => "NotYet",
+        TypeFault::AsyncReached => "AsyncReached",
+        TypeFault::EmptyTypeReached => "EmptyTypeReached",
+        TypeFault::TooManyFlags => "TooManyFlags",
+        TypeFault::OutOfMemory => "OutOfMemory",
     }
 }
 
@@ -134,6 +220,9 @@ impl Fault {
             Fault::NoWorld => Some("B2"),
             Fault::BadModule(cause) => Some(cause.code()),
             Fault::Linking(fault) => fault.code(),
+            Fault::NoMemory => Some("B13"),
+            Fault::NoRealloc => Some("B14"),
+            Fault::Types(fault) => type_code(*fault),
             Fault::OutOfMemory => None,
         }
     }
@@ -148,6 +237,9 @@ impl Fault {
             Fault::NoWorld => "NoWorld",
             Fault::BadModule(cause) => cause.name(),
             Fault::Linking(fault) => fault.name(),
+            Fault::NoMemory => "NoMemory",
+            Fault::NoRealloc => "NoRealloc",
+            Fault::Types(fault) => type_name(*fault),
             Fault::OutOfMemory => "OutOfMemory",
         }
     }

@@ -1,34 +1,51 @@
 //! Laws of the public calls.
 
-ghost use Rattle.std.specs.Prelude.{◌≡◌, ℕ, List, MatchResult};
+ghost use Rattle.std.specs.Prelude.{◌≡◌, ◌⊎◌, ℕ, List, MatchResult};
 ghost use Rattle.known_definitions.specs.Component.{IsComponent};
-ghost use Rattle.component_session.specs.Input.{Input, IsLinkingOf};
+ghost use Rattle.component_session.specs.Input.{Input, IsLinkingOf, IsWideLinkingOf};
+ghost use Rattle.link_table.specs.Linking.{Linking as WideLinking};
 ghost use Rattle.wit_component.specs.Linking.{Linking};
 ghost use Rattle.wit_component.specs.Table.{IsLinked};
 ghost use Rattle.wit_component.specs.Component.{component_of};
-ghost use Rattle.component_session.specs.Headline.{IsRight, IsBuilt, IsJudged};
-ghost use Rattle.component_session.specs.Refusals.{IsCause, IsBuildCause, IsReady, IsAuditCause};
+ghost use Rattle.wit_component.specs.declared.fault.Fault.TheVariants.{TooLarge};
+ghost use Rattle.wit_resolution.specs.Graph.{IsGraph};
+ghost use Rattle.component_session.specs.Headline.{IsRight, IsPlainlyBuilt, IsWidelyBuilt, IsJudged};
+ghost use Rattle.component_session.specs.Refusals.{IsCause, IsBuildCause, IsReady, IsWideReady, IsAuditCause};
 
 use crate::fault::Fault;
-use crate::session::{Session, audit};
+use crate::linking::audit;
+use crate::session::Session;
 use component_audit::Verdict;
+use linked_components::law_linked_has_no_cause;
 
-/// What is written for a linking is right for its input, whatever bytes the grammar relates to it.
+/// What is written for a linking of plain functions is right for its input, whatever bytes the grammar relates to it.
 pub fn law_written_is_right()
     ensures { (input : Input) (l : Linking) (bytes : List ℕ) → IsLinkingOf input l → IsLinked l → IsComponent bytes (component_of l) → IsRight input bytes }
 {}
 
-/// An input links one world and one module in one way; where nothing stands in its way, no cause of a refusal holds, want
-/// of memory aside.
+/// An input links one world and one module in one way; where nothing stands in the way of its plain functions, no cause of a refusal
+/// holds, want of memory aside.
 pub fn law_ready_has_no_cause()
     ensures one { (input : Input) (l m : Linking) → IsLinkingOf input l → IsLinkingOf input m → l ≡ m }
     ensures none { (input : Input) (l : Linking) → IsReady input l → (fault : Fault) → IsCause input fault → fault ≡ Fault.OutOfMemory }
 {}
 
-/// Where a component is answered, no cause holds that one is refused for, want of memory aside.
+/// So it is where all that its world has is linked, of the packages of any session, which are a graph.
+pub fn law_wide_ready_has_no_cause()
+    ensures one { (input : Input) (l m : WideLinking) → IsWideLinkingOf input l → IsWideLinkingOf input m → l ≡ m }
+    ensures none { (input : Input) (l : WideLinking) → IsGraph input.resolved.graph → IsWideReady input l → (fault : Fault) → IsCause input fault → fault ≡ Fault.OutOfMemory }
+{
+    law_linked_has_no_cause();
+}
+
+/// Where a component of plain functions is answered, no cause holds that one is refused for, want of memory aside; where one of all that a
+/// world has is, B25 aside, too.
 pub fn law_built_has_no_cause()
-    ensures { (input : Input) (bytes : List ℕ) → IsBuilt input bytes → (fault : Fault) → IsBuildCause input fault → fault ≡ Fault.OutOfMemory }
-{}
+    ensures plain { (input : Input) (bytes : List ℕ) → IsPlainlyBuilt input bytes → (fault : Fault) → IsBuildCause input fault → fault ≡ Fault.OutOfMemory }
+    ensures wide { (input : Input) (bytes : List ℕ) → IsGraph input.resolved.graph → IsWidelyBuilt input bytes → (fault : Fault) → IsBuildCause input fault → (fault ≡ Fault.OutOfMemory) ⊎ (fault ≡ Fault.Linking TooLarge) }
+{
+    law_linked_has_no_cause();
+}
 
 /// The auditor is exact: of bytes that are right for an input in whose way nothing stands, every verdict is yes, and no
 /// cause of a refusal holds, want of memory aside.
@@ -37,9 +54,10 @@ pub fn law_right_is_judged_yes()
     ensures cause { (input : Input) (bytes : List ℕ) (l : Linking) → IsReady input l → IsRight input bytes → (fault : Fault) → IsAuditCause input bytes fault → fault ≡ Fault.OutOfMemory }
 {}
 
-/// The auditor says yes to what was built, want of memory aside: `Session::build` answers bytes that meet the `requires`.
+/// The auditor says yes to what was built of plain functions, want of memory aside: `Session::build` answers bytes that meet the `requires`
+/// wherever the input links these alone.
 pub fn law_audit_of_what_was_built(session: &Session, bytes: &[u8]) -> Result<Verdict, Fault>
-    requires { IsBuilt session.now bytes.now }
+    requires { IsPlainlyBuilt session.now bytes.now }
     ensures { MatchResult result (λ v. v ≡ Verdict.Yes) (λ e. e ≡ Fault.OutOfMemory) }
 {
     audit(session, bytes)

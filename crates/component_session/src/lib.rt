@@ -3,6 +3,7 @@
 
 mod fault;
 mod law;
+mod linking;
 mod options;
 mod session;
 
@@ -10,10 +11,12 @@ pub use component_audit::Verdict;
 pub use fault::{Fault, ModuleCause};
 pub use law::{
     law_audit_of_what_was_built, law_built_has_no_cause, law_ready_has_no_cause,
-    law_right_is_judged_yes, law_written_is_right,
+    law_right_is_judged_yes, law_wide_ready_has_no_cause, law_written_is_right,
 };
+pub use linked_types::TypeFault;
+pub use linking::audit;
 pub use options::Options;
-pub use session::{HandedModule, Session, audit};
+pub use session::{HandedModule, Session};
 pub use wit_component::{
     Fault as LinkFault, FindingKind, Link, LinkKind, LinkSide, Owner, StringEncoding,
 };

@@ -1,42 +1,29 @@
 //! A session: texts, a chosen world, modules and options.
 
-ghost use Rattle.std.specs.Prelude.{◌≡◌, ℕ, ◌<◌, ◌⊎◌, ◌∷◌, [], true, false, length, Some, None, Err, IfOk, OnOk, OnErr, IfErr, MatchResult, Any, map, slice_get, option_map};
-ghost use Rattle.component_session.specs.Headline.{IsLinkTable, IsBuilt, IsJudged};
-ghost use Rattle.component_session.specs.Refusals.{AsksBeyond, IsCause, IsBuildCause, IsAuditCause, IsModuleCause};
-ghost use Rattle.component_session.specs.Coming.{ComeOfTexts, files_of_groups};
-ghost use Rattle.component_session.specs.Input.{IsChosen, IsLinkingOf};
+ghost use Rattle.std.specs.Prelude.{◌≡◌, ℕ, ◌<◌, ◌∷◌, [], length, Some, Err, IfOk, OnOk, OnErr, IfErr, MatchResult, option_map};
+ghost use Rattle.component_session.specs.Refusals.{IsModuleCause};
+ghost use Rattle.component_session.specs.Coming.{files_of_groups};
+ghost use Rattle.text_graphs.specs.Coming.{ComeOfTexts};
 ghost use Rattle.component_session.specs.Handed.{pairs_of};
-ghost use Rattle.plain_imports.specs.Imports.{IsBeyond, names_of};
-ghost use Rattle.plain_worlds.specs.World.{WorldMeaning, world_meaning, world_fits, function_item};
 ghost use Rattle.wasm_format.specs.Grammar.{IsModule};
-ghost use Rattle.wasm_format.specs.Module.{ModuleValue, module_value};
-ghost use Rattle.wasm_types.specs.Entries.{import_value};
-ghost use Rattle.link_lines.specs.Line.{link_value};
-ghost use Rattle.wit_component.specs.View as view;
+ghost use Rattle.wasm_format.specs.Module.{ModuleValue};
 ghost use Rattle.wit_features.specs.Features.{with_name};
 ghost use Rattle.wit_resolution.specs.GroupView.{texts};
 ghost use Rattle.wit_resolution.specs.Errors.{of_selection};
-ghost use Rattle.wit_resolution.specs.Names.{known_of};
 ghost use Rattle.wit_resolution.specs.Pushes.{AreTextsPushed, AreTextsError, AreTextsRefused};
 ghost use Rattle.wit_order.specs.Order.{Has};
 ghost use Rattle.wit_resolution.specs.Groups.{UnresolvedPackageGroup};
 ghost use Rattle.wit_resolution.specs.Texts.{files_of, IsGroupOf};
-ghost use Rattle.wit_types.specs.declared.world.World.{World as WitWorld};
 ghost use Rattle.wit_selection.specs.Selection.{IsSelected, IsSelectCause};
 ghost use Rattle.wit_selection.specs.declared.selection.SelectFault.{SelectFault};
 
 use crate::fault::{Fault, module_refusal};
 use crate::options::Options;
-use binary_grammar::ReadError;
-use component_audit::{Verdict, judge};
-use component_sections::read_definitions;
-use plain_imports::imports_fit;
-use plain_worlds::{World, plain_world};
 use std::alloc::{AllocError, Global};
 use std::collections::HashMap;
 use std::marker::Model;
-use wasm_format::{CoreModule, read_module};
-use wit_component::{Link, Linking, StringEncoding, encode, links_of};
+use wasm_format::read_module;
+use wit_component::StringEncoding;
 use wit_resolution::{
     Resolve, ResolveError, UnresolvedPackageGroup, law_parsed_packages_are_well_formed,
 };
@@ -86,7 +73,8 @@ impl<'a> Model for Session<'a> {
 impl<'a> Session<'a> {
     ghost use Rattle.std.specs.Option.{option_copied};
     ghost use Rattle.component_session.specs.Handed.{module_input};
-    ghost use Rattle.component_session.specs.Input.{empty_input, world_at, worlds_of};
+    ghost use Rattle.std.specs.Option.{ForSome};
+    ghost use Rattle.component_session.specs.Input.{empty_input, worlds_of};
 
     /// A session without texts, world and modules, with the options of `Options::new`.
     pub fn new(alloc: Global) -> Session<'a>
@@ -101,6 +89,11 @@ impl<'a> Session<'a> {
         }
     }
 
+    /// Where its memory comes from.
+    pub(crate) fn allocator(&self) -> Global {
+        self.alloc
+    }
+
     /// The packages that were pushed, with the features that are active and all texts.
     pub fn resolve(&self) -> &Resolve
         ensures { result.now ≡ self.now.resolved }
@@ -111,6 +104,13 @@ impl<'a> Session<'a> {
     /// What holds of each session: its packages are those of the texts that were pushed, each with the features that were active then.
     pub fn law_packages_come_of_texts(&self)
         ensures { ComeOfTexts ⟦<PackageName as PartialEq>⟧.eq self.now.resolved }
+    {
+        let _ = &self.resolve;
+    }
+
+    /// What holds of each session: the chosen world is there.
+    pub(crate) fn law_chosen_is_there(&self)
+        ensures { ForSome self.now.world (λ w. w < length (worlds_of self.now.resolved)) }
     {
         let _ = &self.resolve;
     }
@@ -295,137 +295,6 @@ impl<'a> Session<'a> {
         Err(Fault::NotYet)
     }
 
-    /// The plain functions of the chosen world, or why nothing can be linked.
-    #[tactic(auto, using(crate::proofs::Linked::plain_fits))]
-    fn chosen_world(&self) -> Result<World, Fault>
-        ensures found { IfOk result (λ w. IsChosen self.now (world_meaning w)) }
-        ensures fits { IfOk result (λ w. world_fits (world_meaning w) ≡ true) }
-        ensures options { IfOk result (λ _. (self.now.options.shim_return_call_ref ≡ false) × (self.now.options.debug_names ≡ false)) }
-        ensures cause { IfErr result (IsCause self.now) }
-        ensures first { self.now.main ≡ None → result ≡ Err Fault.NoModule }
-    {
-        if self.main.is_none() {
-            return Err(Fault::NoModule);
-        }
-        if self.options.shim_return_call_ref || self.options.debug_names {
-            return Err(Fault::NotYet);
-        }
-        let Some(world) = self.world() else {
-            return Err(Fault::NoWorld);
-        };
-        match plain_world(self.alloc, self.resolve().worlds().get(world))? {
-            Some(world) => Ok(world),
-            None => Err(Fault::NotYet),
-        }
-    }
-
-    /// Whether each core import of a module stands for one of the plain functions of the chosen world, or for nothing.
-    fn imports_fit(
-        &self,
-        world: WorldId,
-        plain: &World,
-        core: &CoreModule,
-    ) -> Result<bool, AllocError>
-        requires { world < length (worlds_of self.now.resolved) }
-        ensures yes { IfOk result (λ b. b ≡ true → (w : WitWorld) → slice_get (worlds_of self.now.resolved) world ≡ Some w → Any (IsBeyond (known_of self.now.resolved.graph.tables) w (names_of (world_meaning plain.now).imports)) (module_value core.now).imports → ⊥) }
-        ensures no { IfOk result (λ b. b ≡ false → (w : WitWorld) × (slice_get (worlds_of self.now.resolved) world ≡ Some w) × Any (IsBeyond (known_of self.now.resolved.graph.tables) w (names_of (world_meaning plain.now).imports)) (module_value core.now).imports) }
-    {
-        let world = self.resolve.worlds().get(world);
-        imports_fit(
-            self.alloc,
-            &self.resolve.tables(),
-            world,
-            &plain.imports,
-            &core.imports,
-        )
-    }
-
-    /// What is linked, where the chosen world has these plain functions and the options ask for nothing else, or why nothing can be.
-    #[tactic(auto, using(crate::proofs::Linked::read_is))]
-    fn linking<'s>(&'s self, plain: &'s World) -> Result<Linking<'s, 'a>, Fault>
-        requires chosen { IsChosen self.now (world_meaning plain.now) }
-        requires fits { world_fits (world_meaning plain.now) ≡ true }
-        requires options { (self.now.options.shim_return_call_ref ≡ false) × (self.now.options.debug_names ≡ false) }
-        ensures found { IfOk result (λ l. IsLinkingOf self.now (view.linking l)) }
-        ensures fits { IfOk result (λ l. world_fits (view.linking l).world ≡ true) }
-        ensures plain { IfOk result (λ l. AsksBeyond self.now → ⊥) }
-        ensures cause { IfErr result (IsCause self.now) }
-    {
-        let Some(main) = &self.main else {
-            return Err(Fault::NoModule);
-        };
-        let Some(world) = self.world() else {
-            return Err(Fault::NoWorld);
-        };
-        let core = match read_module(self.alloc, main.bytes) {
-            Ok(core) => core,
-            Err(fault) => return Err(module_refusal(fault)),
-        };
-        if !self.imports_fit(world, plain, &core)? {
-            return Err(Fault::NotYet);
-        }
-        Ok(Linking {
-            world: plain,
-            bytes: main.bytes,
-            main: core,
-            rejects_legacy: self.options.reject_legacy_names,
-        })
-    }
-
-    /// The link table: what each core import of the main module and each exported function of the world ends at,
-    /// imports first, by module text and then by name.
-    ///
-    /// Answers B1 before any other cause, X1, B2, and B7 to B12.
-    pub fn links(&self) -> Result<Vec<Link>, Fault>
-        ensures links { IfOk result (λ v. IsLinkTable self.now (map link_value v.items)) }
-        ensures cause { IfErr result (IsCause self.now) }
-        ensures first { self.now.main ≡ None → result ≡ Err Fault.NoModule }
-    {
-        let world = self.chosen_world()?;
-        let linking = self.linking(&world)?;
-        let links = links_of(self.alloc, &linking)?;
-        Ok(links)
-    }
-
-    /// The bytes of the component that joins the main module with the chosen world.
-    ///
-    /// Answers B1 before any other cause, X1, B2, B7 to B12, and B25 where none of the others holds.
-    pub fn build(&self) -> Result<Vec<u8>, Fault>
-        ensures right { IfOk result (λ v. IsBuilt self.now v.items) }
-        ensures cause { IfErr result (IsBuildCause self.now) }
-        ensures first { self.now.main ≡ None → result ≡ Err Fault.NoModule }
-    {
-        let world = self.chosen_world()?;
-        let linking = self.linking(&world)?;
-        let bytes = encode(self.alloc, &linking)?;
-        if self.options.validate {
-            self.validated(&bytes)?;
-        }
-        Ok(bytes)
-    }
-
-    /// Reads bytes that were written; what is read changes no answer.
-    fn validated(&self, bytes: &[u8]) -> Result<(), Fault>
-        ensures { IfErr result (λ e. e ≡ Fault.OutOfMemory) }
-    {
-        match read_definitions(self.alloc, bytes) {
-            Err(ReadError::Memory) => Err(Fault::OutOfMemory),
-            Ok(_) | Err(_) => Ok(()),
-        }
-    }
-
-    /// Judges bytes against the input.
-    pub(crate) fn audit(&self, bytes: &[u8]) -> Result<Verdict, Fault>
-        ensures verdict { IfOk result (IsJudged self.now bytes.now) }
-        ensures cause { IfErr result (IsAuditCause self.now bytes.now) }
-        ensures first { self.now.main ≡ None → result ≡ Err Fault.NoModule }
-    {
-        let world = self.chosen_world()?;
-        let linking = self.linking(&world)?;
-        let verdict = judge(self.alloc, &linking, bytes)?;
-        Ok(verdict)
-    }
-
     /// Whether imported interfaces of one version track are merged; at first they are.
     pub fn merge_imports_based_on_semver(&mut self, on: bool) -> &mut Session<'a>
         ensures same_reference { result.ghost_name ≡ self.entry.ghost_name }
@@ -488,19 +357,4 @@ impl<'a> Session<'a> {
         self.options.import_name_map = names;
         self
     }
-}
-
-/// Judges any bytes against a session's input, whatever order, numbering or spare definitions they use.
-///
-/// Answers yes exactly where they are right for the input, and else a finding: a condition that fails of them, and
-/// where, counted in bytes from the start, or their length where something is absent.
-///
-/// Answers X1 where the bytes have a definition that isn't judged yet, or a core module that wasn't handed in, and refuses as
-/// `Session::links` does.
-pub fn audit(session: &Session, bytes: &[u8]) -> Result<Verdict, Fault>
-    ensures verdict { IfOk result (IsJudged session.now bytes.now) }
-    ensures cause { IfErr result (IsAuditCause session.now bytes.now) }
-    ensures first { session.now.main ≡ None → result ≡ Err Fault.NoModule }
-{
-    session.audit(bytes)
 }

@@ -1,7 +1,7 @@
 mod Linked
 mod Needed
 mod Seeing
-mod Listing
+pub mod Listing
 mod Asked
 mod Told
 mod Naming

@@ -8,7 +8,7 @@ use Rattle.wit_types.specs.declared.«package».UnresolvedPackage.{UnresolvedPac
 use Rattle.wit_features.specs.Features.{FeatureSet}
 use Rattle.wit_order.specs.Order.{Has}
 use Rattle.wit_graph_parts.specs.declared.fault.PushFault.{PushFault}
-use Rattle.wit_graph.specs.Graph.{Graph}
+use Rattle.wit_graph.specs.Graph.{Graph, IsGraph}
 use Rattle.wit_graph.specs.declared.tables.Tables.{Tables}
 use Rattle.wit_graph.specs.Push.{HasMore, HasMorePackages, IsPushed, IsPushCause}
 use Rattle.wit_package_order.specs.Packages.{AreAt}
@@ -74,9 +74,9 @@ no_more a = record {
 -- ---- one more is pushed
 
 module _ (eq : PackageName → PackageName → Bool) (features : FeatureSet) where
-  pub one_more : (old next new : Graph) (p : UnresolvedPackage) (ps rest : List UnresolvedPackage) (id : ℕ) → ps ≡ p ∷ rest → IsPushed eq features old p next id → ArePushed eq features next rest new → ArePushed eq features old ps new
-  one_more old next new p ps rest id e pushed more =
-      subst (λ (qs : List UnresolvedPackage). ArePushed eq features old qs new) (sym e) (next, subst (IsPushed eq features old p next) pushed.put.id_is pushed, more)
+  pub one_more : (old next new : Graph) (p : UnresolvedPackage) (ps rest : List UnresolvedPackage) (id : ℕ) → ps ≡ p ∷ rest → IsGraph next → IsPushed eq features old p next id → ArePushed eq features next rest new → ArePushed eq features old ps new
+  one_more old next new p ps rest id e whole pushed more =
+      subst (λ (qs : List UnresolvedPackage). ArePushed eq features old qs new) (sym e) (next, whole, subst (IsPushed eq features old p next) pushed.put.id_is pushed, more)
 
   pub later_refused : (old next : Graph) (p : UnresolvedPackage) (ps rest : List UnresolvedPackage) (id : ℕ) (fault : PushFault) → ps ≡ p ∷ rest → IsPushed eq features old p next id → OneIsRefused eq features next rest fault → OneIsRefused eq features old ps fault
   later_refused old next p ps rest id fault e pushed more =
@@ -88,7 +88,7 @@ module _ (eq : PackageName → PackageName → Bool) (features : FeatureSet) whe
   -- each takes an id
   pub so_many : (old new : Graph) (ps : List UnresolvedPackage) → ArePushed eq features old ps new → length new.tables.packages ≡ length old.tables.packages + length ps
   so_many old new [] same = ap (λ (g : Graph). length g.tables.packages) same ∙ (let e : length old.tables.packages ≡ length old.tables.packages + 0 = omega arith in e)
-  so_many old new (p ∷ ps) (next, pushed, more) =
+  so_many old new (p ∷ ps) (next, whole, pushed, more) =
       let here : length next.tables.packages ≡ length old.tables.packages + 1 = ap (λ (qs : List Package). length qs) pushed.put.added.packages_are ∙ length-append old.tables.packages (pushed.put.added.q ∷ []) in
       let rest : length new.tables.packages ≡ length next.tables.packages + length ps = so_many next new ps more in
       omega (arith, here, rest)

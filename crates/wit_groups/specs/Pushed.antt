@@ -6,7 +6,7 @@ use Rattle.wit_types.specs.declared.«package».UnresolvedPackage.{UnresolvedPac
 use Rattle.wit_features.specs.Features.{FeatureSet}
 use Rattle.wit_graph_parts.specs.declared.fault.PushFault.{PushFault}
 use Rattle.wit_graph_parts.specs.declared.fault.PushFault.TheVariants.{OutOfMemory}
-use Rattle.wit_graph.specs.Graph.{Graph}
+use Rattle.wit_graph.specs.Graph.{Graph, IsGraph}
 use Rattle.wit_graph.specs.Push.{IsPushed, IsPushCause}
 use Rattle.wit_package_order.specs.Packages.{ClosesCircle, IsOrder, AreAt}
 use Rattle.wit_package_order.specs.Packages as order
@@ -21,10 +21,10 @@ of_order (ordering.ComesTwice at) = ComesTwice at
 of_order ordering.OutOfMemory = Push OutOfMemory
 
 module _ (eq : PackageName → PackageName → Bool) (features : FeatureSet) where
-  -- each is pushed into the graph with those before it
+  -- each is pushed into the graph with those before it, and what is there then holds together
   abbrev pub ArePushed : Graph → List UnresolvedPackage → Graph → Type 0
   ArePushed old [] new = new ≡ old
-  ArePushed old (p ∷ ps) new = (next : Graph) × IsPushed eq features old p next (length old.tables.packages) × ArePushed next ps new
+  ArePushed old (p ∷ ps) new = (next : Graph) × IsGraph next × IsPushed eq features old p next (length old.tables.packages) × ArePushed next ps new
 
   -- one of them is refused by the graph with those before it
   abbrev pub OneIsRefused : Graph → List UnresolvedPackage → PushFault → Type 0

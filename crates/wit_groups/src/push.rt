@@ -28,6 +28,7 @@ fn push_each(
 {
     for package in packages {
         graph.push(alloc, features, package)?;
+        graph.law_is_graph();
     }
     Ok(())
 }

@@ -103,7 +103,7 @@ one_of : (j i : ℕ) → order.Has (j ∷ []) i → i ≡ j
 one_of j i h = elim h as (λ _. i ≡ j) [ inl e ↦ e | inr none ↦ absurd none ]
 
 -- the resource of a function has a name in the table
-of_resource : (table : Entries) (m : MemberKind) (k : FunctionKind) → IsKindOf table m k → (i : ℕ) → order.Has (resource_ids k) i → (x : Name) × Has table (x, i)
+pub of_resource : (table : Entries) (m : MemberKind) (k : FunctionKind) → IsKindOf table m k → (i : ℕ) → order.Has (resource_ids k) i → (x : Name) × Has table (x, i)
 of_resource table (used t n) k is i h = absurd is
 of_resource table (defined t) k is i h = absurd is
 of_resource table (function f) k is i h = absurd (by f.is_async (subst (λ (l : FunctionKind). order.Has (resource_ids l) i) is h))
@@ -124,7 +124,7 @@ of_resource table (static r f) k (j, has, is) i h = (r.text, subst (λ (n : ℕ)
 of_resource table (constructor r ps t) k (j, has, is) i h = (r.text, subst (λ (n : ℕ). Has table (r.text, n)) (sym (one_of j i (subst (λ (l : FunctionKind). order.Has (resource_ids l) i) is h))) has)
 
 -- its parameters and its result, as parts
-refs_have : (f : Function) (i : ℕ) → order.Has (signature_ids f) i → order.Has (flat_map part_ids (function_refs f)) i
+pub refs_have : (f : Function) (i : ℕ) → order.Has (signature_ids f) i → order.Has (flat_map part_ids (function_refs f)) i
 refs_have f i h =
     let params : flat_map part_ids (map (λ (q : Param). Some q.ty) f.params.items) ≡ flat_map (λ (q : Param). ref_ids q.ty) f.params.items = flat_map-map part_ids (λ (q : Param). Some q.ty) f.params.items in
     let whole : flat_map part_ids (function_refs f) ≡ signature_ids f =

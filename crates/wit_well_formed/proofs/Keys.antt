@@ -42,7 +42,7 @@ module _ (c : Context) (w : Name) (a : List TypeDef) (table : Entries) where
   entry_key (scope.listed l) e h = extern_key l l.kind e h
   entry_key (scope.included i) e h = absurd h
 
-  entries_keys : (xs : List WorldMemberTree) (es : List Entry) → Each (IsEntryOf c w a table) xs es → AreKeysOfItems es
+  pub entries_keys : (xs : List WorldMemberTree) (es : List Entry) → Each (IsEntryOf c w a table) xs es → AreKeysOfItems es
   entries_keys [] [] h = tt
   entries_keys [] (e ∷ es) h = absurd h
   entries_keys (x ∷ xs) [] h = absurd h

@@ -1,25 +1,25 @@
-mod Lists
+pub mod Lists
 mod Nameless
 mod Others
-mod Counted
-mod Keys
-mod Apart
-mod Order
+pub mod Counted
+pub mod Keys
+pub mod Apart
+pub mod Order
 mod Earlier
-mod Holding
-mod Offsets
+pub mod Holding
+pub mod Offsets
 pub mod Whole
-mod Parsed
+pub mod Parsed
 mod Sorts
 mod Numbers
 mod Few
 mod Names
-mod Belonging
+pub mod Belonging
 mod New
 mod Labels
 mod Parameters
-mod NamesWithin
+pub mod NamesWithin
 mod PlainNames
-mod PlainTexts
-mod OffsetNames
+pub mod PlainTexts
+pub mod OffsetNames
 mod InterfaceNames

@@ -103,7 +103,7 @@ module _ (c : Context) (w : Name) (a : List TypeDef) (table : Entries) (k : Worl
   entry_type (scope.included n) h = h
 
 -- a type that a world imports is in its table
-world_type : (c : Context) (a : List TypeDef) (w : WorldScope) (id : ℕ) (d : World) (is : IsWorldIn c a w id d) (i : ℕ) → ImportsType d i → (x : Name) × Has is.table (x, i)
+pub world_type : (c : Context) (a : List TypeDef) (w : WorldScope) (id : ℕ) (d : World) (is : IsWorldIn c a w id d) (i : ℕ) → ImportsType d i → (x : Name) × Has is.table (x, i)
 world_type c a w id d is i (k, s, (n, at)) =
     elim (get_either is.type_entries is.other_imports n (k, item.TypeItem i s) (subst (λ (es : List Entry). slice_get es n ≡ Some (k, item.TypeItem i s)) is.imports_are at)) as (λ _. (x : Name) × Has is.table (x, i)) [
       | inl here ↦

@@ -94,29 +94,29 @@ module _ (f : Span → Span) where
   -- ---- plain names
 
   -- an entry that was
-  record Was (es : List Entry) (k : WorldKey) (b : WorldItem) : Type 0 where
-    before : WorldItem
-    has : Has es (k, before)
-    is : b ≡ item_by f before
+  pub record Was (es : List Entry) (k : WorldKey) (b : WorldItem) : Type 0 where
+    pub before : WorldItem
+    pub has : Has es (k, before)
+    pub is : b ≡ item_by f before
 
-  was : (es : List Entry) (k : WorldKey) (b : WorldItem) → Has (map entry_by es) (k, b) → Was es k b
+  pub was : (es : List Entry) (k : WorldKey) (b : WorldItem) → Has (map entry_by es) (k, b) → Was es k b
   was es k b h =
       let r = has_mapped entry_by es (k, b) h in
       let keys : r.0.0 ≡ k = ap (λ (e : Entry). e.0) r.2 in
       let items : item_by f r.0.1 ≡ b = ap (λ (e : Entry). e.1) r.2 in
       record { before = r.0.1; has = subst (λ (l : WorldKey). Has es (l, r.0.1)) keys r.1; is = sym items }
 
-  plain_apart : (es : List Entry) → ArePlainApart es → ArePlainApart (map entry_by es)
+  pub plain_apart : (es : List Entry) → ArePlainApart es → ArePlainApart (map entry_by es)
   plain_apart [] h = tt
   plain_apart ((key.Name x, a) ∷ es) h = (λ y b has same. (let o = was es (key.Name y) b has in h.0 y o.before o.has same), plain_apart es h.1)
   plain_apart ((key.Interface i, a) ∷ es) h = plain_apart es h
 
-  was_function : (b : WorldItem) (g : Function) → item.Function g ≡ item_by f b → (x : Function) × (b ≡ item.Function x) × (g ≡ function_by f x)
+  pub was_function : (b : WorldItem) (g : Function) → item.Function g ≡ item_by f b → (x : Function) × (b ≡ item.Function x) × (g ≡ function_by f x)
   was_function (item.Function x) g e = (x, refl, (let same : g ≡ function_by f x = cc in same))
   was_function (item.Interface id stability span) g e = absurd cc
   was_function (item.TypeItem id span) g e = absurd cc
 
-  was_type : (b : WorldItem) (id : ℕ) (s : Span) → item.TypeItem id s ≡ item_by f b → (t : Span) × (b ≡ item.TypeItem id t)
+  pub was_type : (b : WorldItem) (id : ℕ) (s : Span) → item.TypeItem id s ≡ item_by f b → (t : Span) × (b ≡ item.TypeItem id t)
   was_type (item.Function x) id s e = absurd cc
   was_type (item.Interface i stability span) id s e = absurd cc
   was_type (item.TypeItem i span) id s e = (span, (let same : id ≡ i = cc in ap (λ (j : ℕ). item.TypeItem j span) (sym same)))
@@ -145,7 +145,7 @@ module _ (f : Span → Span) where
   own_side types w ((key.Name x, b) ∷ es) h = (item_own types w x b h.0, own_side types w es h.1)
   own_side types w ((key.Interface i, b) ∷ es) h = (tt, own_side types w es h.1)
 
-  plain_side : (es : List Entry) → HasPlainSide es → HasPlainSide (map entry_by es)
+  pub plain_side : (es : List Entry) → HasPlainSide es → HasPlainSide (map entry_by es)
   plain_side es h x b has = (let o = was es (key.Name x) b has in h x o.before o.has)
 
   plain_sides : (w : World) → HasPlainSides w → HasPlainSides (world_by f w)

@@ -48,7 +48,7 @@ items_are g v = with_items_is v (map g v.items) (length-map v.items g ∙ sym v.
 module _ (f : Span → Span) where
   -- ---- types, which are made of the same
 
-  same_ids : (k : TypeDefKind) → kind_ids (kind_by f k) ≡ kind_ids k
+  pub same_ids : (k : TypeDefKind) → kind_ids (kind_by f k) ≡ kind_ids k
   same_ids (kind.Record r) = ap (flat_map (λ (x : Field). ref_ids x.ty)) (items_are (field_by f) r.fields) ∙ flat_map-map (λ (x : Field). ref_ids x.ty) (field_by f) r.fields.items
   same_ids kind.Resource = refl
   same_ids (kind.Handle h) = refl
@@ -77,12 +77,12 @@ module _ (f : Span → Span) where
 
   -- ---- interfaces, which hold the same
 
-  same_function : (x : Function) → function_ids (function_by f x) ≡ function_ids x
+  pub same_function : (x : Function) → function_ids (function_by f x) ≡ function_ids x
   same_function x =
       ap (λ (is : List ℕ). resource_ids x.kind ++ (is ++ part_ids x.result))
       (ap (flat_map (λ (p : Param). ref_ids p.ty)) (items_are (param_by f) x.params) ∙ flat_map-map (λ (p : Param). ref_ids p.ty) (param_by f) x.params.items)
 
-  same_functions : (es : List (String Global × Function)) → flat_map (λ (e : String Global × Function). function_ids e.1) (map (λ (e : String Global × Function). (e.0, function_by f e.1)) es) ≡ flat_map (λ (e : String Global × Function). function_ids e.1) es
+  pub same_functions : (es : List (String Global × Function)) → flat_map (λ (e : String Global × Function). function_ids e.1) (map (λ (e : String Global × Function). (e.0, function_by f e.1)) es) ≡ flat_map (λ (e : String Global × Function). function_ids e.1) es
   same_functions [] = refl
   same_functions (e ∷ es) = (let p = same_function e.1 in let q = same_functions es in λ i. (p i) ++ (q i))
 

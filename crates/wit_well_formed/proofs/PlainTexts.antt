@@ -209,12 +209,12 @@ files_plain texts files read =
     names_of_texts_are_plain (total (take k texts)) t.0.contents f (read.each k t.0 f t.1 at)))
 
 -- a package to which files are resolved whose names have no marks
-record IsOfPlain (p : UnresolvedPackage) : Type 0 where
-  files : List FileTree
-  are : Every IsPlainFile files
-  resolves : Resolves files p
+pub record IsOfPlain (p : UnresolvedPackage) : Type 0 where
+  pub files : List FileTree
+  pub are : Every IsPlainFile files
+  pub resolves : Resolves files p
 
-of_plain : (texts : List SourceText) (main : UnresolvedPackage) (nested : List UnresolvedPackage) → AreParsed texts main nested → (p : UnresolvedPackage) → order.Has (main ∷ nested) p → IsOfPlain p
+pub of_plain : (texts : List SourceText) (main : UnresolvedPackage) (nested : List UnresolvedPackage) → AreParsed texts main nested → (p : UnresolvedPackage) → order.Has (main ∷ nested) p → IsOfPlain p
 of_plain texts main nested parsed p (inl same) =
     let are = nested_files_are_plain parsed.files (files_plain texts parsed.files parsed.read) in
     record { files = own_files parsed.files; are = are.0; resolves = subst (Resolves (own_files parsed.files)) (sym same) parsed.resolved.main_is }

@@ -113,7 +113,7 @@ module _ (files : List FileTree) (p : UnresolvedPackage) (r : Resolves files p) 
       packages_are_ready files s.me (package_scopes s.me files) s.sorted (others_of s.items s.names) declared looked_up s.are_sorted
       (finds (package_scopes s.me files) (files_need s.me files) all_needed s.items s.items_are s.unknown s.names p.unknown_type_spans.items s.unknown_are)
 
-  world_kept : (w : WorldScope) → Has (worlds_of r.resolved.sorted) w → IsKept (WorldBreaks w.members)
+  pub world_kept : (w : WorldScope) → Has (worlds_of r.resolved.sorted) w → IsKept (WorldBreaks w.members)
   world_kept w has =
       let s = r.resolved in
       world_keeps (package_scopes s.me files) (declared_kept files s.me (package_scopes s.me files) declared) w (world_there (package_scopes s.me files) s.sorted s.are_sorted w has)

@@ -31,7 +31,7 @@ loop-package-preserved c =
     let pushed = c.in_ok-push.ensures.ok in
     record {
       whole = λ q h. inv.whole q (subst (λ (ps : List UnresolvedPackage). Has ps q) (sym step) (inr h));
-      pushed = λ last h. inv.pushed last (one_more package_eq.it c.args.features.now c.loop-package.graph c.push.new.self last p c.loop-package.package-iterator.rest.items rest c.in_ok-push.field-0 step pushed h);
+      pushed = λ last h. inv.pushed last (one_more package_eq.it c.args.features.now c.loop-package.graph c.push.new.self last p c.loop-package.package-iterator.rest.items rest c.in_ok-push.field-0 step c.law_is_graph.ensures pushed h);
       refused = λ fault h. inv.refused fault (later_refused package_eq.it c.args.features.now c.loop-package.graph c.push.new.self p c.loop-package.package-iterator.rest.items rest c.in_ok-push.field-0 fault step pushed h);
       more = more_twice c.args.graph.now c.loop-package.graph c.push.new.self inv.more c.in_ok-push.ensures.more;
     }

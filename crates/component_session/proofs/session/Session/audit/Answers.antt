@@ -1,18 +1,6 @@
-use Rattle.std.proofs.Common.{rules}
-use Rattle.wit_component.specs.View as view
-use Rattle.wit_component.proofs.Results.{moved_up}
-use Rattle.component_session.specs.Faults.{of_linking}
-use Rattle.component_session.proofs.Headline.{judged}
-use Rattle.component_session.proofs.Refusals.{audit_cause_is}
+use Rattle.std.proofs.Common.{refl}
 use Rattle.component_session.specs.Refusals.{IsAuditCause}
 use Rattle.component_session.proofs.session.Session.audit.Goals as goal
 
-pub returns-in_err-verdict-clause-cause : goal.returns-in_err-verdict-clause-cause
-returns-in_err-verdict-clause-cause c =
-    let fault = c.in_err-verdict.field-0.0 in
-    moved_up c.from_residual-in_err-verdict.result (of_linking fault) (IsAuditCause c.args.self.now c.args.bytes.now) (search rules)
-    (audit_cause_is c.args.self.now (view.linking c.in_ok-linking.linking) c.args.bytes.now fault c.in_ok-linking.ensures.found c.in_ok-linking.ensures.plain c.in_err-verdict.ensures.cause)
-
-pub returns-clause-verdict : goal.returns-clause-verdict
-returns-clause-verdict c =
-    judged c.args.self.now (view.linking c.in_ok-linking.linking) c.in_ok-linking.ensures.found c.in_ok-linking.ensures.plain c.args.bytes.now c.in_ok-verdict.verdict c.in_ok-verdict.ensures.verdict c.in_ok-verdict.ensures.linkable
+pub returns-in-None-clause-cause : goal.returns-in-None-clause-cause
+returns-in-None-clause-cause c = IsAuditCause.of_world refl (c.in_ok-plain.ensures.wide c.in-None.is)

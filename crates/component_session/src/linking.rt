@@ -1,0 +1,358 @@
+//! What a session links: its link table, its component, and the judgement of one.
+
+ghost use Rattle.std.specs.Prelude.{◌≡◌, ◌<◌, true, false, length, None, Some, Err, IfOk, IfErr, IfSome, OnOk, Any, map, slice_get};
+ghost use Rattle.component_session.specs.Headline.{IsLinkTable, IsBuilt, IsJudged};
+ghost use Rattle.component_session.specs.Input.{worlds_of, IsLinkingOf, IsWideLinkingOf, IsMainModule};
+ghost use Rattle.component_session.specs.Refusals.{AsksBeyond, IsAuditCause, IsBuildCause, IsCause, IsInputCause, IsPlain, IsWide, OptionsBeyond};
+ghost use Rattle.link_lines.specs.Line.{link_value};
+ghost use Rattle.link_table.specs.Linking.{linking_value};
+ghost use Rattle.plain_imports.specs.Imports.{IsBeyond, names_of};
+ghost use Rattle.plain_worlds.specs.World.{world_fits, world_meaning};
+ghost use Rattle.wasm_format.specs.Module.{module_value};
+ghost use Rattle.wit_component.specs.View as view;
+ghost use Rattle.wit_resolution.specs.Names.{known_of};
+ghost use Rattle.wit_types.specs.declared.world.World.{World as WitWorld};
+
+use crate::fault::{Fault, module_refusal};
+use crate::session::Session;
+use binary_grammar::ReadError;
+use component_audit::{Verdict, judge};
+use component_sections::read_definitions;
+use core_links::CoreNames;
+use labelled_worlds::{law_exported_functions_are_apart, law_worlds_have_parts_apart};
+use link_table::Linking as WideLinking;
+use linked_components::tracks_are_apart;
+use plain_imports::imports_fit;
+use plain_worlds::{World, plain_world};
+use std::alloc::AllocError;
+use text_graphs::law_text_graphs_are_named;
+use wasm_format::{CoreModule, read_module};
+use wit_component::{Link, Linking, StringEncoding, encode, links_of};
+use wit_new_names::law_same_names_are_equal;
+use wit_types::WorldId;
+
+/// A main module, as its bytes are read.
+#[derive(Drop)]
+struct MainModule<'a> {
+    bytes: &'a [u8],
+    encoding: StringEncoding,
+    core: CoreModule<'a>,
+}
+
+impl<'a> Session<'a> {
+    /// The chosen world, where options ask for nothing that is still to come.
+    fn chosen_world(&self) -> Result<WorldId, Fault>
+        ensures found { IfOk result (λ w. self.now.world ≡ Some w) }
+        ensures options { OnOk result (AsksBeyond self.now → ⊥) }
+        ensures cause { IfErr result (IsInputCause self.now) }
+        ensures first { self.now.main ≡ None → result ≡ Err Fault.NoModule }
+    {
+        let Some(_main) = self.main() else {
+            return Err(Fault::NoModule);
+        };
+        let options = self.options();
+        if options.shim_return_call_ref || options.debug_names {
+            return Err(Fault::NotYet);
+        }
+        let Some(world) = self.world() else {
+            return Err(Fault::NoWorld);
+        };
+        Ok(world)
+    }
+
+    /// The main module, as its bytes are read.
+    fn main_module(&self) -> Result<MainModule<'a>, Fault>
+        ensures found { IfOk result (λ m. IsMainModule self.now m.bytes.now m.encoding (module_value m.core)) }
+        ensures cause { IfErr result (IsInputCause self.now) }
+    {
+        let Some(handed) = self.main() else {
+            return Err(Fault::NoModule);
+        };
+        match read_module(self.allocator(), handed.bytes) {
+            Ok(core) => Ok(MainModule {
+                bytes: handed.bytes,
+                encoding: handed.encoding,
+                core,
+            }),
+            Err(fault) => Err(module_refusal(fault)),
+        }
+    }
+
+    /// Whether each core import of a module stands for one of the plain functions of the chosen world, or for nothing.
+    fn imports_fit(
+        &self,
+        world: WorldId,
+        plain: &World,
+        core: &CoreModule,
+    ) -> Result<bool, AllocError>
+        requires { world < length (worlds_of self.now.resolved) }
+        ensures yes { IfOk result (λ b. b ≡ true → (w : WitWorld) → slice_get (worlds_of self.now.resolved) world ≡ Some w → Any (IsBeyond (known_of self.now.resolved.graph.tables) w (names_of (world_meaning plain.now).imports)) (module_value core.now).imports → ⊥) }
+        ensures no { IfOk result (λ b. b ≡ false → (w : WitWorld) × (slice_get (worlds_of self.now.resolved) world ≡ Some w) × Any (IsBeyond (known_of self.now.resolved.graph.tables) w (names_of (world_meaning plain.now).imports)) (module_value core.now).imports) }
+    {
+        let resolve = self.resolve();
+        imports_fit(
+            self.allocator(),
+            &resolve.tables(),
+            resolve.worlds().get(world),
+            &plain.imports,
+            &core.imports,
+        )
+    }
+
+    /// The plain functions of the chosen world, where the main module is linked with these alone; none where it is linked with all that the
+    /// world has.
+    #[tactic(auto, using(crate::proofs::Linked::plain_fits))]
+    fn plain_functions(
+        &self,
+        world: WorldId,
+        main: &MainModule<'a>,
+    ) -> Result<Option<World>, AllocError>
+        requires chosen { self.now.world ≡ Some world }
+        requires there { world < length (worlds_of self.now.resolved) }
+        requires main { IsMainModule self.now main.now.bytes.now main.now.encoding (module_value main.now.core) }
+        ensures plain { IfOk result (λ found. IfSome found (λ w. IsPlain self.now (world_meaning w))) }
+        ensures fits { IfOk result (λ found. IfSome found (λ w. world_fits (world_meaning w) ≡ true)) }
+        ensures wide { IfOk result (λ found. found ≡ None → IsWide self.now) }
+    {
+        let Some(plain) = plain_world(self.allocator(), self.resolve().worlds().get(world))? else {
+            return Ok(None);
+        };
+        if self.imports_fit(world, &plain, &main.core)? {
+            return Ok(Some(plain));
+        }
+        Ok(None)
+    }
+
+    /// What is linked, where that is plain functions alone.
+    fn plain_linking<'s>(&self, plain: &'s World, main: MainModule<'a>) -> Linking<'s, 'a>
+        requires plain { IsPlain self.now (world_meaning plain.now) }
+        requires main { IsMainModule self.now main.bytes.now main.encoding (module_value main.core) }
+        ensures { IsLinkingOf self.now (view.linking result) }
+    {
+        Linking {
+            world: plain,
+            bytes: main.bytes,
+            main: main.core,
+            rejects_legacy: self.options().reject_legacy_names,
+        }
+    }
+
+    /// What is linked, where that is all that the chosen world has.
+    fn wide_linking<'s>(
+        &'s self,
+        world: WorldId,
+        main: &'s MainModule<'a>,
+    ) -> WideLinking<'s, 's, 'a>
+        requires chosen { self.now.world ≡ Some world }
+        requires there { world < length (worlds_of self.now.resolved) }
+        requires main { IsMainModule self.now main.now.bytes.now main.now.encoding (module_value main.now.core) }
+        ensures { IsWideLinkingOf self.entry.now (linking_value result) }
+    {
+        let resolve = self.resolve();
+        let rejects_legacy = self.options().reject_legacy_names;
+        WideLinking {
+            names: CoreNames {
+                tables: resolve.tables(),
+                world: resolve.worlds().get(world),
+                rejects_legacy,
+            },
+            main: &main.core,
+            encoding: main.encoding,
+        }
+    }
+
+    /// Refuses options that are still to come where all that the chosen world has is linked: they speak of names of interfaces.
+    fn check_options(&self, linking: &WideLinking<'_, '_, '_>) -> Result<(), Fault>
+        requires linking { IsWideLinkingOf self.now (linking_value linking.now) }
+        requires here { AsksBeyond self.now → ⊥ }
+        requires wide { IsWide self.now }
+        ensures ok { OnOk result (OptionsBeyond self.now → ⊥) }
+        ensures cause { IfErr result (IsCause self.now) }
+    {
+        self.resolve().graph().law_is_graph();
+        let options = self.options();
+        if options.emit_canonical_names || !options.import_name_map.is_empty() {
+            return Err(Fault::NotYet);
+        }
+        if !options.merge_imports_based_on_semver {
+            return Ok(());
+        }
+        if tracks_are_apart(self.allocator(), &linking.names)? {
+            return Ok(());
+        }
+        Err(Fault::NotYet)
+    }
+
+    /// The lines of plain functions.
+    fn plain_links(&self, plain: &World, main: MainModule<'a>) -> Result<Vec<Link>, Fault>
+        requires here { AsksBeyond self.now → ⊥ }
+        requires plain { IsPlain self.now (world_meaning plain.now) }
+        requires fits { world_fits (world_meaning plain.now) ≡ true }
+        requires main { IsMainModule self.now main.bytes.now main.encoding (module_value main.core) }
+        ensures links { IfOk result (λ v. IsLinkTable self.now (map link_value v.items)) }
+        ensures cause { IfErr result (IsCause self.now) }
+    {
+        let linking = self.plain_linking(plain, main);
+        let links = links_of(self.allocator(), &linking)?;
+        Ok(links)
+    }
+
+    /// The lines of all that the chosen world has.
+    fn wide_links(&self, world: WorldId, main: &MainModule<'a>) -> Result<Vec<Link>, Fault>
+        requires here { AsksBeyond self.now → ⊥ }
+        requires wide { IsWide self.now }
+        requires chosen { self.now.world ≡ Some world }
+        requires there { world < length (worlds_of self.now.resolved) }
+        requires main { IsMainModule self.now main.now.bytes.now main.now.encoding (module_value main.now.core) }
+        ensures links { IfOk result (λ v. IsLinkTable self.now (map link_value v.items)) }
+        ensures cause { IfErr result (IsCause self.now) }
+    {
+        self.resolve().graph().law_is_graph();
+        let linking = self.wide_linking(world, main);
+        self.check_options(&linking)?;
+        let links = linked_components::links(self.allocator(), &linking)?;
+        Ok(links)
+    }
+
+    /// The link table: what each core import of the main module and each exported function of the world ends at,
+    /// imports first, by module text and then by name.
+    ///
+    /// Answers B1 before any other cause, X1, B2, and B7 to B17.
+    pub fn links(&self) -> Result<Vec<Link>, Fault>
+        ensures links { IfOk result (λ v. IsLinkTable self.now (map link_value v.items)) }
+        ensures cause { IfErr result (IsCause self.now) }
+        ensures first { self.now.main ≡ None → result ≡ Err Fault.NoModule }
+    {
+        self.law_chosen_is_there();
+        let world = self.chosen_world()?;
+        let main = self.main_module()?;
+        match self.plain_functions(world, &main)? {
+            Some(plain) => self.plain_links(&plain, main),
+            None => self.wide_links(world, &main),
+        }
+    }
+
+    /// The bytes of the component of plain functions.
+    fn plain_build(&self, plain: &World, main: MainModule<'a>) -> Result<Vec<u8>, Fault>
+        requires here { AsksBeyond self.now → ⊥ }
+        requires plain { IsPlain self.now (world_meaning plain.now) }
+        requires fits { world_fits (world_meaning plain.now) ≡ true }
+        requires main { IsMainModule self.now main.bytes.now main.encoding (module_value main.core) }
+        ensures right { IfOk result (λ v. IsBuilt self.now v.items) }
+        ensures cause { IfErr result (IsBuildCause self.now) }
+    {
+        let linking = self.plain_linking(plain, main);
+        let bytes = encode(self.allocator(), &linking)?;
+        Ok(bytes)
+    }
+
+    /// The bytes of the component of all that the chosen world has.
+    fn wide_build(&self, world: WorldId, main: &MainModule<'a>) -> Result<Vec<u8>, Fault>
+        requires here { AsksBeyond self.now → ⊥ }
+        requires wide { IsWide self.now }
+        requires chosen { self.now.world ≡ Some world }
+        requires there { world < length (worlds_of self.now.resolved) }
+        requires main { IsMainModule self.now main.now.bytes.now main.now.encoding (module_value main.now.core) }
+        ensures right { IfOk result (λ v. IsBuilt self.now v.items) }
+        ensures cause { IfErr result (IsBuildCause self.now) }
+    {
+        self.law_packages_come_of_texts();
+        law_same_names_are_equal();
+        law_text_graphs_are_named();
+        law_worlds_have_parts_apart();
+        law_exported_functions_are_apart();
+        let linking = self.wide_linking(world, main);
+        self.check_options(&linking)?;
+        let bytes = linked_components::build(self.allocator(), &linking, world, main.bytes)?;
+        Ok(bytes)
+    }
+
+    /// The bytes of the component, before anything looks at them.
+    fn built(&self) -> Result<Vec<u8>, Fault>
+        ensures right { IfOk result (λ v. IsBuilt self.now v.items) }
+        ensures cause { IfErr result (IsBuildCause self.now) }
+        ensures first { self.now.main ≡ None → result ≡ Err Fault.NoModule }
+    {
+        self.law_chosen_is_there();
+        let world = self.chosen_world()?;
+        let main = self.main_module()?;
+        match self.plain_functions(world, &main)? {
+            Some(plain) => self.plain_build(&plain, main),
+            None => self.wide_build(world, &main),
+        }
+    }
+
+    /// The bytes of the component that joins the main module with the chosen world.
+    ///
+    /// Answers B1 before any other cause, X1, B2, B7 to B17, and B25 where none of the others holds.
+    pub fn build(&self) -> Result<Vec<u8>, Fault>
+        ensures right { IfOk result (λ v. IsBuilt self.now v.items) }
+        ensures cause { IfErr result (IsBuildCause self.now) }
+        ensures first { self.now.main ≡ None → result ≡ Err Fault.NoModule }
+    {
+        let bytes = self.built()?;
+        if self.options().validate {
+            self.validated(&bytes)?;
+        }
+        Ok(bytes)
+    }
+
+    /// Reads bytes that were written; what is read changes no answer.
+    fn validated(&self, bytes: &[u8]) -> Result<(), Fault>
+        ensures { IfErr result (λ e. e ≡ Fault.OutOfMemory) }
+    {
+        match read_definitions(self.allocator(), bytes) {
+            Err(ReadError::Memory) => Err(Fault::OutOfMemory),
+            Ok(_) | Err(_) => Ok(()),
+        }
+    }
+
+    /// Judges bytes against plain functions.
+    fn plain_judgement(
+        &self,
+        plain: &World,
+        main: MainModule<'a>,
+        bytes: &[u8],
+    ) -> Result<Verdict, Fault>
+        requires here { AsksBeyond self.now → ⊥ }
+        requires plain { IsPlain self.now (world_meaning plain.now) }
+        requires fits { world_fits (world_meaning plain.now) ≡ true }
+        requires main { IsMainModule self.now main.bytes.now main.encoding (module_value main.core) }
+        ensures verdict { IfOk result (IsJudged self.now bytes.now) }
+        ensures cause { IfErr result (IsAuditCause self.now bytes.now) }
+    {
+        let linking = self.plain_linking(plain, main);
+        let verdict = judge(self.allocator(), &linking, bytes)?;
+        Ok(verdict)
+    }
+
+    /// Judges bytes against the input.
+    pub(crate) fn audit(&self, bytes: &[u8]) -> Result<Verdict, Fault>
+        ensures verdict { IfOk result (IsJudged self.now bytes.now) }
+        ensures cause { IfErr result (IsAuditCause self.now bytes.now) }
+        ensures first { self.now.main ≡ None → result ≡ Err Fault.NoModule }
+    {
+        self.law_chosen_is_there();
+        let world = self.chosen_world()?;
+        let main = self.main_module()?;
+        match self.plain_functions(world, &main)? {
+            Some(plain) => self.plain_judgement(&plain, main, bytes),
+            None => Err(Fault::NotYet),
+        }
+    }
+}
+
+/// Judges any bytes against a session's input, whatever order, numbering or spare definitions they use.
+///
+/// Answers yes exactly where they are right for the input, and else a finding: a condition that fails of them, and
+/// where, counted in bytes from the start, or their length where something is absent.
+///
+/// Answers X1 where the input links more than plain functions, where the bytes have a definition that isn't judged yet, or a core module that
+/// wasn't handed in, and refuses as `Session::links` does.
+pub fn audit(session: &Session, bytes: &[u8]) -> Result<Verdict, Fault>
+    ensures verdict { IfOk result (IsJudged session.now bytes.now) }
+    ensures cause { IfErr result (IsAuditCause session.now bytes.now) }
+    ensures first { session.now.main ≡ None → result ≡ Err Fault.NoModule }
+{
+    session.audit(bytes)
+}

@@ -1,0 +1,17 @@
+-- Worlds of a graph, and lists of names by ids (WIT, Worlds, Item: `include`).
+use Rattle.std.specs.Prelude.{ℕ}
+use Rattle.core_links.specs.Names.{Names}
+use Rattle.type_sinks.specs.Root.{InterfaceNames}
+use Rattle.right_components.specs.Outside.{AreInterfaceNames}
+use Rattle.wit_graph.specs.Graph.{AreWhole}
+use Rattle.wit_graph.specs.declared.tables.Tables.{Tables}
+use Rattle.linked_worlds.specs.Linked.{AreNamesOf}
+use Rattle.interface_names.specs.Names.{AreImportsThere, HasTwoNames}
+
+-- what a world of a graph imports in the end is there
+abbrev pub ImportsAreThere : Type 0
+ImportsAreThere = (t : Tables) (i : ℕ) (n : Names) → AreWhole t → AreNamesOf t i n → AreImportsThere n
+
+-- no list says two names of one interface
+abbrev pub TwoNamesAreNotListed : Type 0
+TwoNamesAreNotListed = (n : Names) (names : InterfaceNames) → HasTwoNames n → AreInterfaceNames n names → ⊥

@@ -1,0 +1,12 @@
+//! The component that joins a core module with a world of a graph of packages, and the lines of its link table.
+#![tactic(auto)]
+
+mod component;
+mod fault;
+mod law;
+mod tracks;
+
+pub use component::{build, links};
+pub use fault::ComponentFault;
+pub use law::law_linked_has_no_cause;
+pub use tracks::tracks_are_apart;

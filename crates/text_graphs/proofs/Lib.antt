@@ -1,0 +1,2 @@
+pub mod Induction
+pub mod Named

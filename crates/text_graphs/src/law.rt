@@ -1,0 +1,44 @@
+//! A law of graphs that come of texts.
+
+ghost use Rattle.text_graphs.specs.Graphs.{TextGraphsAreNamed};
+
+use wit_labelled_graphs::{
+    law_empty_graphs_are_labelled, law_empty_graphs_have_named_worlds,
+    law_pushed_graphs_are_labelled, law_pushed_graphs_have_named_worlds,
+};
+use wit_labelled_packages::{
+    law_moved_names_read_back, law_moved_packages_have_named_worlds, law_parsed_names_read_back,
+    law_parsed_packages_have_named_worlds, law_parsed_packages_have_names_apart,
+};
+use wit_named_graphs::law_pushed_graphs_are_named;
+use wit_named_packages::{law_moved_packages_are_named, law_parsed_packages_are_named};
+use wit_new_names::{law_empty_graphs_are_known, law_pushed_graphs_are_known};
+use wit_well_formed::{
+    law_moved_packages_are_well_formed, law_moved_packages_have_names_apart,
+    law_parsed_packages_are_well_formed,
+};
+
+/// Packages that come of texts are a graph in which interfaces and worlds take types of others by use alone, and names that have to tell
+/// things apart do: those of packages, of interfaces, of what stands in one scope, labels of types and parameters of functions (WIT,
+/// Packages, Use, Package Names, Item: `world`).
+pub fn law_text_graphs_are_named()
+    ensures { TextGraphsAreNamed }
+{
+    law_parsed_packages_are_well_formed();
+    law_moved_packages_are_well_formed();
+    law_parsed_packages_are_named();
+    law_moved_packages_are_named();
+    law_pushed_graphs_are_named();
+    law_empty_graphs_are_known();
+    law_parsed_names_read_back();
+    law_moved_names_read_back();
+    law_pushed_graphs_are_known();
+    law_empty_graphs_are_labelled();
+    law_parsed_packages_have_names_apart();
+    law_moved_packages_have_names_apart();
+    law_pushed_graphs_are_labelled();
+    law_empty_graphs_have_named_worlds();
+    law_parsed_packages_have_named_worlds();
+    law_moved_packages_have_named_worlds();
+    law_pushed_graphs_have_named_worlds();
+}

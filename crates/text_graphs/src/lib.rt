@@ -1,0 +1,6 @@
+//! Laws: graphs of packages that come of texts hold together, and their names tell things apart.
+#![tactic(auto)]
+
+mod law;
+
+pub use law::law_text_graphs_are_named;

@@ -1,0 +1,4 @@
+pub mod Under
+pub mod Same
+pub mod Labelled
+pub mod Named

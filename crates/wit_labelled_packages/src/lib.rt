@@ -1,0 +1,11 @@
+//! Laws: names of packages of texts are read back, and names of one scope in them differ.
+#![tactic(auto)]
+
+mod law;
+mod names;
+
+pub use law::{
+    law_exported_functions_are_under_names, law_moved_packages_have_named_worlds,
+    law_parsed_packages_have_named_worlds, law_parsed_packages_have_names_apart,
+};
+pub use names::{law_moved_names_read_back, law_parsed_names_read_back};

@@ -1,0 +1,9 @@
+mod Outside
+mod Scope
+mod Members
+mod Packages
+mod Interfaces
+mod Worlds
+mod Used
+mod Whole
+mod Moved

@@ -1,0 +1,10 @@
+//! Laws: packages of texts take types of others by use alone, and names that have to tell things apart do.
+#![tactic(auto)]
+
+mod law;
+
+pub use law::{
+    law_moved_packages_are_named, law_parsed_packages_are_named,
+    law_resolved_interfaces_take_by_use, law_resolved_worlds_take_by_use,
+    law_used_interfaces_are_named,
+};
