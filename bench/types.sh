@@ -8,11 +8,4 @@
 # is removed at the end.
 set -eu
 
-top=$(CDPATH='' cd -- "$(dirname -- "$0")/.." && pwd)
-program=$top/crates/component_linker_program/out/component_linker_program
-
-# Without words the program runs its own example, so this only builds it where it is missing or old.
-"$top/component_linker" >/dev/null
-folder=$(mktemp -d)
-trap 'rm -rf "$folder"' EXIT
-python3 "$top/bench/types.py" "$program" "$folder" "$@"
+exec "$(dirname -- "$0")/program.sh" types "$@"
