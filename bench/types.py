@@ -22,9 +22,9 @@ def importer(pairs):
 
 def functions(count):
     """An interface of so many functions over a type of its own, all of which are linked."""
-    items = "".join(f"  f{i}: func(v: t) -> t;\n" for i in range(count))
+    items = "".join(f"  call{i}: func(v: t) -> t;\n" for i in range(count))
     text = "package a:b;\ninterface i {\n  type t = u32;\n" + items + "}\nworld w { import i; }\n"
-    return text, importer(("a:b/i", f"f{i}") for i in range(count))
+    return text, importer(("a:b/i", f"call{i}") for i in range(count))
 
 
 def interfaces(count):

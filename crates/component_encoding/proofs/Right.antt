@@ -20,7 +20,8 @@ use Rattle.link_table.specs.Linking.{Linking, exported_functions}
 use Rattle.link_table.specs.Pairwise.{Pairwise}
 use Rattle.link_table.specs.Table.{ImportEntry, ExportEntry, Table, IsTable}
 use Rattle.right_components.specs.Main.{main_of}
-use Rattle.right_components.specs.Outside.{AreInterfaceNames, resource_label, IsListed, IsExported}
+use Rattle.right_components.specs.Needed.{AreInOrder}
+use Rattle.right_components.specs.Outside.{AreInterfaceNames, resource_label, IsListed, AreTypesHeld, IsExported}
 use Rattle.right_components.specs.Ends.{IsImportOf, IsLoweringOf}
 use Rattle.right_components.specs.Right.{IsImported, ImportsRight, ExportsRight, ModulesRight, AreGiven, TakesOwn, LiftsOwn, LinksRight, IsRightFor}
 use Rattle.linked_imports.specs.Imports.{HasImport, its_own, of_instance, IsLowered, IsTypeAt, AreImportsWritten, AreImportsListed}
@@ -89,7 +90,7 @@ module _ (l : Linking) (names : InterfaceNames) (bytes : List ℕ) (t : Table) (
       (low.1.label, low.1.is_import, needed_by e low.0 low.1 low.1.imported)
 
   imports_right : ImportsRight l names t last
-  imports_right = record { needed = each_of _ t.imports needed; listed = subst (Each (IsListed l.names names)) (sym imports_are) m.listed }
+  imports_right = record { needed = each_of _ t.imports needed; listed = subst (Each (IsListed l names)) (sym imports_are) m.listed.each; types = subst (AreTypesHeld l names) (sym imports_are) m.listed.types; order = subst (AreInOrder l names) (sym imports_are) m.listed.order }
 
   -- ---- exports
 

@@ -3,7 +3,7 @@ mod Imported
 mod Asked
 mod Walked
 pub mod Staying
-mod Needing
+pub mod Needing
 pub mod Worldly
 pub mod Typed
 pub mod Readied

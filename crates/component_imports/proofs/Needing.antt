@@ -37,7 +37,7 @@ use Rattle.component_imports.proofs.Walked.{flat_same}
 use Rattle.component_imports.proofs.Staying.{stays_on, interface_stays, same_instance, owned_are, each_of, each_in}
 
 -- what is asked of an interface's functions is asked
-functions_asked : (linked : List (List Function)) (i : ℕ) (fs : List Function) (x : ℕ) → slice_get linked i ≡ Some fs → Has (ids_of fs) x → Has (flat_map ids_of linked) x
+pub functions_asked : (linked : List (List Function)) (i : ℕ) (fs : List Function) (x : ℕ) → slice_get linked i ≡ Some fs → Has (ids_of fs) x → Has (flat_map ids_of linked) x
 functions_asked [] i fs x at h = absurd cc
 functions_asked (gs ∷ linked) zero fs x at h = let same : gs ≡ fs = cc in has_was (ids_of gs) (flat_map ids_of linked) x (subst (λ l. Has (ids_of l) x) (sym same) h)
 functions_asked (gs ∷ linked) (suc i) fs x at h = has_append (ids_of gs) (flat_map ids_of linked) x (functions_asked linked i fs x at h)

@@ -2,10 +2,12 @@
 -- refuse.
 --
 -- An input (Input.antt) is packages of WIT texts, a chosen world, a main module and options. It links the world's functions with the core
--- imports and exports of the module: the link table (in wit_component, Table.antt) has one entry for each, and its lines are what `links`
--- shows. The bytes of a component are a list of definitions by the grammar of components (in known_definitions, Component.antt). What their
--- indices stand for is one fold over the list (in wit_component, Meaning.antt), and what has to hold of that is one condition for each kind
--- of finding (there, Right.antt).
+-- imports and exports of the module: the link table (in link_table, Table.antt) has one entry for each, and its lines are what `links`
+-- shows. The bytes of a component are a list of definitions by the grammar of components (in component_sections, Component.antt). What their
+-- indices stand for is one fold over the list (in component_meaning, Spaces.antt), and what has to hold of that is in right_components,
+-- Right.antt. Where plain functions alone are linked, the input is plain (Refusals.antt), and all of this stands in definitions of its own,
+-- which the auditor decides: the table in wit_component, Table.antt; the grammar in known_definitions, Component.antt; the fold in
+-- wit_component, Meaning.antt; and one condition for each kind of finding there, in Right.antt.
 use Rattle.std.specs.Prelude.{◌≡◌, ◌⊎◌, ℕ, ◌≤◌, List, length, map}
 use Rattle.known_definitions.specs.Definition.{DefinitionValue}
 use Rattle.known_definitions.specs.Component.{IsComponent}
@@ -67,9 +69,9 @@ pub record IsPlainlyBuilt (input : Input) (bytes : List ℕ) : Type 0 where
   pub right : IsRight input bytes
   pub imports : (ds : List DefinitionValue) → IsComponent bytes ds → (meaning linking.main ds).imports ≡ map listed (needed linking)
 
--- or of all that the world has, and the bytes are a component that is right for its link table: it imports at least what links need and at
--- most what the world lists, exports what the world does, instantiates the module once, and each core import and each export ends as its entry
--- says (in right_components, Right.antt)
+-- or of all that the world has, and the bytes are a component that is right for its link table: it imports exactly what links and the types
+-- of exports need, exports what the world does, instantiates the module once, and each core import and each export ends as its entry says (in
+-- right_components, Right.antt)
 pub record IsWidelyBuilt (input : Input) (bytes : List ℕ) : Type 0 where
   pub linking : WideLinking
   pub ready : IsWideReady input linking

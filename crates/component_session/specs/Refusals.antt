@@ -109,10 +109,10 @@ IsInputCause input faults.OutOfMemory = Unit {0}
 
 -- why links aren't answered
 abbrev pub IsCause : Input → Fault → Type 0
-IsCause input faults.NotYet = AsksBeyond input ⊎ (OfLinking input IsStillToCome ⊎ (OfWide input (λ l. OptionsBeyond input) ⊎ OfWide input (λ l. IsTableCause l tables.NotYet)))
-IsCause input faults.NoModule = input.main ≡ None
-IsCause input faults.NoWorld = input.world ≡ None
-IsCause input (faults.BadModule cause) = (handed : ModuleInput) × (input.main ≡ Some handed) × IsModuleCause handed.bytes (faults.BadModule cause)
+IsCause input faults.NotYet = IsInputCause input faults.NotYet ⊎ (OfLinking input IsStillToCome ⊎ (OfWide input (λ l. OptionsBeyond input) ⊎ OfWide input (λ l. IsTableCause l tables.NotYet)))
+IsCause input faults.NoModule = IsInputCause input faults.NoModule
+IsCause input faults.NoWorld = IsInputCause input faults.NoWorld
+IsCause input (faults.BadModule cause) = IsInputCause input (faults.BadModule cause)
 IsCause input (faults.Linking cause) = IsLinkingCause input cause
 IsCause input faults.NoMemory = OfWide input (λ l. IsTableCause l tables.NoMemory)
 IsCause input faults.NoRealloc = OfWide input (λ l. IsTableCause l tables.NoRealloc)

@@ -39,13 +39,25 @@ pub struct HandedModule<'a> {
 
 /// Texts, a chosen world, modules and options, from which a component is built, and against which one is
 /// judged. Contracts see it as its input.
-#[derive(Drop)]
 pub struct Session<'a> {
     alloc: Global,
     resolve: Resolve,
     world: Option<WorldId>,
     main: Option<HandedModule<'a>>,
     options: Options,
+}
+
+// By hand, so that what lets packages and options go is proved here alone.
+impl Drop for Session<'_> {
+    fn drop(self) {
+        let Session {
+            alloc: _,
+            resolve: _,
+            world: _,
+            main: _,
+            options: _,
+        } = self;
+    }
 }
 
 impl<'a> Model for Session<'a> {

@@ -1,3 +1,4 @@
 pub mod Faults
 pub mod Build
 pub mod Tracks
+pub mod Order

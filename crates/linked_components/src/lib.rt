@@ -8,5 +8,5 @@ mod tracks;
 
 pub use component::{build, links};
 pub use fault::ComponentFault;
-pub use law::law_linked_has_no_cause;
+pub use law::{law_linked_has_no_cause, law_used_stand_before};
 pub use tracks::tracks_are_apart;

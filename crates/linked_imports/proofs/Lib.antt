@@ -5,4 +5,5 @@ mod Needed
 mod Written
 mod Importable
 mod Names
+mod Order
 mod Listed

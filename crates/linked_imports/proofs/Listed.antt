@@ -1,5 +1,6 @@
 -- All that is imported is listed by the world.
-use Rattle.std.proofs.Common.{◌≡◌, ℕ, ◌+◌, true, false, List, [], ◌∷◌, ◌++◌, Option, Some, None, String, inl, inr, refl, sym, subst, ap, ◌∙◌, arith, zero-add}
+use Rattle.std.proofs.Common.{◌≡◌, ℕ, ◌+◌, true, false, List, [], ◌∷◌, ◌++◌, length, Option, Some, None, String, inl, inr, refl, sym, subst, ap, ◌∙◌, arith, zero-add}
+use Rattle.std.proofs.lemmas.Bool.{eq-eqb}
 use Rattle.std.proofs.lemmas.Option.{same_Some, slice_get_within}
 use Rattle.std.specs.List.{AllByRecursion as Each}
 use Rattle.std.specs.Prelude.{slice_get, option_to_list, string_bytes}
@@ -18,6 +19,7 @@ use Rattle.wit_types.specs.declared.world.WorldItem.{WorldItem}
 use Rattle.wit_types.specs.declared.world.WorldItem.TheVariants as item
 use Rattle.wit_types.specs.declared.world_key.WorldKey.{WorldKey}
 use Rattle.wit_reach.specs.Deps.{interface_of}
+use Rattle.wit_reach.specs.Lists.{AreOwnersThere}
 use Rattle.wit_reach.specs.Made.{IsMadeOfWithin}
 use Rattle.wit_reach.specs.Needed.{BelongsTo}
 use Rattle.wit_reach.specs.Paths.{AreEnds}
@@ -42,16 +44,19 @@ use Rattle.component_imports.specs.Functions.{function_names}
 use Rattle.component_imports.specs.Interface.{interface_name}
 use Rattle.component_imports.specs.Interfaces.{ids_of, is_needed, names_from, owned_names, HasInterface}
 use Rattle.component_imports.specs.Ready.{IsInterfaceAsked}
+use Rattle.component_imports.proofs.Needing.{some_needed}
 use Rattle.component_imports.proofs.Worldly.{functions_at_stay}
 use Rattle.core_links.specs.Needed.{own_functions, functions_of}
 use Rattle.link_table.specs.Linking.{Linking, types_of, exported_functions}
 use Rattle.link_table.proofs.Pairwise.{placed}
-use Rattle.right_components.specs.Outside.{AreInterfaceNames, IsTextOf, IsFunction, IsType, IsOfInterface, its_function as function_inside, its_type as type_inside, IsListed, an_interface, its_function, its_type}
+use Rattle.right_components.specs.Needed.{IsFunctionNeeded, IsTypeNeeded}
+use Rattle.right_components.specs.Outside.{AreInterfaceNames, IsTextOf, IsFunction, IsType, IsOfInterface, its_function as function_inside, its_type as type_inside, IsListed, an_interface, its_function, its_type, AreTypesHeld}
 use Rattle.linked_imports.specs.Imports.{AreNeeded, own_types, AreListed, AreNamed, AreImportsListed}
 use Rattle.linked_imports.specs.Roots.{HasImports, HoldsImports, Keeps}
 use Rattle.linked_imports.specs.declared.imports.Imported.{Imported}
 use Rattle.linked_imports.proofs.Names.{each_from, has_split, has_mapped, part_has, has_item_name, IsNameOfOne, type_name, own_type_name, owner_is, IsNameOfInterface, interface_name_from}
 use Rattle.linked_imports.proofs.Needed.{each_has, interface_keeps, interface_name_same, world_names}
+use Rattle.linked_imports.proofs.Order.{ids_needed, names_needed, needed_rise, seen_is_needed, type_needed, interface_needed, row_needed, each_needed, all_needed}
 use Rattle.linked_imports.proofs.Taken.{function_at_place}
 
 -- ---- what is imported stays
@@ -125,7 +130,7 @@ module _ (l : Linking) (world : ℕ) (r : Root) (instances : List (Option ℕ)) 
   imports = (root_scope r).imports
 
   abbrev IsOne : List ℕ → Type 0
-  IsOne n = (a : Entry) × Has imports a × (a.name ≡ n) × IsListed l.names names a
+  IsOne n = (a : Entry) × Has imports a × (a.name ≡ n) × IsListed l names a
 
   -- ---- functions
 
@@ -136,7 +141,7 @@ module _ (l : Linking) (world : ℕ) (r : Root) (instances : List (Option ℕ)) 
       let tree = written (root_label names) at.tree in
       let n = string_bytes f.name in
       let e = own_entry l.names.world.imports.entries f (part_has own (own_functions l.names.world.imports.entries) f needed.own_are.part h) in
-      (record { name = n; item = a_function (from_import (import_label n)) tree }, has.good.imports.functions (first + p.0) n tree at.is, refl, its_function e.0 f e.1 refl (record { tree = at.tree; unfolds = at.unfolds; binary = tree; is = refl; same = refl }))
+      (record { name = n; item = a_function (from_import (import_label n)) tree }, has.good.imports.functions (first + p.0) n tree at.is, refl, its_function e.0 f e.1 (needed.own_are.each f h) refl (record { tree = at.tree; unfolds = at.unfolds; binary = tree; is = refl; same = refl }))
 
   -- ---- types of the world
 
@@ -168,7 +173,7 @@ module _ (l : Linking) (world : ℕ) (r : Root) (instances : List (Option ℕ)) 
         entry tree,
         subst (λ (t : BinaryTree). Has imports (entry t)) (sym is) imported_there,
         sym one.is,
-        its_type e.0 one.id e.1 e.2 (one.def, one.name, one.there, one.named, refl) (record { tree = stands.0; unfolds = stands.1; binary = tree; is = refl; same = refl }),
+        its_type e.0 one.id e.1 e.2 (let from = ends_are.only one.id one.among in seen_is_needed l own linked needed (belongs.World world) from.0 one.id from.1 from.2) (one.def, one.name, one.there, one.named, refl) (record { tree = stands.0; unfolds = stands.1; binary = tree; is = refl; same = refl }),
       )
 
   -- ---- interfaces
@@ -178,14 +183,14 @@ module _ (l : Linking) (world : ℕ) (r : Root) (instances : List (Option ℕ)) 
   asked_of i [] (f ∷ fs) a b is = inr (f ∷ fs, f, b, inl refl)
   asked_of i (j ∷ ids) fs a b is = let k = (has.needed_are.needed i (j ∷ ids) a j).0 (inl refl) in inl (j, k.0, k.1)
 
-  module _ (i : ℕ) (ids : List ℕ) (fs : List Function) (linked_at : slice_get linked i ≡ Some fs) (h : HasInterface r types i ids fs) (d : Interface) (d_at : slice_get l.names.known.interfaces i ≡ Some d) where
+  module _ (i : ℕ) (ids : List ℕ) (fs : List Function) (needed_at : slice_get has.needed i ≡ Some ids) (linked_at : slice_get linked i ≡ Some fs) (h : HasInterface r types i ids fs) (d : Interface) (d_at : slice_get l.names.known.interfaces i ≡ Some d) where
     abbrev items : Items
     items = h.items.items
 
     abbrev name : List ℕ
     name = interface_name r i
 
-    function_is : (x : Entry) (f : Function) → item_named x.name items ≡ x.item → x.name ≡ string_bytes f.name → Has fs f → IsOfInterface types names (imported name) d x
+    function_is : (x : Entry) (f : Function) → item_named x.name items ≡ x.item → x.name ≡ string_bytes f.name → Has fs f → IsOfInterface l names (imported name) i d x
     function_is x f found is among =
         let at = each_has (λ g. InstanceHasFunction r h.instance (imported name) types (string_bytes g.name) g.params.items g.result) fs f h.has among in
         let same_instance : an_instance (imported name) at.items ≡ an_instance (imported name) items = sym at.is ∙ h.items.is in
@@ -196,9 +201,9 @@ module _ (l : Linking) (world : ℕ) (r : Root) (instances : List (Option ℕ)) 
         let key : x.name ≡ string_bytes there.0.0 = is ∙ ap (λ (g : Function). string_bytes g.name) there.2 ∙ sym (called.functions i d there.0 d_at there.1) in
         let of : x.item ≡ item x.name = sym found ∙ ap (λ n. item_named n items) is ∙ ap (item_named (string_bytes f.name)) (sym same) ∙ at.has ∙ ap item (sym is) in
         let its : IsFunction types names f (from_import (record { site = imported name; name = x.name })) x.item = record { tree = at.tree; unfolds = at.unfolds; binary = tree; is = of; same = refl } in
-        function_inside there.0 there.1 key (subst (λ (g : Function). IsFunction types names g (from_import (record { site = imported name; name = x.name })) x.item) there.2 its)
+        function_inside there.0 there.1 (subst (IsFunctionNeeded l i) there.2 (needed.linked_are.each i fs f linked_at among)) key (subst (λ (g : Function). IsFunction types names g (from_import (record { site = imported name; name = x.name })) x.item) there.2 its)
 
-    type_is : (x : Entry) → item_named x.name items ≡ x.item → IsNameOfOne types ids (is_of i) x.name → IsOfInterface types names (imported name) d x
+    type_is : (x : Entry) → item_named x.name items ≡ x.item → IsNameOfOne types ids (is_of i) x.name → IsOfInterface l names (imported name) i d x
     type_is x found one =
         let home = each_has (HasItsName (setting_over r i) types (λ id. IsHome names types (root_scope r).instances id h.instance)) ids one.id h.homes one.among one.def one.name one.there one.named one.its in
         let same_instance : an_instance home.site home.items ≡ an_instance (imported name) items = sym home.is ∙ h.items.is in
@@ -215,20 +220,20 @@ module _ (l : Linking) (world : ℕ) (r : Root) (instances : List (Option ℕ)) 
         let texts_too : listed_as.own_name ≡ one.name = same_Some listed_as.own_name one.name (sym listed_as.named ∙ ap (λ (e : TypeDef). e.name) defs_too ∙ one.named) in
         let key : x.name ≡ string_bytes there.0.0 = one.is ∙ ap string_bytes (sym texts_too) ∙ listed_as.is in
         let its : IsType types names one.id x.item = record { tree = home.tree; unfolds = home.unfolds; binary = tree; is = of; same = refl } in
-        type_inside there.0 there.1 key (subst (λ (id : ℕ). IsType types names id x.item) there.2 its)
+        type_inside there.0 there.1 (subst (IsTypeNeeded l) there.2 (type_needed l own linked needed has.needed has.needed_are i one.id ids needed_at one.among)) key (subst (λ (id : ℕ). IsType types names id x.item) there.2 its)
 
-    item_listed : (x : Entry) → Has (entries_of items) x → IsOfInterface types names (imported name) d x
+    item_listed : (x : Entry) → Has (entries_of items) x → IsOfInterface l names (imported name) i d x
     item_listed x among =
         let distinct = (has.good.imports.instances h.instance (imported name) items h.items.is).distinct in
         let found = items_found items x distinct among in
         let n = subst (λ (ns : List (List ℕ)). Has ns x.name) h.items.named (has_item_name items x among) in
-        elim (has_split (owned_names i types ids) (function_names fs) x.name n) as (λ _. IsOfInterface types names (imported name) d x) [
+        elim (has_split (owned_names i types ids) (function_names fs) x.name n) as (λ _. IsOfInterface l names (imported name) i d x) [
           | inl of_type ↦ type_is x found (own_type_name i types ids x.name of_type)
           | inr of_function ↦ (let f = has_mapped (λ (g : Function). string_bytes g.name) fs x.name of_function in function_is x f.0 found f.2 f.1)
         ]
 
-    inside_listed : Each (IsOfInterface types names (imported name) d) (entries_of items)
-    inside_listed = each_from (IsOfInterface types names (imported name) d) (entries_of items) item_listed
+    inside_listed : Each (IsOfInterface l names (imported name) i d) (entries_of items)
+    inside_listed = each_from (IsOfInterface l names (imported name) i d) (entries_of items) item_listed
 
   interface_listed : (n : List ℕ) → IsNameOfInterface (interface_name r) has.needed linked 0 n → IsOne n
   interface_listed n one =
@@ -249,8 +254,39 @@ module _ (l : Linking) (world : ℕ) (r : Root) (instances : List (Option ℕ)) 
         entry name,
         subst (λ (m : List ℕ). Has imports (entry m)) (sym same) made.has,
         sym (one.is ∙ ap (interface_name r) (zero-add i)),
-        an_interface key.0 i key.1.0 key.1.1 d.0 h.items.items key.1.2 d.1 (subst (λ (t : List ℕ). IsTextOf l.names key.0 t) (sym is) text.1) refl (inside_listed i one.ids one.fs one.linked_there h d.0 d.1),
+        an_interface key.0 i key.1.0 key.1.1 d.0 h.items.items key.1.2 d.1 (interface_needed l own linked needed has.needed has.needed_are i one.ids one.fs one.needed_there one.linked_there one.counts) (subst (λ (t : List ℕ). IsTextOf l.names key.0 t) (sym is) text.1) refl (inside_listed i one.ids one.fs one.needed_there one.linked_there h d.0 d.1),
       )
+
+  -- a type of an interface that is needed is there, where its owner is
+  type_held : AreOwnersThere (length l.names.known.interfaces) types → AreTypesHeld l names imports
+  type_held owners id i d x at owner called_so needed_is =
+      let below = owners id i d at (ap interface_of owner) in
+      let many = needed.linked_are.so_many in
+      let size = has.needed_are.size in
+      let row = got has.needed i (omega (arith, below, many, size)) in
+      let fs = got linked i (omega (arith, below, many)) in
+      let here = row_needed l own linked needed has.needed has.needed_are i id row.0 row.1 (d, at, ap interface_of owner) needed_is in
+      let h = (has.has_interfaces i row.0 fs.0 row.1 fs.1 (some_needed row.0 fs.0 id here)).0 in
+      let name = interface_name r i in
+      let home = each_has (HasItsName (setting_over r i) types (λ k. IsHome names types (root_scope r).instances k h.instance)) row.0 id h.homes here d x at called_so (ap (is_of i) owner ∙ eq-eqb i i refl) in
+      let made = has.good.imports.instances h.instance (imported name) h.items.items h.items.is in
+      let sites : imported name ≡ imported made.name = made.at in
+      let same : name ≡ made.name = cc in
+      let same_instance : an_instance home.site home.items ≡ an_instance (imported name) h.items.items = sym home.is ∙ h.items.is in
+      let same_items : home.items ≡ h.items.items = cc in
+      let defs : home.def ≡ d = same_Some home.def d (sym home.there ∙ at) in
+      let texts : string_bytes home.name ≡ string_bytes x = ap string_bytes (same_Some home.name x (sym home.named ∙ ap (λ (e : TypeDef). e.name) defs ∙ called_so)) in
+      let tree = written (root_label names) home.tree in
+      let of : item_named (string_bytes x) h.items.items ≡ a_type tree = ap (λ n. item_named n h.items.items) (sym texts) ∙ ap (item_named (string_bytes home.name)) (sym same_items) ∙ home.has in
+      let entry : List ℕ → Entry = λ m. record { name = m; item = an_instance (imported name) h.items.items } in
+      record {
+        entry = entry name;
+        there = subst (λ (m : List ℕ). Has imports (entry m)) (sym same) made.has;
+        named = refl;
+        items = h.items.items;
+        is = refl;
+        type_is = record { tree = home.tree; unfolds = home.unfolds; binary = tree; is = of; same = refl };
+      }
 
   -- ---- all
 
@@ -265,20 +301,32 @@ module _ (l : Linking) (world : ℕ) (r : Root) (instances : List (Option ℕ)) 
     ]
   ]
 
-  entry_listed : (x : Entry) → Has imports x → IsListed l.names names x
+  entry_listed : (x : Entry) → Has imports x → IsListed l names x
   entry_listed x h =
       let n : Has (root_names r) x.name = subst (λ (ns : List (List ℕ)). Has ns x.name) (sym (imports_named (entry_values r))) (mapped_has (λ (e : Entry). e.name) imports x h) in
       let a = named_listed x.name n in
-      subst (IsListed l.names names) (entries_apart imports a.0 x has.good.imports.distinct a.1 h a.2) a.3
+      subst (IsListed l names) (entries_apart imports a.0 x has.good.imports.distinct a.1 h a.2) a.3
 
-  pub all_listed : AreImportsListed l names (root_scope r)
-  all_listed = each_from (IsListed l.names names) imports entry_listed
+  pub all_listed : AreOwnersThere (length l.names.known.interfaces) types → AreImportsListed l names (root_scope r)
+  all_listed owners = record {
+    each = each_from (IsListed l names) imports entry_listed;
+    types = type_held owners;
+    order = record {
+      interfaces = ids_needed 0 has.needed linked;
+      others = names_of_types (root_setting r) types has.ids ++ function_names own;
+      are = sym (imports_named (entry_values r)) ∙ has.names ∙ ap (λ ns. ns ++ (names_of_types (root_setting r) types has.ids ++ function_names own)) (sym (names_needed (interface_name r) 0 has.needed linked));
+      rising = needed_rise 0 has.needed linked;
+      each = each_needed l own linked needed has.needed has.needed_are;
+      all = all_needed l own linked needed has.needed has.needed_are owners;
+    };
+  }
 
 pub imports_listed : (l : Linking) (world : ℕ) (names : InterfaceNames) (i : Imported) (r : Root) (others : List ℕ) (own : List Function) (linked : List (List Function)) → HoldsImports i names (types_of l) world others own linked
-    → others ≡ ids_of (exported_functions l.names.world) → Keeps i.root r (types_of l) → AreNeeded l own linked → AreListed l world own linked → AreNamed l.names → AreInterfaceNames l.names names → AreImportsListed l names (root_scope r)
-imports_listed l world names i r others own linked held are keeps needed all called under =
+    → others ≡ ids_of (exported_functions l.names.world) → Keeps i.root r (types_of l) → AreNeeded l own linked → AreListed l world own linked → AreNamed l.names → AreInterfaceNames l.names names
+    → AreOwnersThere (length l.names.known.interfaces) (types_of l) → AreImportsListed l names (root_scope r)
+imports_listed l world names i r others own linked held are keeps needed all called under owners =
     let given = ids_of (exported_functions l.names.world) in
     let before = subst (λ (ids : List ℕ). HasImports i.root (types_of l) world i.instances.items i.first ids own linked) are held.has in
     let has = imports_keep i.root r (types_of l) world i.instances.items i.first given own linked keeps before in
     let same : interface_names r ≡ names = keeps.interfaces ∙ held.interfaces in
-    subst (λ (ns : InterfaceNames). AreImportsListed l ns (root_scope r)) same (all_listed l world r i.instances.items i.first own linked has needed all called (subst (AreInterfaceNames l.names) (sym same) under))
+    subst (λ (ns : InterfaceNames). AreImportsListed l ns (root_scope r)) same (all_listed l world r i.instances.items i.first own linked has needed all called (subst (AreInterfaceNames l.names) (sym same) under) owners)

@@ -34,7 +34,8 @@ use Rattle.link_table.specs.Linking.{Linking, types_of, exported_functions}
 use Rattle.link_table.specs.Pairwise.{Pairwise}
 use Rattle.link_table.specs.Table.{ImportEntry, Table}
 use Rattle.link_table.specs.Types.{HasTree}
-use Rattle.right_components.specs.Outside.{IsTextOf, IsListed}
+use Rattle.right_components.specs.Needed.{AreInOrder}
+use Rattle.right_components.specs.Outside.{IsTextOf, IsListed, AreTypesHeld}
 use Rattle.right_components.specs.Ends.{IsImportOf}
 
 -- ---- what is linked
@@ -91,9 +92,11 @@ pub record AreImportsWritten (l : Linking) (t : Table) (names : InterfaceNames) 
   pub lifted_are : Pairwise (IsTypeAt l names s) (exported_functions l.names.world) lifted
   pub exports : s.exports ≡ []
 
--- and all that it imports is listed by the world
-abbrev pub AreImportsListed : Linking → InterfaceNames → Scope → Type 0
-AreImportsListed l names s = Each (IsListed l.names names) s.imports
+-- all that it imports is needed and listed by the world, types of interfaces that are needed are imported, and interfaces stand in order
+pub record AreImportsListed (l : Linking) (names : InterfaceNames) (s : Scope) : Type 0 where
+  pub each : Each (IsListed l names) s.imports
+  pub types : AreTypesHeld l names s.imports
+  pub order : AreInOrder l names s.imports
 
 -- what is needed stands in the way of nothing, but sizes and memory
 pub record IsImportable (l : Linking) (world : ℕ) (names : InterfaceNames) : Type 0 where

@@ -1,4 +1,5 @@
 pub mod Main
+pub mod Needed
 pub mod Outside
 pub mod Ends
 pub mod Right

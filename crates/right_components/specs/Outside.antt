@@ -8,6 +8,7 @@ use Rattle.wit_types.specs.Package.{interface_text}
 use Rattle.wit_types.specs.declared.function.Function.{Function}
 use Rattle.wit_types.specs.declared.interface.Interface.{Interface}
 use Rattle.wit_types.specs.declared.interface.TypeDef.{TypeDef}
+use Rattle.wit_types.specs.declared.interface.TypeOwner.TheVariants as belongs
 use Rattle.wit_types.specs.declared.kind.«Type».TheVariants.{Id}
 use Rattle.wit_types.specs.declared.stability.Stability.{Stability}
 use Rattle.wit_types.specs.declared.world.WorldItem.TheVariants as item
@@ -15,14 +16,16 @@ use Rattle.wit_types.specs.declared.world_key.WorldKey.{WorldKey}
 use Rattle.wit_names.specs.Names.{IsKeyText}
 use Rattle.wit_core_names.specs.Texts.{IsNameOf}
 use Rattle.type_meaning.specs.Words.{Site, imported, Label, Resource, defined_at, imported_as, its_own, itself, BinaryTree, seen}
-use Rattle.type_meaning.specs.Items.{Origin, from_import, Item, Items, a_type, a_function, an_instance, Entry}
+use Rattle.type_meaning.specs.Items.{Origin, from_import, Item, Items, a_type, a_function, an_instance, item_named, Entry}
 use Rattle.type_meaning.specs.Scope.{import_label}
 use Rattle.type_writing.specs.Unfolding.{WitTree, Unfolds}
 use Rattle.type_writing.specs.Writing.{written}
 use Rattle.type_sinks.specs.Root.{InterfaceNames, root_label}
 use Rattle.type_sinks.specs.Imports.{entries_of}
 use Rattle.core_links.specs.Names.{Names}
+use Rattle.link_table.specs.Linking.{Linking, types_of}
 use Rattle.link_table.specs.Types.{HasTree}
+use Rattle.right_components.specs.Needed.{IsFunctionNeeded, IsOwnNeeded, IsTypeNeeded, IsInterfaceNeeded}
 
 -- ---- names
 
@@ -64,21 +67,37 @@ pub record IsType (types : List TypeDef) (names : InterfaceNames) (id : ℕ) (i 
 
 -- ---- interfaces
 
--- what an instance has is a function or a type of the interface, under its name
-pub data IsOfInterface (types : List TypeDef) (names : InterfaceNames) (site : Site) (d : Interface) (e : Entry) : Type 0 where
-  its_function : (f : String Global × Function) → Has d.functions.entries f → e.name ≡ string_bytes f.0 → IsFunction types names f.1 (from_import (record { site = site; name = e.name })) e.item → IsOfInterface types names site d e
-  its_type : (t : String Global × ℕ) → Has d.types.entries t → e.name ≡ string_bytes t.0 → IsType types names t.1 e.item → IsOfInterface types names site d e
+-- what an instance has is a function or a type of the interface that is needed, under its name
+pub data IsOfInterface (l : Linking) (names : InterfaceNames) (site : Site) (id : ℕ) (d : Interface) (e : Entry) : Type 0 where
+  its_function : (f : String Global × Function) → Has d.functions.entries f → IsFunctionNeeded l id f.1 → e.name ≡ string_bytes f.0
+      → IsFunction (types_of l) names f.1 (from_import (record { site = site; name = e.name })) e.item → IsOfInterface l names site id d e
+  its_type : (t : String Global × ℕ) → Has d.types.entries t → IsTypeNeeded l t.1 → e.name ≡ string_bytes t.0 → IsType (types_of l) names t.1 e.item → IsOfInterface l names site id d e
 
 -- ---- imports
 
--- what is imported is listed by the world: an interface with nothing but what is its own, a function or a type, under its name
-pub data IsListed (n : Names) (names : InterfaceNames) (e : Entry) : Type 0 where
+-- what is imported is listed by the world and needed: an interface with nothing but what of it is needed, a function or a type, under its
+-- name
+pub data IsListed (l : Linking) (names : InterfaceNames) (e : Entry) : Type 0 where
   an_interface : (key : WorldKey) (id : ℕ) (stability : Stability) (span : _) (d : Interface) (items : Items)
-      → Has n.world.imports.entries (key, item.Interface id stability span) → slice_get n.known.interfaces id ≡ Some d → IsTextOf n key e.name
-      → e.item ≡ an_instance (imported e.name) items → Each (IsOfInterface n.known.types names (imported e.name) d) (entries_of items) → IsListed n names e
-  its_function : (key : WorldKey) (f : Function) → Has n.world.imports.entries (key, item.Function f) → e.name ≡ string_bytes f.name
-      → IsFunction n.known.types names f (from_import (import_label e.name)) e.item → IsListed n names e
-  its_type : (key : WorldKey) (id : ℕ) (span : _) → Has n.world.imports.entries (key, item.TypeItem id span) → IsNameOf n.known.types id e.name → IsType n.known.types names id e.item → IsListed n names e
+      → Has l.names.world.imports.entries (key, item.Interface id stability span) → slice_get l.names.known.interfaces id ≡ Some d → IsInterfaceNeeded l id → IsTextOf l.names key e.name
+      → e.item ≡ an_instance (imported e.name) items → Each (IsOfInterface l names (imported e.name) id d) (entries_of items) → IsListed l names e
+  its_function : (key : WorldKey) (f : Function) → Has l.names.world.imports.entries (key, item.Function f) → IsOwnNeeded l f → e.name ≡ string_bytes f.name
+      → IsFunction (types_of l) names f (from_import (import_label e.name)) e.item → IsListed l names e
+  its_type : (key : WorldKey) (id : ℕ) (span : _) → Has l.names.world.imports.entries (key, item.TypeItem id span) → IsTypeNeeded l id → IsNameOf (types_of l) id e.name → IsType (types_of l) names id e.item → IsListed l names e
+
+-- the instance of an interface is imported, and has the type under a name
+pub record HoldsType (l : Linking) (names : InterfaceNames) (imports : List Entry) (interface id : ℕ) (name : List ℕ) : Type 0 where
+  pub entry : Entry
+  pub there : Has imports entry
+  pub named : entry.name ≡ get_or names interface []
+  pub items : Items
+  pub is : entry.item ≡ an_instance (imported entry.name) items
+  pub type_is : IsType (types_of l) names id (item_named name items)
+
+-- so it is of each type of an interface that is needed
+abbrev pub AreTypesHeld : Linking → InterfaceNames → List Entry → Type 0
+AreTypesHeld l names imports =
+    (id j : ℕ) (d : TypeDef) (x : String Global) → slice_get (types_of l) id ≡ Some d → d.owner ≡ belongs.Interface j → d.name ≡ Some x → IsTypeNeeded l id → HoldsType l names imports j id (string_bytes x)
 
 -- ---- exports
 

@@ -11,7 +11,8 @@ use Rattle.component_meaning.specs.Core.{Source, of_main, of_unknown, of_items, 
 use Rattle.component_meaning.specs.Spaces.{Spaces, all_given}
 use Rattle.link_table.specs.Linking.{Linking, types_of, exported_functions}
 use Rattle.link_table.specs.Table.{ImportEntry, ExportEntry, Table}
-use Rattle.right_components.specs.Outside.{AreInterfaceNames, IsFunction, IsListed, IsExported}
+use Rattle.right_components.specs.Needed.{AreInOrder}
+use Rattle.right_components.specs.Outside.{AreInterfaceNames, IsFunction, IsListed, AreTypesHeld, IsExported}
 use Rattle.right_components.specs.Ends.{IsImportOf, IsLoweringOf, IsLiftOf}
 
 -- ---- imports
@@ -21,10 +22,13 @@ pub data IsImported (l : Linking) (names : InterfaceNames) (s : Spaces) (e : Imp
   its_own : label.site ≡ root_import → (x : Entry) → Has s.scope.imports x → x.name ≡ label.name → IsFunction (types_of l) names e.function (from_import label) x.item → IsImported l names s e label
   of_instance : (x : Entry) (items : Items) → Has s.scope.imports x → x.item ≡ an_instance label.site items → IsFunction (types_of l) names e.function (from_import label) (item_named label.name items) → IsImported l names s e label
 
--- at least what links need is imported, and at most what the world lists
+-- exactly what is needed of what the world lists is imported, and interfaces behind those whose types they use: the functions of core imports,
+-- and the types that these and exported functions are made of, those of the world itself by the trees of functions, which have their names
 pub record ImportsRight (l : Linking) (names : InterfaceNames) (t : Table) (s : Spaces) : Type 0 where
   pub needed : Each (λ e. (label : Label) × IsImportOf l.names e label × IsImported l names s e label) t.imports
-  pub listed : Each (IsListed l.names names) s.scope.imports
+  pub listed : Each (IsListed l names) s.scope.imports
+  pub types : AreTypesHeld l names s.scope.imports
+  pub order : AreInOrder l names s.scope.imports
 
 -- ---- exports
 

@@ -1,7 +1,9 @@
 -- Graphs of packages that come of texts (WIT, Packages).
-use Rattle.std.specs.Prelude.{Bool}
+use Rattle.std.specs.Prelude.{◌≡◌, ℕ, Bool, List, Some}
+use Rattle.wit_types.specs.Package.{interface_text}
 use Rattle.wit_types.specs.declared.«package».PackageName.{PackageName}
 use Rattle.wit_graph.specs.Graph.{Graph, IsGraph}
+use Rattle.wit_names.specs.Names.{IsTextOf}
 use Rattle.wit_named_graphs.specs.Pushed.{IsNamedGraph}
 use Rattle.wit_new_names.specs.Names.{SeesSameNames}
 use Rattle.wit_new_names.specs.Graphs.{IsKnownGraph}
@@ -22,3 +24,8 @@ pub record IsTextGraph (g : Graph) : Type 0 where
 -- where names of the same texts and versions are equal
 abbrev pub TextGraphsAreNamed : Type 0
 TextGraphsAreNamed = (eq : PackageName → PackageName → Bool) (r : Resolved) → SeesSameNames eq → ComeOfTexts eq r → IsTextGraph r.graph
+
+-- there the text of an interface, which `id_of` answers, tells it from any other
+abbrev pub NamesTellInterfacesApart : Type 0
+NamesTellInterfacesApart = (eq : PackageName → PackageName → Bool) (r : Resolved) (i j : ℕ) (text : List ℕ) → SeesSameNames eq → ComeOfTexts eq r
+    → IsTextOf interface_text r.graph.tables.packages r.graph.tables.interfaces.all i (Some text) → IsTextOf interface_text r.graph.tables.packages r.graph.tables.interfaces.all j (Some text) → i ≡ j

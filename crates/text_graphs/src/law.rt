@@ -1,7 +1,8 @@
-//! A law of graphs that come of texts.
+//! Laws of graphs that come of texts.
 
-ghost use Rattle.text_graphs.specs.Graphs.{TextGraphsAreNamed};
+ghost use Rattle.text_graphs.specs.Graphs.{NamesTellInterfacesApart, TextGraphsAreNamed};
 
+use wit_item_names::law_names_tell_interfaces_apart;
 use wit_labelled_graphs::{
     law_empty_graphs_are_labelled, law_empty_graphs_have_named_worlds,
     law_pushed_graphs_are_labelled, law_pushed_graphs_have_named_worlds,
@@ -41,4 +42,12 @@ pub fn law_text_graphs_are_named()
     law_parsed_packages_have_named_worlds();
     law_moved_packages_have_named_worlds();
     law_pushed_graphs_have_named_worlds();
+}
+
+/// In such a graph no two interfaces have one text: `Resolve::id_of` tells any two apart that have a name (WIT, Package Names).
+pub fn law_text_names_tell_interfaces_apart()
+    ensures { NamesTellInterfacesApart }
+{
+    law_names_tell_interfaces_apart();
+    law_text_graphs_are_named();
 }

@@ -3,4 +3,4 @@
 
 mod law;
 
-pub use law::law_text_graphs_are_named;
+pub use law::{law_text_graphs_are_named, law_text_names_tell_interfaces_apart};

@@ -6,6 +6,7 @@ mod Included
 mod Added
 mod Pushed
 pub mod Texts
+pub mod Told
 pub mod Renaming
 mod Entries
 mod Plain

@@ -1,6 +1,7 @@
 //! Laws of names of items.
 
 ghost use Rattle.wit_item_names.specs.Added.{AddedWorldsArePlain, AddedWorldsUseNamed};
+ghost use Rattle.wit_item_names.specs.Apart.{NamesTellInterfacesApart};
 ghost use Rattle.wit_item_names.specs.Placed.{PlacedAreNamedApart, PlacedUseNamed, PlacedWorldsArePlain};
 ghost use Rattle.wit_item_names.specs.Pushed.{PushedAreUsedNamed};
 ghost use Rattle.wit_item_names.specs.Tables.{FoundAreNamed, PlacedTablesNameNamed};
@@ -12,6 +13,12 @@ use wit_uses::{
     law_brought_takes_by_use, law_interfaces_still_take_by_use, law_moved_interfaces_take_by_use,
     law_placed_worlds_take_by_use,
 };
+
+/// Where names tell packages apart, and the interfaces of each, and no part of these has a mark that stands between them, no two interfaces have
+/// one text (WIT, Package Names).
+pub fn law_names_tell_interfaces_apart()
+    ensures { NamesTellInterfacesApart }
+{}
 
 /// Where names tell the packages and interfaces of a graph apart, and the interfaces of a package, whose name is new, they do so in the graph
 /// with the package (WIT, Package Names).

@@ -41,12 +41,23 @@ use wit_well_formed::{law_moved_packages_are_well_formed, law_parsed_packages_ar
 use wit_words::{SourceMap, Span};
 
 /// Packages that are resolved together, with the features that are active and the texts in which they stand (WIT, Packages).
-#[derive(Drop)]
 pub struct Resolve {
     alloc: Global,
     features: Features,
     source_map: SourceMap,
     graph: Graph,
+}
+
+// By hand, so that what lets texts and features go is proved here alone.
+impl Drop for Resolve {
+    fn drop(self) {
+        let Resolve {
+            alloc: _,
+            features: _,
+            source_map: _,
+            graph: _,
+        } = self;
+    }
 }
 
 impl Model for Resolve {

@@ -1,0 +1,23 @@
+-- The order in which interfaces are imported (WIT, Use; Component Model, Explainer, Index Spaces).
+use Rattle.std.specs.Prelude.{◌≡◌, ℕ, List, [], map, get_or}
+use Rattle.wit_reach.specs.Needed.{BelongsTo}
+use Rattle.wit_reach.specs.Paths.{Reaches}
+use Rattle.wit_reach.specs.Types.{IsMadeOf}
+use Rattle.type_meaning.specs.Items.{Entry}
+use Rattle.component_imports.specs.Order.{StandsBefore}
+use Rattle.component_meaning.specs.Spaces.{meaning}
+use Rattle.component_sections.specs.Component.{DefinitionValue}
+use Rattle.link_table.specs.Linking.{Linking, types_of}
+use Rattle.right_components.specs.Main.{main_of}
+use Rattle.right_components.specs.Needed.{IsTypeNeeded}
+use Rattle.linked_components.specs.Build.{IsOfNamedGraph, IsComponentOf}
+
+-- the names of what definitions import
+abbrev pub import_names : Linking → List ℕ → List DefinitionValue → List (List ℕ)
+import_names l bytes ds = map (λ (e : Entry). e.name) (meaning (main_of bytes l.main) ds).scope.imports
+
+-- where a type of an interface is needed and made of a type of another, the component imports both, and the other before it
+abbrev pub UsedStandBefore : Type 0
+UsedStandBefore =
+    (l : Linking) (world : ℕ) (bytes encoded : List ℕ) (own j i x : ℕ) → IsOfNamedGraph l world → (c : IsComponentOf l bytes encoded) → BelongsTo (types_of l) i own → IsTypeNeeded l i → Reaches (IsMadeOf (types_of l)) i x
+    → BelongsTo (types_of l) x j → (j ≡ own → ⊥) → StandsBefore (import_names l bytes c.2.definitions) (get_or c.2.right.names j []) (get_or c.2.right.names own [])
