@@ -1,6 +1,6 @@
 //! A world's imports with all that they and its exports depend on.
 
-ghost use Rattle.std.specs.Prelude.{◌≡◌, ℕ, ◌<◌, [], length, map, IfOk};
+ghost use Rattle.std.specs.Prelude.{◌≡◌, ℕ, ◌<◌, [], length, map, IfOk, OnOk};
 ghost use Rattle.indexmap.specs.IndexMap.{insert_all};
 ghost use Rattle.wit_order.specs.Order.{Has};
 ghost use Rattle.wit_reach.specs.Paths.{AreRising};
@@ -32,6 +32,30 @@ fn implied(
     Ok(entries)
 }
 
+/// Puts entries behind those that are there: one of which the key is there takes the place of that.
+fn put_each<K: Eq + Hash + Drop, V: Drop>(
+    found: &mut IndexMap<K, V>,
+    entries: Vec<(K, V)>,
+) -> Result<(), AllocError>
+    ensures { OnOk result (found.new.entries ≡ insert_all K.eq found.old.entries entries.items) }
+{
+    for (key, value) in entries {
+        found.insert(key, value)?;
+    }
+    Ok(())
+}
+
+/// Puts all of another map behind what is there.
+fn put_all<K: Eq + Hash + Drop, V: Drop>(
+    found: &mut IndexMap<K, V>,
+    others: IndexMap<K, V>,
+) -> Result<(), AllocError>
+    ensures { OnOk result (found.new.entries ≡ insert_all K.eq found.old.entries others.entries) }
+{
+    let mut rest = others;
+    found.append(&mut rest)
+}
+
 /// Entries, and then others: one of which the key is there takes the place of that.
 fn put_behind<K: Eq + Hash + Drop, V: Drop>(
     alloc: Global,
@@ -41,13 +65,8 @@ fn put_behind<K: Eq + Hash + Drop, V: Drop>(
     ensures { IfOk result (λ found. found.entries ≡ insert_all K.eq (insert_all K.eq [] first.items) others.entries) }
 {
     let mut found = IndexMap::new(alloc);
-    for (key, value) in first {
-        found.insert(key, value)?;
-    }
-    found.reserve(others.len())?;
-    for (key, value) in others {
-        found.insert(key, value)?;
-    }
+    put_each(&mut found, first)?;
+    put_all(&mut found, others)?;
     Ok(found)
 }
 

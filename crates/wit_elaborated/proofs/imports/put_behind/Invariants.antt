@@ -1,9 +1,0 @@
-use Rattle.std.proofs.Common.{◌≡◌, []}
-use Rattle.indexmap.specs.IndexMap.{insert_all}
-use Rattle.wit_elaborated.proofs.imports.put_behind.Given as goal
-
-abbrev pub invariant-loop-key : goal.invariant-loop-key
-invariant-loop-key g l = insert_all g.K.PartialEq.eq l.found.entries l.key-iterator.rest.items ≡ insert_all g.K.PartialEq.eq [] l.fn.first.items
-
-abbrev pub invariant-loop-key-2 : goal.invariant-loop-key-2
-invariant-loop-key-2 g l = insert_all g.K.PartialEq.eq l.found.entries l.key-iterator ≡ insert_all g.K.PartialEq.eq (insert_all g.K.PartialEq.eq [] l.fn.first.items) l.fn.others.entries
