@@ -1,16 +1,8 @@
-use Rattle.std.proofs.Common.{[], ◌∷◌, sym, subst, ◌∙◌}
-use Rattle.std.proofs.lemmas.List.{append-nil}
-use Rattle.wit_types.specs.declared.interface.Interface.{Interface}
-use Rattle.wit_moves.specs.Interfaces.{IsMovedInterface}
-use Rattle.wit_plans.specs.Checks.{Standing}
-use Rattle.wit_plans.specs.Moves.{adds_no_interface, adds_interface}
+use Rattle.std.proofs.lemmas.Result.{on_ok_weaker}
+use Rattle.wit_plans.proofs.Adding.{interface_if}
 use Rattle.wit_plans.proofs.moves.add_interface.Goals as goal
 
-pub returns-in_ok-push : goal.returns-in_ok-push
-returns-in_ok-push c =
-    let e : Interface = c.move_interface.new.interface in
-    let moved = subst (λ (s : Standing). IsMovedInterface c.args.features.now s.types c.args.owner c.args.interface e) c.standing.view_is c.move_interface.ensures in
-    (e ∷ [], adds_interface e (sym c.keeps.ensures ∙ c.if-keeps.true) moved, c.in_ok-push.ensures.items)
-
-pub returns-else-keeps : goal.returns-else-keeps
-returns-else-keeps c = ([], adds_no_interface (sym c.keeps.ensures ∙ c.if-keeps.false), sym (append-nil c.args.found.now.items))
+pub returns : goal.returns
+returns c =
+    let placed = c.place_interface-stays in
+    on_ok_weaker c.add_if.result (λ items. interface_if c.args.features.now c.args.standing.now c.args.owner c.args.interface placed.new.interface placed.result c.args.found.now.items c.add_if.new.found.items placed.ensures.stays placed.ensures.moved items) c.add_if.ensures

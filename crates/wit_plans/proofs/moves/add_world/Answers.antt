@@ -1,10 +1,10 @@
-use Rattle.std.proofs.Common.{[], ◌∷◌, sym, ◌∙◌}
-use Rattle.std.proofs.lemmas.List.{append-nil}
-use Rattle.wit_plans.specs.Moves.{adds_no_world, adds_world}
+use Rattle.std.proofs.lemmas.Result.{on_ok_weaker}
+use Rattle.wit_plans.proofs.Adding.{world_in, world_out}
 use Rattle.wit_plans.proofs.moves.add_world.Goals as goal
 
-pub returns-in_ok-push : goal.returns-in_ok-push
-returns-in_ok-push c = (c.in_ok-moved_world.field-0 ∷ [], adds_world c.in_ok-moved_world.field-0 (sym c.keeps.ensures ∙ c.if-keeps.true) c.in_ok-moved_world.ensures, c.in_ok-push.ensures.items)
+pub returns-in-Some : goal.returns-in-Some
+returns-in-Some c =
+    on_ok_weaker c.add_moved.result (λ added. world_in c.args.features.now c.args.standing.now c.args.world c.in-Some.world c.keeps-stays.result c.kept.result c.args.found.now.items c.add_moved.new.found.items c.keeps-stays.ensures c.kept.ensures c.in-Some.is added) c.add_moved.ensures
 
-pub returns-else-keeps : goal.returns-else-keeps
-returns-else-keeps c = ([], adds_no_world (sym c.keeps.ensures ∙ c.if-keeps.false), sym (append-nil c.args.found.now.items))
+pub returns-in-None : goal.returns-in-None
+returns-in-None c = world_out c.args.features.now c.args.standing.now c.args.world c.keeps-stays.result c.kept.result c.args.found.now.items c.keeps-stays.ensures c.kept.ensures c.in-None.is
