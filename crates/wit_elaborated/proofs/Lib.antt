@@ -2,3 +2,4 @@ mod Elaborating
 mod Listed
 pub mod Staying
 mod Containing
+mod Outcomes

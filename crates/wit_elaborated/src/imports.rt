@@ -56,6 +56,18 @@ fn put_all<K: Eq + Hash + Drop, V: Drop>(
     found.append(&mut rest)
 }
 
+/// Puts entries behind those that are there, and then others.
+fn put_both<K: Eq + Hash + Drop, V: Drop>(
+    found: &mut IndexMap<K, V>,
+    first: Vec<(K, V)>,
+    others: IndexMap<K, V>,
+) -> Result<(), AllocError>
+    ensures { OnOk result (found.new.entries ≡ insert_all K.eq (insert_all K.eq found.old.entries first.items) others.entries) }
+{
+    put_each(found, first)?;
+    put_all(found, others)
+}
+
 /// Entries, and then others: one of which the key is there takes the place of that.
 fn put_behind<K: Eq + Hash + Drop, V: Drop>(
     alloc: Global,
@@ -65,9 +77,7 @@ fn put_behind<K: Eq + Hash + Drop, V: Drop>(
     ensures { IfOk result (λ found. found.entries ≡ insert_all K.eq (insert_all K.eq [] first.items) others.entries) }
 {
     let mut found = IndexMap::new(alloc);
-    put_each(&mut found, first)?;
-    put_all(&mut found, others)?;
-    Ok(found)
+    put_both(&mut found, first, others).and(Ok(found))
 }
 
 /// What a world imports in the end, of what it lists as imports: the interfaces of that order, each as the world lists it, and then

@@ -1,14 +1,15 @@
-use Rattle.std.proofs.Common.{ℕ, ◌<◌, List, [], inl, refl, sym, subst}
-use Rattle.wit_order.specs.Order.{Has}
-use Rattle.wit_elaborated.proofs.Listed.{keys_listed}
+use Rattle.std.proofs.Common.{sym, subst}
+use Rattle.std.specs.Prelude.{IfOk, IfErr}
+use Rattle.wit_elaborated.specs.Worlds.{IsElaboratedWorld, IsElaboratedCause}
+use Rattle.wit_elaborated.proofs.Outcomes.{and_ok, and_err}
 use Rattle.wit_elaborated.proofs.worlds.elaborated_world.Goals as goal
 
-pub with_imports-requires-clause-there : goal.with_imports-requires-clause-there
-with_imports-requires-clause-there c = λ i h.
-    subst (λ (n : ℕ). i < n) c.requires.rows (c.in_ok-order.ensures.ok.0 i (subst (λ (l : List ℕ). Has l i) c.as_slice.ensures.value h))
+pub returns-clause-ok : goal.returns-clause-ok
+returns-clause-ok c =
+    let Is = IsElaboratedWorld c.args.types.now c.args.interfaces.now c.args.uses.now c.args.world in
+    subst (λ r. IfOk r Is) (sym c.and.ensures) (and_ok c.put_elaborated.result c.put_elaborated.new.world Is (λ is. is) c.put_elaborated.ensures.ok)
 
-pub with_imports-requires-clause-listed : goal.with_imports-requires-clause-listed
-with_imports-requires-clause-listed c = λ i h.
-    let found = c.in_ok-order.ensures.ok.1 in
-    let listed = subst (λ (l : List ℕ). Has l i) (sym found.1.imports) (keys_listed c.args.world.imports.entries c.requires.keys i h) in
-    subst (λ (l : List ℕ). Has l i) (sym c.as_slice.ensures.value) (found.2.all i (i, inl listed, ([], refl)))
+pub returns-clause-cause : goal.returns-clause-cause
+returns-clause-cause c =
+    let Is = IsElaboratedCause c.args.types.now c.args.uses.now c.args.world in
+    subst (λ r. IfErr r Is) (sym c.and.ensures) (and_err c.put_elaborated.result c.put_elaborated.new.world Is c.put_elaborated.ensures.cause)

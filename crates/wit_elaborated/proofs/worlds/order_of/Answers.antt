@@ -1,4 +1,4 @@
-use Rattle.std.proofs.Common.{ℕ, List, ◌<◌, length}
+use Rattle.std.proofs.Common.{ℕ, ◌<◌, length}
 use Rattle.std.proofs.lemmas.Result.{IfOk-weaker}
 use Rattle.wit_order.specs.Order.{Has}
 use Rattle.wit_reach.specs.Reach.{Lists, Uses, lists_of, IsElaboration}
