@@ -9,6 +9,24 @@ use std::alloc::{AllocError, Global};
 use wit_scopes::push_to;
 use wit_syntax::{AstItem, Docs, File, FileItem, Gated, Package, PackageHeader};
 
+/// An item of a nested package as one of a file.
+fn file_item<'a>(gated: Gated<'a, AstItem<'a>>) -> Gated<'a, FileItem<'a>>
+    ensures { view.gated view.file_item result ≡ spec.file_item (view.gated view.ast_item gated.entry) }
+{
+    let Gated {
+        docs,
+        attributes,
+        item,
+        span,
+    } = gated;
+    Gated {
+        docs,
+        attributes,
+        item: FileItem::Item(item),
+        span,
+    }
+}
+
 /// The items of a nested package as those of a file.
 fn file_items<'a>(
     alloc: Global,
@@ -16,25 +34,7 @@ fn file_items<'a>(
 ) -> Result<Vec<Gated<'a, FileItem<'a>>>, AllocError>
     ensures { IfOk result (λ v. map (view.gated view.file_item) v.items ≡ map spec.file_item (map (view.gated view.ast_item) items.entry.items)) }
 {
-    let mut found = Vec::new(alloc);
-    for gated in items {
-        let Gated {
-            docs,
-            attributes,
-            item,
-            span,
-        } = gated;
-        push_to(
-            &mut found,
-            Gated {
-                docs,
-                attributes,
-                item: FileItem::Item(item),
-                span,
-            },
-        )?;
-    }
-    Ok(found)
+    items.into_iter().map(file_item).collect(alloc)
 }
 
 /// A nested package as a file of its own, with the docs in front of it.
