@@ -54,9 +54,9 @@ use Rattle.right_components.specs.Outside.{AreInterfaceNames, IsTextOf, IsFuncti
 use Rattle.linked_imports.specs.Imports.{AreNeeded, own_types, AreListed, AreNamed, AreImportsListed}
 use Rattle.linked_imports.specs.Roots.{HasImports, HoldsImports, Keeps}
 use Rattle.linked_imports.specs.declared.imports.Imported.{Imported}
-use Rattle.linked_imports.proofs.Names.{each_from, has_split, has_mapped, part_has, has_item_name, IsNameOfOne, type_name, own_type_name, owner_is, IsNameOfInterface, interface_name_from}
+use Rattle.linked_imports.proofs.Names.{each_from, has_split, has_mapped, part_has, has_item_name, IsNameOfOne, type_name, own_type_name, owner_is}
 use Rattle.linked_imports.proofs.Needed.{each_has, interface_keeps, interface_name_same, world_names}
-use Rattle.linked_imports.proofs.Order.{ids_needed, names_needed, needed_rise, seen_is_needed, type_needed, interface_needed, row_needed, each_needed, all_needed}
+use Rattle.linked_imports.proofs.Order.{ids_needed, names_needed, IsNeededFrom, needed_by_name, needed_rise, seen_is_needed, type_needed, interface_needed, row_needed, each_needed, all_needed}
 use Rattle.linked_imports.proofs.Taken.{function_at_place}
 
 -- ---- what is imported stays
@@ -235,8 +235,8 @@ module _ (l : Linking) (world : ℕ) (r : Root) (instances : List (Option ℕ)) 
     inside_listed : Each (IsOfInterface l names (imported name) i d) (entries_of items)
     inside_listed = each_from (IsOfInterface l names (imported name) i d) (entries_of items) item_listed
 
-  interface_listed : (n : List ℕ) → IsNameOfInterface (interface_name r) has.needed linked 0 n → IsOne n
-  interface_listed n one =
+  interface_listed : (n : List ℕ) (id : ℕ) → IsNeededFrom 0 has.needed linked id → n ≡ interface_name r id → IsOne n
+  interface_listed n id one called_so =
       let i = one.index in
       let at = has.has_interfaces i one.ids one.fs one.needed_there one.linked_there one.counts in
       let h = at.0 in
@@ -253,7 +253,7 @@ module _ (l : Linking) (world : ℕ) (r : Root) (instances : List (Option ℕ)) 
       let is : name ≡ text.0 = under key.0 i key.1.0 key.1.1 text.0 key.1.2 text.1 in (
         entry name,
         subst (λ (m : List ℕ). Has imports (entry m)) (sym same) made.has,
-        sym (one.is ∙ ap (interface_name r) (zero-add i)),
+        sym (called_so ∙ ap (interface_name r) (one.is ∙ zero-add i)),
         an_interface key.0 i key.1.0 key.1.1 d.0 h.items.items key.1.2 d.1 (interface_needed l own linked needed has.needed has.needed_are i one.ids one.fs one.needed_there one.linked_there one.counts) (subst (λ (t : List ℕ). IsTextOf l.names key.0 t) (sym is) text.1) refl (inside_listed i one.ids one.fs one.needed_there one.linked_there h d.0 d.1),
       )
 
@@ -292,7 +292,7 @@ module _ (l : Linking) (world : ℕ) (r : Root) (instances : List (Option ℕ)) 
 
   named_listed : (n : List ℕ) → Has (root_names r) n → IsOne n
   named_listed n h = elim (has_split (names_from (interface_name r) 0 has.needed linked) (names_of_types (root_setting r) types has.ids ++ function_names own) n (subst (λ (ns : List (List ℕ)). Has ns n) has.names h)) as (λ _. IsOne n) [
-    | inl of_interface ↦ interface_listed n (interface_name_from (interface_name r) 0 has.needed linked n of_interface)
+    | inl of_interface ↦ (let one = needed_by_name (interface_name r) has.needed linked n of_interface in interface_listed n one.0 one.1 one.2)
     | inr others ↦ elim (has_split (names_of_types (root_setting r) types has.ids) (function_names own) n others) as (λ _. IsOne n) [
       | inl of_type ↦ type_listed n (type_name (root_setting r) types has.ids n of_type)
       | inr of_function ↦

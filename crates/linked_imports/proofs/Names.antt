@@ -13,7 +13,7 @@ use Rattle.type_meaning.specs.Items.{Items, no_items, and_item, Entry}
 use Rattle.type_writing.specs.Writing.{Setting, name_given, name_of, names_of_types}
 use Rattle.type_sinks.specs.Imports.{names_in, entries_of}
 use Rattle.type_sinks.specs.Inside.{is_of}
-use Rattle.component_imports.specs.Interfaces.{is_needed, name_if, names_from, owned_name, owned_names}
+use Rattle.component_imports.specs.Interfaces.{owned_name, owned_names}
 use Rattle.core_links.specs.Needed.{IsPartOf, empty, with_it, without}
 
 -- ---- lists
@@ -88,31 +88,3 @@ pub owner_is : (own : ℕ) (o : TypeOwner) → is_of own o ≡ true → o ≡ be
 owner_is own (belongs.World w) h = absurd cc
 owner_is own (belongs.Interface i) h = ap (λ (j : ℕ). belongs.Interface j) (eqb-true i own h)
 owner_is own belongs.None h = absurd cc
-
--- ---- names of interfaces
-
-pub record IsNameOfInterface (name : ℕ → List ℕ) (needed : List (List ℕ)) (linked : List (List Function)) (from : ℕ) (n : List ℕ) : Type 0 where
-  pub index : ℕ
-  pub ids : List ℕ
-  pub fs : List Function
-  pub needed_there : slice_get needed index ≡ Some ids
-  pub linked_there : slice_get linked index ≡ Some fs
-  pub counts : is_needed ids fs ≡ true
-  pub is : n ≡ name (from + index)
-
-pub interface_name_from : (name : ℕ → List ℕ) (k : ℕ) (needed : List (List ℕ)) (linked : List (List Function)) (n : List ℕ) → Has (names_from name k needed linked) n → IsNameOfInterface name needed linked k n
-interface_name_from name k [] linked n h = absurd h
-interface_name_from name k (ids ∷ needed) [] n h = absurd h
-interface_name_from name k (ids ∷ needed) (fs ∷ linked) n h = elim (has_split (name_if (is_needed ids fs) (name k)) (names_from name (suc k) needed linked) n h) as (λ _. IsNameOfInterface name (ids ∷ needed) (fs ∷ linked) k n) [
-  | inl here ↦ first (is_needed ids fs) refl here
-  | inr later ↦
-      (let r = interface_name_from name (suc k) needed linked n later in
-      let i = r.index in
-      let place : suc k + i ≡ k + suc i = omega arith in
-      record { index = suc i; ids = r.ids; fs = r.fs; needed_there = r.needed_there; linked_there = r.linked_there; counts = r.counts; is = r.is ∙ ap name place })
-]
-  where
-    first : (b : Bool) → is_needed ids fs ≡ b → Has (name_if b (name k)) n → IsNameOfInterface name (ids ∷ needed) (fs ∷ linked) k n
-    first true counted (inl is) = (let place : k ≡ k + 0 = omega arith in record { index = zero; ids = ids; fs = fs; needed_there = refl; linked_there = refl; counts = counted; is = is ∙ ap name place })
-    first true counted (inr bad) = absurd bad
-    first false counted bad = absurd bad

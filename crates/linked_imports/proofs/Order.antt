@@ -22,6 +22,7 @@ use Rattle.link_table.specs.Linking.{Linking, types_of, exported_functions, IsLi
 use Rattle.link_table.proofs.Pairwise.{placed}
 use Rattle.right_components.specs.Needed.{IsTypeNeeded, IsInterfaceNeeded, by_type, by_function}
 use Rattle.linked_imports.specs.Imports.{AreNeeded, own_types}
+use Rattle.linked_imports.proofs.Names.{has_mapped}
 
 -- ---- interfaces that are needed, by rising ids
 
@@ -69,6 +70,12 @@ needed_from k (ids ∷ needed) (fs ∷ linked) id h = elim (has_parts (id_if (is
     first true counted (inl is) = record { index = zero; is = omega (arith, is); ids = ids; fs = fs; needed_there = refl; linked_there = refl; counts = counted }
     first true counted (inr bad) = absurd bad
     first false counted bad = absurd bad
+
+-- its name is among those of them
+pub needed_by_name : (name : ℕ → List ℕ) (needed : List (List ℕ)) (linked : List (List Function)) (n : List ℕ) → Has (names_from name 0 needed linked) n → (id : ℕ) × IsNeededFrom 0 needed linked id × (n ≡ name id)
+needed_by_name name needed linked n h =
+    let one = has_mapped name (ids_needed 0 needed linked) n (subst (λ (ns : List (List ℕ)). Has ns n) (sym (names_needed name 0 needed linked)) h) in
+    (one.0, needed_from 0 needed linked one.0 one.1, one.2)
 
 rising_if : (b : Bool) (k : ℕ) (rest : List ℕ) → AreRising rest → ((id : ℕ) → Has rest id → k < id) → AreRising (id_if b k ++ rest)
 rising_if true k rest up above = (above, up)
