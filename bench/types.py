@@ -7,7 +7,7 @@ import time
 
 from wasm_bytes import CORE_HEADER, name, number, vector
 
-RUNS = 5
+RUNS = 40
 COUNTS = [10, 100, 1000, 2500, 5000, 10000]
 MOST_INTERFACES = 5000
 # (i32) -> (i32), as a core type
