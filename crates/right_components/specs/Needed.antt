@@ -38,8 +38,8 @@ pub data IsInterfaceNeeded (l : Linking) (id : ℕ) : Type 0 where
   by_type : (i : ℕ) → BelongsTo (types_of l) i id → IsTypeNeeded l i → IsInterfaceNeeded l id
   by_function : (f : Function) → IsFunctionNeeded l id f → IsInterfaceNeeded l id
 
--- interfaces stand first among what is imported, each that is needed once, in the order of their ids: so each stands behind those whose types
--- it uses
+-- interfaces that are needed stand first among what is imported, each once, in the order of their ids, and among them all of which a type is
+-- needed: so each stands behind those whose types it uses
 pub record AreInOrder (l : Linking) (names : InterfaceNames) (imports : List Entry) : Type 0 where
   pub interfaces : List ℕ
   pub others : List (List ℕ)
