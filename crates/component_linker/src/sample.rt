@@ -1,7 +1,10 @@
 //! The program's own example.
 
+ghost use Rattle.std.specs.Prelude.{◌<◌, length, IfOk};
+ghost use Rattle.component_session.specs.Input.{worlds_of};
+
 use component_builder::emit;
-use component_session::{Fault, Session, audit};
+use component_session::{Fault, ResolveError, Session, Verdict, WorldId, audit};
 use std::alloc::Global;
 use std::io::Write;
 use wit_component::{StringEncoding, lines_of};
@@ -15,18 +18,32 @@ const MODULE: &[u8] = &[
     0x01, 0x05, 0x24, 0x72, 0x6f, 0x6f, 0x74, 0x01, 0x66, 0x00, 0x00,
 ];
 
-/// Hands the text and the module over, for the world.
-fn hand_over(session: &mut Session<'static>) -> Option<()> {
-    let package = session.push_source("a.wit", TEXT).ok()?;
-    let world = session.select_world([package].as_slice(), Some("w")).ok()?;
-    session.module(MODULE, world, StringEncoding::UTF8).ok()
+/// Hands the text over, and chooses its world.
+fn choose(session: &mut Session<'static>) -> Result<WorldId, ResolveError>
+    ensures { IfOk result (λ world. world < length (worlds_of session.new.resolved)) }
+{
+    let package = session.push_source("a.wit", TEXT)?;
+    let world = session.select_world([package].as_slice(), Some("w"))?;
+    Ok(world)
+}
+
+/// Hands the text and the module over, for the world; answers whether both are taken.
+fn hand_over(session: &mut Session<'static>) -> bool {
+    match choose(session) {
+        Ok(world) => session.module(MODULE, world, StringEncoding::UTF8).is_ok(),
+        Err(_) => false,
+    }
+}
+
+/// The verdict on the component that is built of the input.
+fn verdict(session: &Session) -> Result<Verdict, Fault> {
+    let component = session.build()?;
+    audit(session, &component)
 }
 
 /// Adds the verdict on the component that is built of the input.
 fn push_verdict(alloc: Global, session: &Session, text: &mut String) -> Result<(), Fault> {
-    let component = session.build()?;
-    let verdict = audit(session, &component)?;
-    let line = verdict.to_text(alloc)?;
+    let line = verdict(session)?.to_text(alloc)?;
     text.push_str(line.as_str())?;
     text.push('\n')?;
     Ok(())
@@ -43,7 +60,9 @@ fn linked(alloc: Global, session: &Session) -> Result<String, Fault> {
 /// The links of the example, and the verdict on the component that is built of it.
 fn answer(alloc: Global) -> Option<String> {
     let mut session = Session::new(alloc);
-    hand_over(&mut session)?;
+    if !hand_over(&mut session) {
+        return None;
+    }
     linked(alloc, &session).ok()
 }
 
