@@ -56,7 +56,7 @@ use Rattle.linked_imports.specs.Roots.{HasImports, HoldsImports, Keeps}
 use Rattle.linked_imports.specs.declared.imports.Imported.{Imported}
 use Rattle.linked_imports.proofs.Names.{each_from, has_split, has_mapped, part_has, has_item_name, IsNameOfOne, type_name, own_type_name, owner_is}
 use Rattle.linked_imports.proofs.Needed.{each_has, interface_keeps, interface_name_same, world_names}
-use Rattle.linked_imports.proofs.Order.{ids_needed, names_needed, IsNeededFrom, needed_by_name, needed_rise, seen_is_needed, type_needed, interface_needed, row_needed, each_needed, all_needed}
+use Rattle.linked_imports.proofs.Order.{ids_needed, names_needed, IsNeededFrom, needed_by_name, needed_rise, seen_is_needed, type_needed, interface_needed, row_needed, each_needed, all_needed, linked_needed}
 use Rattle.linked_imports.proofs.Taken.{function_at_place}
 
 -- ---- what is imported stays
@@ -318,6 +318,7 @@ module _ (l : Linking) (world : ℕ) (r : Root) (instances : List (Option ℕ)) 
       rising = needed_rise 0 has.needed linked;
       each = each_needed l own linked needed has.needed has.needed_are;
       all = all_needed l own linked needed has.needed has.needed_are owners;
+      linked = linked_needed l own linked needed has.needed has.needed_are;
     };
   }
 

@@ -5,6 +5,7 @@ use Rattle.std.specs.Prelude.{map, slice_get, flat_map}
 use Rattle.wit_order.specs.Order.{Has}
 use Rattle.wit_order.proofs.Lists.{has_was}
 use Rattle.wit_types.specs.declared.function.Function.{Function}
+use Rattle.wit_types.specs.declared.world_key.WorldKey.{WorldKey}
 use Rattle.wit_types.specs.declared.interface.TypeDef.{TypeDef}
 use Rattle.wit_types.specs.declared.interface.TypeOwner.{TypeOwner}
 use Rattle.wit_reach.specs.Ids.{function_ids}
@@ -17,7 +18,8 @@ use Rattle.wit_reach.proofs.Holding.{got, has_flat, flat_has}
 use Rattle.wit_reach.proofs.Lists.{has_append, has_parts}
 use Rattle.wit_reach.proofs.Seen.{path_over}
 use Rattle.component_imports.specs.Interfaces.{ids_of, asked, is_needed, name_if, names_from}
-use Rattle.component_imports.proofs.Needing.{functions_asked, some_needed}
+use Rattle.component_imports.proofs.Needing.{functions_asked, got_below, some_needed}
+use Rattle.core_links.specs.Needed.{IsKeyOf, IsNeeded}
 use Rattle.link_table.specs.Linking.{Linking, types_of, exported_functions, IsLinked, imported, exported}
 use Rattle.link_table.proofs.Pairwise.{placed}
 use Rattle.right_components.specs.Needed.{IsTypeNeeded, IsInterfaceNeeded, by_type, by_function}
@@ -185,3 +187,16 @@ module _ (l : Linking) (own : List Function) (linked : List (List Function)) (al
         let fs = got linked id (omega (arith, below, many)) in
         let here = row_needed id i row.0 row.1 b n in
         needed_there 0 id id needed linked row.0 fs.0 (omega arith) row.1 fs.1 (some_needed row.0 fs.0 i here)
+
+    some_linked : (ids : List ℕ) (fs : List Function) (f : Function) → Has fs f → is_needed ids fs ≡ true
+    some_linked ids [] f h = absurd h
+    some_linked [] (g ∷ fs) f h = refl
+    some_linked (i ∷ ids) (g ∷ fs) f h = refl
+
+    pub linked_needed : (key : WorldKey) (f : Function) → IsNeeded l.names l.main.imports (Some key) f → (id : ℕ) × IsKeyOf l.names key id × Has (ids_needed 0 needed linked) id
+    linked_needed key f n =
+        let at = all.linked_are.all key f n in
+        let below = got_below linked at.0 at.1 at.3 in
+        let size = are.size in
+        let row = got needed at.0 (omega (arith, below, size)) in
+        (at.0, at.2, needed_there 0 at.0 at.0 needed linked row.0 at.1 (omega arith) row.1 at.3 (some_linked row.0 at.1 f at.4))

@@ -38,8 +38,8 @@ pub data IsInterfaceNeeded (l : Linking) (id : ℕ) : Type 0 where
   by_type : (i : ℕ) → BelongsTo (types_of l) i id → IsTypeNeeded l i → IsInterfaceNeeded l id
   by_function : (f : Function) → IsFunctionNeeded l id f → IsInterfaceNeeded l id
 
--- interfaces that are needed stand first among what is imported, each once, in the order of their ids, and among them all of which a type is
--- needed: so each stands behind those whose types it uses
+-- interfaces that are needed stand first among what is imported, each once, in the order of their ids, and among them all of which a type or a
+-- function is needed: so each stands behind those whose types it uses
 pub record AreInOrder (l : Linking) (names : InterfaceNames) (imports : List Entry) : Type 0 where
   pub interfaces : List ℕ
   pub others : List (List ℕ)
@@ -47,3 +47,4 @@ pub record AreInOrder (l : Linking) (names : InterfaceNames) (imports : List Ent
   pub rising : AreRising interfaces
   pub each : (id : ℕ) → Has interfaces id → IsInterfaceNeeded l id
   pub all : (id i : ℕ) → BelongsTo (types_of l) i id → IsTypeNeeded l i → Has interfaces id
+  pub linked : (key : WorldKey) (f : Function) → IsNeeded l.names l.main.imports (Some key) f → (id : ℕ) × IsKeyOf l.names key id × Has interfaces id
