@@ -19,11 +19,12 @@ use Rattle.type_writing.proofs.Refusals.{cause_weaker, types_less}
 use Rattle.type_sinks.specs.declared.root.Root.{Root}
 use Rattle.type_sinks.specs.declared.inside.InterfaceTypes.{InterfaceTypes}
 use Rattle.type_sinks.specs.Kept.{index_of}
-use Rattle.type_sinks.specs.Inside.{exported_name, exported_names}
-use Rattle.type_sinks.specs.Views.{root_scope, root_names, interface_names, RootIsGood, declarator_values, inside_names, inside_setting, InsideIsGood, IsGiven, IsImportCause, IsInstanceWith, IsTypeOf, HasFunction, InstanceHasFunction}
+use Rattle.type_sinks.specs.Inside.{exported_name, exported_names, instance_label}
+use Rattle.type_sinks.specs.Root.{InterfaceNames}
+use Rattle.type_sinks.specs.Views.{root_scope, root_names, interface_names, RootIsGood, declarator_values, inside_names, inside_setting, InsideIsGood, IsGiven, IsImportedBeside, IsNamedImportCause, IsImportCause, IsInstanceWith, IsTypeOf, HasFunction, HasFunctionIn, HasTypeIn, InstanceHasFunction}
 use Rattle.component_imports.specs.Functions.{function_names, HasFunctionOf}
 use Rattle.type_sinks.specs.Views.{setting_over}
-use Rattle.component_imports.specs.Interface.{interface_name, ImportHasFunction, IsInterfaceImported, IsNotImported, AreItemsUnready}
+use Rattle.component_imports.specs.Interface.{interface_name, ImportHasFunction, IsFilled, IsInterfaceImported, IsNotImported, AreItemsUnready, HasFunctionBeside, HasTypeBeside, IsImportedBesideOthers}
 use Rattle.component_imports.proofs.Exported.{functions_less}
 
 -- names that are given are given under what follows from it
@@ -58,14 +59,6 @@ items_unready t root types interface ids fs set names none h =
 
 same_own : (a b : ℕ) → Some a ≡ Some b → a ≡ b
 same_own a b e = cc
-
-pub record IsFilled (root : Root) (t : InterfaceTypes) (types : List TypeDef) (interface : ℕ) (ids : List ℕ) (functions : List Function) : Type 0 where
-  pub setting : inside_setting t ≡ setting_over root interface
-  pub outside : Begins (root_scope root).types (root_scope t.root).types
-  pub good : InsideIsGood t types
-  pub names : inside_names t ≡ names_of_types (setting_over root interface) types ids ++ function_names functions
-  pub named : Each (HasItsName (setting_over root interface) types (IsGiven t)) ids
-  pub has : Each (HasFunctionOf t types) functions
 
 pub record IsPut (t : InterfaceTypes) (r : Root) (types : List TypeDef) : Type 0 where
   pub good : RootIsGood r types
@@ -149,3 +142,72 @@ put_unready A root t interface e s h =
     let own : t.interface ≡ interface = same_own t.interface interface (ap (λ (x : Setting). x.interface) s) in
     let Not : List (List ℕ) → List (List ℕ) → ℕ → Type 0 = λ names there n. (length names ≤ n) ⊎ (is_new there (get_or names n []) ≡ false) in
     cause_weaker (λ k. inr (subst (Not (interface_names root) (root_names root)) own (subst (λ l. Not (interface_names root) l t.interface) imported_names (subst (λ l. Not l (root_names t.root) t.interface) interfaces k)))) (λ k. tt) e h
+
+-- ---- beside other instances
+
+pub record IsPutBeside (t : InterfaceTypes) (r : Root) (name : List ℕ) (types : List TypeDef) : Type 0 where
+  pub good : RootIsGood r types
+  pub interfaces : interface_names r ≡ interface_names t.root
+  pub known : index_of r.known ≡ index_of t.root.known
+  pub homes : index_of r.homes ≡ index_of t.root.homes
+  pub begins : Begins (root_scope t.root).types (root_scope r).types × Begins (root_scope t.root).instances (root_scope r).instances
+  pub same : (root_scope r).functions ≡ (root_scope t.root).functions
+  pub names : root_names r ≡ root_names t.root ++ name ∷ []
+  pub items : IsInstanceWith r (place t) (imported name) (inside_names t)
+  pub functions : (of : List ℕ) (params : List Param) (answer : Option Ref) → HasFunction t types of params answer → HasFunctionIn (instance_label (interface_names t.root) t.interface name) r (place t) (imported name) types of params answer
+  pub types_are : (id : ℕ) → IsGiven t id → HasTypeIn (instance_label (interface_names t.root) t.interface name) r (place t) (imported name) types id
+
+pub put_beside : (res : Result Root Fault) (t : InterfaceTypes) (name : List ℕ) (types : List TypeDef)
+    → IfOk res (λ r. IsImportedBeside t.root r name (declarator_values t))
+    → IfOk res (λ r. (ts : List TypeDef) → InsideIsGood t ts → RootIsGood r ts) → InsideIsGood t types
+    → IfOk res (λ r. Begins (root_scope t.root).types (root_scope r).types × Begins (root_scope t.root).instances (root_scope r).instances)
+    → IfOk res (λ r. (root_scope r).functions ≡ (root_scope t.root).functions)
+    → IfOk res (λ r. root_names r ≡ root_names t.root ++ name ∷ [])
+    → IfOk res (λ r. IsInstanceWith r (place t) (imported name) (inside_names t))
+    → IfOk res (λ r. (ts : List TypeDef) (of : List ℕ) (params : List Param) (answer : Option Ref) → HasFunction t ts of params answer → HasFunctionIn (instance_label (interface_names t.root) t.interface name) r (place t) (imported name) ts of params answer)
+    → IfOk res (λ r. (ts : List TypeDef) (id : ℕ) → InsideIsGood t ts → IsGiven t id → HasTypeIn (instance_label (interface_names t.root) t.interface name) r (place t) (imported name) ts id)
+    → IfOk res (λ r. IsPutBeside t r name types)
+put_beside (Ok r) t name types a b g e f h i j k = record {
+  good = b types g;
+  interfaces = a.written.names;
+  known = ap index_of a.written.known;
+  homes = ap index_of a.homes;
+  begins = e;
+  same = f;
+  names = h;
+  items = i;
+  functions = j types;
+  types_are = λ id. k types id g;
+}
+put_beside (Err x) t name types a b g e f h i j k = tt
+
+pub imported_beside : (root : Root) (t : InterfaceTypes) (r : Root) (types : List TypeDef) (interface : ℕ) (name : List ℕ) (ids : List ℕ) (functions : List Function)
+    → IsFilled root t types interface ids functions → IsPutBeside t r name types → IsImportedBesideOthers root r types interface name ids functions
+imported_beside root t r types interface name ids functions f p =
+    let s = f.setting in
+    let interfaces : interface_names t.root ≡ interface_names root = ap (λ (x : Setting). x.around.interfaces) s in
+    let own : t.interface ≡ interface = same_own t.interface interface (ap (λ (x : Setting). x.interface) s) in
+    let instances : (root_scope t.root).instances ≡ (root_scope root).instances = ap (λ (x : Setting). x.around.instances) s in
+    let count : place t ≡ length (root_scope root).instances = ap length instances in
+    let Has : ℕ → InterfaceNames → ℕ → Function → Type 0 = λ k names i g. HasFunctionIn (instance_label names i name) r k (imported name) types (string_bytes g.name) g.params.items g.result in
+    let HasType : ℕ → InterfaceNames → ℕ → ℕ → Type 0 = λ k names i id. HasTypeIn (instance_label names i name) r k (imported name) types id in
+    record {
+      interfaces = p.interfaces ∙ interfaces;
+      names = p.names ∙ ap (λ (x : Setting). x.around.imported ++ name ∷ []) s;
+      types_stay = begins_on (root_scope root).types (root_scope t.root).types (root_scope r).types f.outside p.begins.0;
+      functions_stay = p.same ∙ ap (λ (x : Setting). x.around.functions) s;
+      instances_stay = subst (λ l. Begins l (root_scope r).instances) instances p.begins.1;
+      known = p.known ∙ ap (λ (x : Setting). x.around.known) s;
+      homes = p.homes ∙ ap (λ (x : Setting). x.homes) s;
+      good = p.good;
+      items = subst (λ k. IsInstanceWith r k (imported name) (names_of_types (setting_over root interface) types ids ++ function_names functions)) count
+          (subst (IsInstanceWith r (place t) (imported name)) f.names p.items);
+      has_types = named_more (setting_over root interface) types (IsGiven t) (HasTypeBeside root r interface name types) ids (λ id h.
+          subst (λ k. HasType k (interface_names root) interface id) count (subst (λ i. HasType (place t) (interface_names root) i id) own (subst (λ m. HasType (place t) m t.interface id) interfaces (p.types_are id h)))) f.named;
+      has = each_keeps (HasFunctionOf t types) (HasFunctionBeside root r interface name types) functions (λ g h.
+          subst (λ k. Has k (interface_names root) interface g) count (subst (λ i. Has (place t) (interface_names root) i g) own (subst (λ m. Has (place t) m t.interface g) interfaces (p.functions (string_bytes g.name) g.params.items g.result h)))) f.has;
+    }
+
+pub beside_unready : (A : Type 0) (root : Root) (t : InterfaceTypes) (name : List ℕ) (interface : ℕ) (e : Fault) → inside_setting t ≡ setting_over root interface → IsNamedImportCause t.root name e → IsCause (A ⊎ (is_new (root_names root) name ≡ false)) (Unit {0}) e
+beside_unready A root t name interface e s h =
+    cause_weaker (λ k. inr (subst (λ l. is_new l name ≡ false) (ap (λ (x : Setting). x.around.imported) s) k)) (λ k. tt) e h

@@ -8,7 +8,6 @@ pub mod Worldly
 pub mod Typed
 pub mod Readied
 mod Turns
-mod Ordered
 mod Apart
 mod Earlier
 mod Distinct

@@ -266,7 +266,7 @@ all_imported start new types instances needed linked n count_linked count h = re
 -- what may be taken is of earlier interfaces
 pub taken_apart : (start old : Root) (types : List TypeDef) (instances : List (Option ℕ)) (needed : List (List ℕ)) (linked : List (List Function)) (n own : ℕ) → own ≡ n → EarlierAreApart types → AreImportedTo start old types instances needed linked n
     → TakenAreApart (index_of old.homes) own types
-taken_apart start old types instances needed linked n own same apart before id k d x t home at named unfolds =
+taken_apart start old types instances needed linked n own same apart before id k d x t home at named _ unfolds =
     let from = before.taken id k home in
     let there = from.1.1 in
     let one : from.1.0 ≡ d = cc in

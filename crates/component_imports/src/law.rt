@@ -1,7 +1,7 @@
 //! Laws of what is imported.
 
 ghost use Rattle.component_imports.specs.Distinct.{ApartAreDistinct};
-ghost use Rattle.component_imports.specs.Order.{EarlierTypesAreApart, EarlierTypesAreUsed, UsedStandBefore};
+ghost use Rattle.component_imports.specs.Order.{EarlierTypesAreApart, EarlierTypesAreUsed};
 ghost use Rattle.component_imports.specs.Ready.{ReadyFunctionsAreImported, ReadyIsImported};
 
 /// Where each type stands behind those that it is made of, those of other interfaces are there, functions are over these types, no two
@@ -15,12 +15,6 @@ pub fn law_ready_is_imported()
 /// have one name, `import_functions` never answers `NotYet` (WIT, Item: `world`; Component Model, Explainer, Import and Export Definitions).
 pub fn law_ready_functions_are_imported()
     ensures { ReadyFunctionsAreImported }
-{}
-
-/// Where something that is needed of an interface is made of a type of an earlier interface, that is imported too, and before it (WIT, Use;
-/// Component Model, Explainer, Index Spaces).
-pub fn law_used_stand_before()
-    ensures { UsedStandBefore }
 {}
 
 /// Where types of interfaces are made of those of the same or of earlier interfaces, a type of an interface doesn't speak of later ones (WIT,

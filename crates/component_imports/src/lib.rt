@@ -7,10 +7,10 @@ mod interfaces;
 mod law;
 mod world;
 
-pub use interface::import_interface;
+pub use interface::{import_interface, import_interface_as};
 pub use interfaces::{ImportedInterfaces, add_functions, import_interfaces};
 pub use law::{
     law_apart_are_distinct, law_earlier_types_are_apart, law_earlier_types_are_used,
-    law_ready_functions_are_imported, law_ready_is_imported, law_used_stand_before,
+    law_ready_functions_are_imported, law_ready_is_imported,
 };
 pub use world::{WrittenFunctions, import_functions, write_functions};

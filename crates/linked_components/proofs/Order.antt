@@ -11,10 +11,9 @@ use Rattle.wit_reach.specs.Paths.{AreRising, Reaches}
 use Rattle.wit_reach.specs.Types.{IsMadeOf}
 use Rattle.wit_reach.proofs.Ends.{reaches_then}
 use Rattle.wit_graph.specs.Graph.{items_of, TypesOfItemsUseEarlier}
-use Rattle.component_imports.specs.Order.{StandsBefore}
 use Rattle.link_table.specs.Linking.{Linking, types_of}
 use Rattle.right_components.specs.Needed.{IsTypeNeeded}
-use Rattle.linked_components.specs.Order.{UsedStandBefore}
+use Rattle.linked_components.specs.Order.{StandsBefore, UsedStandBefore}
 
 -- ---- rising lists
 

@@ -1,10 +1,9 @@
 -- The order in which interfaces are imported (WIT, Use; Component Model, Explainer, Index Spaces).
-use Rattle.std.specs.Prelude.{◌≡◌, ℕ, List, [], map, get_or}
+use Rattle.std.specs.Prelude.{◌≡◌, ℕ, List, [], ◌∷◌, ◌++◌, map, get_or}
 use Rattle.wit_reach.specs.Needed.{BelongsTo}
 use Rattle.wit_reach.specs.Paths.{Reaches}
 use Rattle.wit_reach.specs.Types.{IsMadeOf}
 use Rattle.type_meaning.specs.Items.{Entry}
-use Rattle.component_imports.specs.Order.{StandsBefore}
 use Rattle.component_meaning.specs.Spaces.{meaning}
 use Rattle.component_sections.specs.Component.{DefinitionValue}
 use Rattle.link_table.specs.Linking.{Linking, types_of}
@@ -15,6 +14,13 @@ use Rattle.linked_components.specs.Build.{IsOfNamedGraph, IsComponentOf}
 -- the names of what definitions import
 abbrev pub import_names : Linking → List ℕ → List DefinitionValue → List (List ℕ)
 import_names l bytes ds = map (λ (e : Entry). e.name) (meaning (main_of bytes l.main) ds).scope.imports
+
+-- one stands somewhere before the other
+pub record StandsBefore (names : List (List ℕ)) (first second : List ℕ) : Type 0 where
+  pub front : List (List ℕ)
+  pub mid : List (List ℕ)
+  pub back : List (List ℕ)
+  pub are : names ≡ front ++ first ∷ (mid ++ second ∷ back)
 
 -- where a type of an interface is needed and made of a type of another, the component imports both, and the other before it
 abbrev pub UsedStandBefore : Type 0

@@ -120,11 +120,11 @@ exported old new n id body types d owner a new_name own g at is name stands =
 
 pub foreign_stands : (old new : InterfaceTypes) (n : List ℕ) (k id i : ℕ) (owner : TypeOwner) (types : List TypeDef) (d : TypeDef)
     → i ≡ type_count (declarator_values old) → IsDeclared old new (declared_alias (outer 1 k)) old.exports.items
-    → IsRemembered (index_of old.root.homes) id
+    → IsRemembered (index_of old.root.homes) id → is_of old.interface owner ≡ false
     → InsideIsGood old types → slice_get types id ≡ Some d → d.owner ≡ owner → option_map string_bytes d.name ≡ Some n
     → Stands (root_label (interface_names old.root)) types (root_scope old.root).types (Id id) (Index k)
     → InsideIsGood new types × Stands (inside_label (interface_names new.root) new.interface) types (inside new).types (Id id) (Index i)
-foreign_stands old new n k id i owner types d count a home g at is name s =
+foreign_stands old new n k id i owner types d count a home foreign g at is name s =
     let names = interface_names old.root in
     let own = old.interface in
     let outside = (root_scope old.root).types in
@@ -133,7 +133,7 @@ foreign_stands old new n k id i owner types d count a home g at is name s =
     let r = value_inside outside k w s.2 in
     let x = name_there d.name n name in
     let word : w ≡ written (inside_label (interface_names new.root) new.interface) t =
-    written_apart names own t (g.apart id home.0 d x.0 t home.1 at x.1 s.1) ∙ ap (λ l. written l t) (sym (label_after old new (declared_alias (outer 1 k)) old.exports.items a)) in (
+    written_apart names own t (g.apart id home.0 d x.0 t home.1 at x.1 (ap (is_of own) is ∙ foreign) s.1) ∙ ap (λ l. written l t) (sym (label_after old new (declared_alias (outer 1 k)) old.exports.items a)) in (
       stepped old new (declared_alias (outer 1 k)) types a (unnamed_distinct (declarator_values old) (declarator_values new) (declared_alias (outer 1 k)) a.declarators refl) (outer_stays outside (inside old) k w r.0) g,
       (
         t,
@@ -184,14 +184,14 @@ over_setting old new n k id o taken =
 
 -- from the root, which may grow, and then from around
 pub foreign_taken : (old mid new : InterfaceTypes) (owner : TypeOwner) (n : List ℕ) (k id i : ℕ)
-    → IsOver old mid → IsTaken old.root mid.root n id k
+    → IsOver old mid → IsTaken old.root mid.root n id k → is_of old.interface owner ≡ false
     → i ≡ type_count (declarator_values mid) → IsDeclared mid new (declared_alias (outer 1 k)) mid.exports.items
     → (types : List TypeDef) (d : TypeDef) → InsideIsGood old types → slice_get types id ≡ Some d → d.owner ≡ owner → option_map string_bytes d.name ≡ Some n
     → InsideIsGood new types × Stands (inside_label (interface_names new.root) new.interface) types (inside new).types (Id id) (Index i)
-foreign_taken old mid new owner n k id i o taken count a types d g at is name =
+foreign_taken old mid new owner n k id i o taken foreign count a types d g at is name =
     let t = taken.stands types d g.root at name in
     let home : IsRemembered (index_of mid.root.homes) id = subst (λ l. IsRemembered (index_of l) id) (sym taken.homes) taken.home in
-    foreign_stands mid new n k id i owner types d count a home (over_good old mid types o taken.names taken.homes taken.begins (taken.good types g.root) g) at is name t
+    foreign_stands mid new n k id i owner types d count a home (ap (λ j. is_of j owner) o.interface ∙ foreign) (over_good old mid types o taken.names taken.homes taken.begins (taken.good types g.root) g) at is name t
 
 pub foreign_begins : (old mid new : InterfaceTypes) (n : List ℕ) (k id : ℕ) → IsOver old mid → IsTaken old.root mid.root n id k → IsDeclared mid new (declared_alias (outer 1 k)) mid.exports.items
     → (types : List TypeDef) → InsideIsGood old types → Begins (inside old).types (inside new).types

@@ -21,7 +21,7 @@ use Rattle.wit_types.specs.declared.interface.TypeDef.{TypeDef}
 use Rattle.wit_types.specs.declared.interface.TypeOwner.{TypeOwner}
 use Rattle.wit_types.specs.declared.interface.TypeOwner.TheVariants as belongs
 use Rattle.type_meaning.specs.Tree.{Parts, named, resource, of, none, gap, part, put, put_parts}
-use Rattle.type_meaning.specs.Words.{itself, imported, Label, moved}
+use Rattle.type_meaning.specs.Words.{Site, itself, imported, Label, moved}
 use Rattle.type_meaning.specs.Items.{Item, a_type, from_import, a_function, an_instance_type, item_at, items_of, is_value, put_item, put_items, new_resource, instance_import, instance_type, Inside as TheInside, inside_of}
 use Rattle.type_meaning.specs.Scope.{Scope, no_scope, after, meaning}
 use Rattle.type_sinks.specs.declared.root.Root.{Root}
@@ -30,10 +30,10 @@ use Rattle.type_writing.specs.Unfolding.{OwnName, WitTree, under_name, Unfolds, 
 use Rattle.type_writing.specs.Writing.{written, written_parts, Begins}
 use Rattle.type_sinks.specs.Root.{InterfaceNames, root_label, imported_name, imported_names, IsHome, RootGood}
 use Rattle.type_sinks.specs.Imports.{AreImportsOf}
-use Rattle.type_sinks.specs.Inside.{inside_label, IsExported, InsideGood}
+use Rattle.type_sinks.specs.Inside.{inside_label, instance_label, IsExported, InsideGood}
 use Rattle.type_writing.specs.Functions.{function_form}
-use Rattle.type_sinks.specs.Kept.{index_of, AreKept}
-use Rattle.type_sinks.specs.Views.{entry_values, root_scope, interface_names, root_names, RootIsGood, IsAdded, IsImported, IsInstanceWith, IsTypeOf, declarator_values, inside, inside_names, HasFunction, InstanceHasFunction}
+use Rattle.type_sinks.specs.Kept.{index_of}
+use Rattle.type_sinks.specs.Views.{entry_values, root_scope, interface_names, root_names, RootIsGood, IsAdded, IsWrittenUnder, IsImported, IsImportedBeside, IsInstanceWith, IsTypeOf, declarator_values, inside, inside_names, HasFunction, HasFunctionIn, InstanceHasFunction, HasTypeIn}
 use Rattle.type_writing.proofs.Standing.{new_item}
 use Rattle.type_sinks.proofs.Rooted.{instances_added, names_added, good_keeps, fresh_import}
 use Rattle.type_sinks.proofs.OwnItems.{put_named, types_are_no_functions}
@@ -74,17 +74,17 @@ mutual
 
 -- ---- imported, the types of the instance are written as the root writes them
 
-module _ (names : InterfaceNames) (own : ℕ) where
-  moved_at : (owner : TypeOwner) (n : List ℕ) → moved itself (imported (get_or names own [])) (inside_label names own (record { owner = owner; name = n })) ≡ root_label names (record { owner = owner; name = n })
+module _ (names : InterfaceNames) (own : ℕ) (name : List ℕ) where
+  moved_at : (owner : TypeOwner) (n : List ℕ) → moved itself (imported name) (inside_label names own (record { owner = owner; name = n })) ≡ instance_label names own name (record { owner = owner; name = n })
   moved_at (belongs.World w) n = refl
   moved_at (belongs.Interface i) n = elim (cases_Bool (nat_eq i own)) [
-    | inl b ↦ rw b (ap (λ (j : ℕ). let l : Label = record { site = imported (get_or names j []); name = n } in l) (sym (eqb-true i own b)))
+    | inl b ↦ rw b refl
     | inr b ↦ rw b refl
   ]
   moved_at belongs.None n = refl
 
   mutual
-    pub moved_written : (t : WitTree) → IsPlain t → put (moved itself (imported (get_or names own []))) (new_resource (get_or names own [])) (written (inside_label names own) t) ≡ written (root_label names) t
+    pub moved_written : (t : WitTree) → IsPlain t → put (moved itself (imported name)) (new_resource name) (written (inside_label names own) t) ≡ written (instance_label names own name) t
     moved_written (named o t) h =
         let e = moved_at o.owner o.name in
         let f = moved_written t h in
@@ -92,13 +92,25 @@ module _ (names : InterfaceNames) (own : ℕ) where
     moved_written (resource o) h = absurd h
     moved_written (of form ps) h = ap (of form) (moved_written_parts ps h)
 
-    moved_written_parts : (ps : Parts OwnName OwnName) → ArePlain ps → put_parts (moved itself (imported (get_or names own []))) (new_resource (get_or names own [])) (written_parts (inside_label names own) ps) ≡ written_parts (root_label names) ps
+    moved_written_parts : (ps : Parts OwnName OwnName) → ArePlain ps → put_parts (moved itself (imported name)) (new_resource name) (written_parts (inside_label names own) ps) ≡ written_parts (instance_label names own name) ps
     moved_written_parts none h = refl
     moved_written_parts (gap ps) h = ap gap (moved_written_parts ps h)
     moved_written_parts (part t ps) h =
         let e = moved_written t h.0 in
         let f = moved_written_parts ps h.1 in
         λ i. part (e i) (f i)
+
+-- under the name that the interface has, they are those of the root
+its_label : (names : InterfaceNames) (own : ℕ) (owner : TypeOwner) (n : List ℕ) → instance_label names own (get_or names own []) (record { owner = owner; name = n }) ≡ root_label names (record { owner = owner; name = n })
+its_label names own (belongs.World w) n = refl
+its_label names own (belongs.Interface i) n = elim (cases_Bool (nat_eq i own)) [
+  | inl b ↦ rw b (ap (λ (j : ℕ). let l : Label = record { site = imported (get_or names j []); name = n } in l) (sym (eqb-true i own b)))
+  | inr b ↦ rw b refl
+]
+its_label names own belongs.None n = refl
+
+pub its_written : (names : InterfaceNames) (own : ℕ) (t : WitTree) → written (instance_label names own (get_or names own [])) t ≡ written (root_label names) t
+its_written names own t = λ i. written (λ (o : OwnName). its_label names own o.owner o.name i) t
 
 value_written : (l m : OwnName → Label) (t : WitTree) → is_value (written l t) ≡ is_value (written m t)
 value_written l m (named o t) = value_written l m t
@@ -124,7 +136,7 @@ exported_home names own types s id k instances is h =
       is = is;
       tree = h.tree;
       unfolds = h.unfolds;
-      has = put_named f g (string_bytes h.name) (items_of s.items) ∙ ap (put_item f g) h.has ∙ ap a_type (moved_written names own h.tree (unfolds_plain types (Id id) h.tree h.unfolds));
+      has = put_named f g (string_bytes h.name) (items_of s.items) ∙ ap (put_item f g) h.has ∙ ap a_type (moved_written names own n h.tree (unfolds_plain types (Id id) h.tree h.unfolds) ∙ its_written names own h.tree);
       value = value_written (root_label names) (inside_label names own) h.tree ∙ h.value;
     }
 
@@ -137,9 +149,9 @@ meaning_both es d e = fold-append after no_scope es (d ∷ e ∷ [])
 abbrev both : Scope → List ℕ → List DeclaratorValue → Scope
 both s n ds = after (after s (entries.a_type (of_instance ds))) (an_import (record { name = n; description = descriptions.Instance (length s.types) }))
 
-scope_both : (old new : Root) (own : ℕ) (ds : List DeclaratorValue) (ids : List ℕ) → IsImported old new own ds ids → root_scope new ≡ both (root_scope old) (get_or (interface_names old) own []) ds
-scope_both old new own ds ids a =
-    ap meaning a.entries ∙ meaning_both (entry_values old) (entries.a_type (of_instance ds)) (an_import (record { name = get_or (interface_names old) own []; description = descriptions.Instance (length (root_scope old).types) }))
+scope_both : (old new : Root) (n : List ℕ) (ds : List DeclaratorValue) → IsWrittenUnder old new n ds → root_scope new ≡ both (root_scope old) n ds
+scope_both old new n ds a =
+    ap meaning a.entries ∙ meaning_both (entry_values old) (entries.a_type (of_instance ds)) (an_import (record { name = n; description = descriptions.Instance (length (root_scope old).types) }))
 
 both_types : (s : Scope) (n : List ℕ) (ds : List DeclaratorValue) → (both s n ds).types ≡ s.types ++ instance_type (s.types ∷ []) ds ∷ []
 both_types s n ds = append-nil _
@@ -149,30 +161,29 @@ both_instances s n ds =
     ap (λ l. l ++ instance_import n (item_at (s.types ++ instance_type (s.types ∷ []) ds ∷ []) (length s.types)) ∷ []) (append-nil s.instances)
     ∙ ap (λ x. s.instances ++ instance_import n x ∷ []) (new_item s.types (instance_type (s.types ∷ []) ds))
 
-pub import_types : (old new : Root) (own : ℕ) (ds : List DeclaratorValue) (ids : List ℕ) → IsImported old new own ds ids → Begins (root_scope old).types (root_scope new).types
-import_types old new own ds ids a = (_, ap (λ (s : Scope). s.types) (scope_both old new own ds ids a) ∙ both_types (root_scope old) (get_or (interface_names old) own []) ds)
+pub import_types : (old new : Root) (n : List ℕ) (ds : List DeclaratorValue) → IsWrittenUnder old new n ds → Begins (root_scope old).types (root_scope new).types
+import_types old new n ds a = (_, ap (λ (s : Scope). s.types) (scope_both old new n ds a) ∙ both_types (root_scope old) n ds)
 
-pub import_instances : (old new : Root) (own : ℕ) (ds : List DeclaratorValue) (ids : List ℕ) → IsImported old new own ds ids → Begins (root_scope old).instances (root_scope new).instances
-import_instances old new own ds ids a = (_, ap (λ (s : Scope). s.instances) (scope_both old new own ds ids a) ∙ both_instances (root_scope old) (get_or (interface_names old) own []) ds)
+pub import_instances : (old new : Root) (n : List ℕ) (ds : List DeclaratorValue) → IsWrittenUnder old new n ds → Begins (root_scope old).instances (root_scope new).instances
+import_instances old new n ds a = (_, ap (λ (s : Scope). s.instances) (scope_both old new n ds a) ∙ both_instances (root_scope old) n ds)
 
-pub import_functions : (old new : Root) (own : ℕ) (ds : List DeclaratorValue) (ids : List ℕ) → IsImported old new own ds ids → (root_scope new).functions ≡ (root_scope old).functions
-import_functions old new own ds ids a = ap (λ (s : Scope). s.functions) (scope_both old new own ds ids a) ∙ append-nil _ ∙ append-nil (root_scope old).functions
+pub import_functions : (old new : Root) (n : List ℕ) (ds : List DeclaratorValue) → IsWrittenUnder old new n ds → (root_scope new).functions ≡ (root_scope old).functions
+import_functions old new n ds a = ap (λ (s : Scope). s.functions) (scope_both old new n ds a) ∙ append-nil _ ∙ append-nil (root_scope old).functions
 
-pub instance_at : (old new : Root) (own : ℕ) (ds : List DeclaratorValue) (ids : List ℕ) → IsImported old new own ds ids
-    → item_at (root_scope new).instances (length (root_scope old).instances) ≡ instance_import (get_or (interface_names old) own []) (instance_type ((root_scope old).types ∷ []) ds)
-instance_at old new own ds ids a =
-    let n = get_or (interface_names old) own [] in
+pub instance_at : (old new : Root) (n : List ℕ) (ds : List DeclaratorValue) → IsWrittenUnder old new n ds
+    → item_at (root_scope new).instances (length (root_scope old).instances) ≡ instance_import n (instance_type ((root_scope old).types ∷ []) ds)
+instance_at old new n ds a =
     let k = length (root_scope old).instances in
     let made = instance_import n (instance_type ((root_scope old).types ∷ []) ds) in
-    ap (λ (q : Scope). item_at q.instances k) (scope_both old new own ds ids a) ∙ ap (λ l. item_at l k) (both_instances (root_scope old) n ds) ∙ new_item (root_scope old).instances made
+    ap (λ (q : Scope). item_at q.instances k) (scope_both old new n ds a) ∙ ap (λ l. item_at l k) (both_instances (root_scope old) n ds) ∙ new_item (root_scope old).instances made
 
 -- the instance has the functions of its type
-pub import_function : (old : InterfaceTypes) (new : Root) (ids : List ℕ) (types : List TypeDef) (name : List ℕ) (params : List Param) (result : Option Ref)
-    → IsImported old.root new old.interface (declarator_values old) ids → HasFunction old types name params result → InstanceHasFunction new (length (root_scope old.root).instances) (imported (get_or (interface_names old.root) old.interface [])) types name params result
-import_function old new ids types name params result a h =
+pub import_function : (old : InterfaceTypes) (new : Root) (n : List ℕ) (types : List TypeDef) (name : List ℕ) (params : List Param) (result : Option Ref)
+    → IsWrittenUnder old.root new n (declarator_values old) → HasFunction old types name params result
+    → HasFunctionIn (instance_label (interface_names old.root) old.interface n) new (length (root_scope old.root).instances) (imported n) types name params result
+import_function old new n types name params result a h =
     let names = interface_names old.root in
     let own = old.interface in
-    let n = get_or names own [] in
     let f = moved itself (imported n) in
     let g = new_resource n in
     let items = items_of (inside old).items in
@@ -181,22 +192,54 @@ import_function old new ids types name params result a h =
     let plain : IsPlain h.tree = subst IsPlain (sym u.is) (parts_plain types (function_form params result).parts u.parts u.unfolds) in
     record {
       items = put_items f g items;
-      is = instance_at old.root new own (declarator_values old) ids a;
+      is = instance_at old.root new n (declarator_values old) a;
       tree = h.tree;
       unfolds = u;
-      has = put_named f g name items ∙ ap (put_item f g) h.has ∙ ap (a_function from) (moved_written names own h.tree plain) ∙ ap (λ m. a_function from (written (root_label m) h.tree)) (sym a.names);
+      has = put_named f g name items ∙ ap (put_item f g) h.has ∙ ap (a_function from) (moved_written names own n h.tree plain);
+    }
+
+-- in the words of the root, where the name is that of the interface
+pub its_function : (r : Root) (names : InterfaceNames) (own instance : ℕ) (site : Site) (types : List TypeDef) (name : List ℕ) (params : List Param) (result : Option Ref)
+    → interface_names r ≡ names → HasFunctionIn (instance_label names own (get_or names own [])) r instance site types name params result → InstanceHasFunction r instance site types name params result
+its_function r names own instance site types name params result same h =
+    let from = from_import (record { site = site; name = name }) in
+    record {
+      items = h.items;
+      is = h.is;
+      tree = h.tree;
+      unfolds = h.unfolds;
+      has = h.has ∙ ap (a_function from) (its_written names own h.tree) ∙ ap (λ m. a_function from (written (root_label m) h.tree)) (sym same);
+    }
+
+-- and the types that this exports
+pub import_type : (old : InterfaceTypes) (new : Root) (n : List ℕ) (types : List TypeDef) (id : ℕ)
+    → IsWrittenUnder old.root new n (declarator_values old) → IsExported (interface_names old.root) old.interface types (inside old) id
+    → HasTypeIn (instance_label (interface_names old.root) old.interface n) new (length (root_scope old.root).instances) (imported n) types id
+import_type old new n types id a h =
+    let f = moved itself (imported n) in
+    let g = new_resource n in
+    let items = items_of (inside old).items in
+    record {
+      def = h.def;
+      there = h.there;
+      name = h.name;
+      named = h.named;
+      items = put_items f g items;
+      is = instance_at old.root new n (declarator_values old) a;
+      tree = h.tree;
+      unfolds = h.unfolds;
+      has = put_named f g (string_bytes h.name) items ∙ ap (put_item f g) h.has ∙ ap a_type (moved_written (interface_names old.root) old.interface n h.tree (unfolds_plain types (Id id) h.tree h.unfolds));
     }
 
 -- and exports something under the same names
-pub import_items : (old : InterfaceTypes) (new : Root) (ids : List ℕ) → IsImported old.root new old.interface (declarator_values old) ids → IsInstanceWith new (length (root_scope old.root).instances) (imported (get_or (interface_names old.root) old.interface [])) (inside_names old)
-import_items old new ids a =
-    let n = get_or (interface_names old.root) old.interface [] in
+pub import_items : (old : InterfaceTypes) (new : Root) (n : List ℕ) → IsWrittenUnder old.root new n (declarator_values old) → IsInstanceWith new (length (root_scope old.root).instances) (imported n) (inside_names old)
+import_items old new n a =
     let f = moved itself (imported n) in
     let g = new_resource n in
     let items = items_of (inside old).items in
     record {
       items = put_items f g items;
-      is = instance_at old.root new old.interface (declarator_values old) ids a;
+      is = instance_at old.root new n (declarator_values old) a;
       named = names_put f g items ∙ names_of_items (inside old).items ∙ items_named ((root_scope old.root).types ∷ []) (declarator_values old);
     }
 
@@ -204,30 +247,46 @@ names_both : (es : List EntryValue) (d e : EntryValue) → imported_names (es ++
 unfolding imported_names
 names_both es d e = flat_map-append imported_name es (d ∷ e ∷ []) ∙ ap (λ l. flat_map imported_name es ++ (imported_name d ++ l)) (append-nil (imported_name e))
 
-pub import_names : (old new : Root) (own : ℕ) (ds : List DeclaratorValue) (ids : List ℕ) → IsImported old new own ds ids → root_names new ≡ root_names old ++ get_or (interface_names old) own [] ∷ []
-import_names old new own ds ids a = ap imported_names a.entries ∙ names_both (entry_values old) (entries.a_type (of_instance ds)) _
+pub import_names : (old new : Root) (n : List ℕ) (ds : List DeclaratorValue) → IsWrittenUnder old new n ds → root_names new ≡ root_names old ++ n ∷ []
+import_names old new n ds a = ap imported_names a.entries ∙ names_both (entry_values old) (entries.a_type (of_instance ds)) _
 
--- each type that is exported may be taken from the instance, and what is remembered stays so
+-- what is remembered stays so
+grown_by : (old new : Root) (n : List ℕ) (homes : ℕ → Option ℕ) (known : ℕ → Option ℕ) (exports : List ℕ) (ds : List DeclaratorValue) (own : ℕ) (types : List TypeDef)
+    → IsWrittenUnder old new n ds → InsideGood (interface_names old) (index_of old.known) homes (root_scope old) known exports ds own types
+    → RootGood (interface_names old) (index_of old.known) homes (root_scope new) types
+grown_by old new n homes known exports ds own types a g =
+    let kept = import_both_keeps (root_scope old) n ds (fresh_import old n a.fresh) (types_are_no_functions (entry_values old)) g.distinct g.root.imports in
+    let imports : AreImportsOf (root_scope new) = subst AreImportsOf (sym (scope_both old new n ds a)) kept in
+    good_keeps (interface_names old) (index_of old.known) homes (root_scope old) (root_scope new) types (import_types old new n ds a) (import_instances old new n ds a) imports g.root
+
+named_good : (old new : Root) (n : List ℕ) (homes : ℕ → Option ℕ) (ds : List DeclaratorValue) (types : List TypeDef)
+    → IsWrittenUnder old new n ds → RootGood (interface_names old) (index_of old.known) homes (root_scope new) types → RootGood (interface_names new) (index_of new.known) homes (root_scope new) types
+named_good old new n homes ds types a good =
+    subst (λ m. RootGood m (index_of new.known) homes (root_scope new) types) (sym a.names) (subst (λ l. RootGood (interface_names old) (index_of l) homes (root_scope new) types) (sym a.known) good)
+
+pub beside_good : (old new : Root) (n : List ℕ) (known : ℕ → Option ℕ) (exports : List ℕ) (ds : List DeclaratorValue) (own : ℕ) (types : List TypeDef)
+    → IsImportedBeside old new n ds → InsideGood (interface_names old) (index_of old.known) (index_of old.homes) (root_scope old) known exports ds own types → RootIsGood new types
+beside_good old new n known exports ds own types a g =
+    let grown = grown_by old new n (index_of old.homes) known exports ds own types a.written g in
+    subst (λ l. RootGood (interface_names new) (index_of new.known) (index_of l) (root_scope new) types) (sym a.homes) (named_good old new n (index_of old.homes) ds types a.written grown)
+
+-- and each type that is exported may be taken from the instance
 pub import_good : (old new : Root) (own : ℕ) (known : ℕ → Option ℕ) (exports : List ℕ) (ds : List DeclaratorValue) (types : List TypeDef)
     → IsImported old new own ds exports → InsideGood (interface_names old) (index_of old.known) (index_of old.homes) (root_scope old) known exports ds own types → RootIsGood new types
 import_good old new own known exports ds types a g =
     let names = interface_names old in
-    let around = (root_scope old).types in
-    let s = inside_of (around ∷ []) ds in
+    let n = get_or names own [] in
+    let s = inside_of ((root_scope old).types ∷ []) ds in
     let k = length (root_scope old).instances in
     let instances = (root_scope new).instances in
-    let n = get_or names own [] in
-    let kept = import_both_keeps (root_scope old) n ds (fresh_import old n a.fresh) (types_are_no_functions (entry_values old)) g.distinct g.root.imports in
-    let imports : AreImportsOf (root_scope new) = subst AreImportsOf (sym (scope_both old new own ds exports a)) kept in
-    let grown = good_keeps names (index_of old.known) (index_of old.homes) (root_scope old) (root_scope new) types (import_types old new own ds exports a) (import_instances old new own ds exports a) imports g.root in
-    let item = instance_at old new own ds exports a in
+    let grown = grown_by old new n (index_of old.homes) known exports ds own types a.written g in
+    let item = instance_at old new n ds a.written in
     let homes = each_keeps (IsExported names own types s) (λ id. IsHome names types instances id k) exports (λ id. exported_home names own types s id k instances item) g.exported in
-    let good : RootGood names (index_of old.known) (index_of new.homes) (root_scope new) types = record {
+    named_good old new n (index_of new.homes) ds types a.written (record {
       ids = grown.ids;
       instances = λ id j h. kept_cases (IsHome names types instances) (index_of old.homes) (index_of new.homes) exports k id j a.homes h homes (grown.instances id);
-      imports = imports;
-    } in
-    subst (λ m. RootGood m (index_of new.known) (index_of new.homes) (root_scope new) types) (sym a.names) (subst (λ l. RootGood names (index_of l) (index_of new.homes) (root_scope new) types) (sym a.known) good)
+      imports = grown.imports;
+    })
 
 -- a type that may be taken is of the interface, or might be before
 pub import_only : (old new : Root) (own : ℕ) (known : ℕ → Option ℕ) (exports : List ℕ) (ds : List DeclaratorValue) (types : List TypeDef)
@@ -245,36 +304,31 @@ pub name_at : (names : List (String Global)) (own i : ℕ) (x : String Global) �
 name_at names own i x e lt here = ap (λ k. get_or (map string_bytes names) k []) (sym e) ∙ get_or-map string_bytes names i x [] lt ∙ ap string_bytes (sym here)
 
 -- behind the type there are the same names and instances
-pub unnamed_there : (old mid : Root) (own : ℕ) (ds : List DeclaratorValue) (n : List ℕ) → IsAdded old mid (entries.a_type (of_instance ds)) → get_or (interface_names old) own [] ≡ n → is_new (root_names mid) n ≡ is_new (root_names old) (get_or (interface_names old) own [])
-unnamed_there old mid own ds n a name = ap (λ l. is_new l n) (names_added old mid (entries.a_type (of_instance ds)) a ∙ append-nil (root_names old)) ∙ ap (is_new (root_names old)) (sym name)
+pub unnamed_there : (old mid : Root) (ds : List DeclaratorValue) (n : List ℕ) → IsAdded old mid (entries.a_type (of_instance ds)) → is_new (root_names mid) n ≡ is_new (root_names old) n
+unnamed_there old mid ds n a = ap (λ l. is_new l n) (names_added old mid (entries.a_type (of_instance ds)) a ∙ append-nil (root_names old))
 
 pub unplaced_there : (old mid : Root) (ds : List DeclaratorValue) → IsAdded old mid (entries.a_type (of_instance ds)) → length (root_scope mid).instances ≡ length (root_scope old).instances
 unplaced_there old mid ds a = ap length (instances_added old mid (entries.a_type (of_instance ds)) a ∙ append-nil (root_scope old).instances)
 
--- what is imported, before the homes are put down
-pub record IsWritten (old last : Root) (interface : ℕ) (ds : List DeclaratorValue) (ids : List ℕ) (homes : List (ℕ × ℕ)) : Type 0 where
-  pub fresh : is_new (root_names old) (get_or (interface_names old) interface []) ≡ true
-  pub entries : entry_values last ≡ entry_values old ++ entries.a_type (of_instance ds) ∷ an_import (record { name = get_or (interface_names old) interface []; description = descriptions.Instance (length (root_scope old).types) }) ∷ []
-  pub names : interface_names last ≡ interface_names old
-  pub known : last.known ≡ old.known
-  pub kept : AreKept (index_of old.homes) (index_of homes) ids (length (root_scope old).instances)
-
-pub written_by : (old mid last : Root) (own : ℕ) (ds : List DeclaratorValue) (ids : List ℕ) (n : List ℕ) (ty instance : ℕ) (homes : List (ℕ × ℕ))
+pub written_by : (old mid last : Root) (ds : List DeclaratorValue) (n : List ℕ) (ty instance : ℕ)
     → ty ≡ length (root_scope old).types → IsAdded old mid (entries.a_type (of_instance ds))
     → instance ≡ length (root_scope mid).instances → is_new (root_names mid) n ≡ true → IsAdded mid last (an_import (record { name = n; description = descriptions.Instance ty }))
-    → get_or (interface_names old) own [] ≡ n → AreKept (index_of last.homes) (index_of homes) ids instance → IsWritten old last own ds ids homes
-written_by old mid last own ds ids n ty instance homes index a place fresh b name kept =
+    → (instance ≡ length (root_scope old).instances) × IsImportedBeside old last n ds
+written_by old mid last ds n ty instance index a place fresh b =
     let d = entries.a_type (of_instance ds) in
-    let import_of : List ℕ → ℕ → EntryValue = λ m i. an_import (record { name = m; description = descriptions.Instance i }) in
-    let e = import_of n ty in
-    let f = import_of (get_or (interface_names old) own []) (length (root_scope old).types) in
-    let same : e ≡ f = ap (λ m. import_of m ty) (sym name) ∙ ap (import_of (get_or (interface_names old) own [])) index in
-    let at : instance ≡ length (root_scope old).instances = place ∙ ap length (instances_added old mid d a ∙ append-nil (root_scope old).instances) in
-    let before : last.homes ≡ old.homes = b.homes ∙ a.homes in
-    record {
-      fresh = sym (unnamed_there old mid own ds n a name) ∙ fresh;
-      entries = b.entries ∙ ap (λ l. l ++ e ∷ []) a.entries ∙ append_assoc (entry_values old) (d ∷ []) (e ∷ []) ∙ ap (λ x. entry_values old ++ d ∷ x ∷ []) same;
-      names = b.names ∙ a.names;
-      known = b.known ∙ a.known;
-      kept = subst (λ l. AreKept (index_of l) (index_of homes) ids (length (root_scope old).instances)) before (subst (AreKept (index_of last.homes) (index_of homes) ids) at kept);
-    }
+    let import_of : ℕ → EntryValue = λ i. an_import (record { name = n; description = descriptions.Instance i }) in (
+      place ∙ unplaced_there old mid ds a,
+      record {
+        written = record {
+          fresh = sym (unnamed_there old mid ds n a) ∙ fresh;
+          entries = b.entries ∙ ap (λ l. l ++ import_of ty ∷ []) a.entries ∙ append_assoc (entry_values old) (d ∷ []) (import_of ty ∷ []) ∙ ap (λ i. entry_values old ++ d ∷ import_of i ∷ []) index;
+          names = b.names ∙ a.names;
+          known = b.known ∙ a.known;
+        };
+        homes = b.homes ∙ a.homes;
+      },
+    )
+
+-- under an interface's name
+pub written_for : (old last : Root) (own : ℕ) (ds : List DeclaratorValue) (n : List ℕ) → get_or (interface_names old) own [] ≡ n → IsWrittenUnder old last n ds → IsWrittenUnder old last (get_or (interface_names old) own []) ds
+written_for old last own ds n name w = subst (λ m. IsWrittenUnder old last m ds) (sym name) w

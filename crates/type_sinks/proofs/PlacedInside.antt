@@ -15,7 +15,7 @@ use Rattle.type_sinks.specs.declared.root.Root.{Root}
 use Rattle.type_sinks.specs.declared.inside.InterfaceTypes.{InterfaceTypes}
 use Rattle.type_sinks.specs.Inside.{type_count}
 use Rattle.type_sinks.specs.Placing.{AreDeclaratorsPlaced}
-use Rattle.type_sinks.specs.Views.{root_scope, RootIsPlaced, IsSameRoot, IsTaken, declarator_values, inside, inside_names, InsideIsGood, InsideIsPlaced, IsSameInside, IsDeclared, IsImported}
+use Rattle.type_sinks.specs.Views.{root_scope, RootIsPlaced, IsSameRoot, IsTaken, declarator_values, inside, inside_names, InsideIsGood, InsideIsPlaced, IsSameInside, IsDeclared, IsWrittenUnder}
 use Rattle.type_sinks.proofs.Following.{declared_type_follows, outer_follows, export_type_follows, export_function_follows}
 use Rattle.type_sinks.proofs.PlacedDeclarators.{AreKnown, behind, declarators_push}
 use Rattle.type_sinks.proofs.PlacedRoot.{same_placed, import_placed}
@@ -95,5 +95,5 @@ over_same_placed old mid new n k id o taken a types g p = same_inside_placed mid
 
 -- ---- an instance that is imported
 
-pub inside_imported : (t : InterfaceTypes) (new : Root) (ids : List ℕ) → IsImported t.root new t.interface (declarator_values t) ids → InsideIsPlaced t → RootIsPlaced new
-inside_imported t new ids a p = import_placed t.root new t.interface (declarator_values t) ids a (p.1 (length (root_scope t.root).types) (omega arith)) p.0
+pub inside_imported : (t : InterfaceTypes) (new : Root) (n : List ℕ) → IsWrittenUnder t.root new n (declarator_values t) → InsideIsPlaced t → RootIsPlaced new
+inside_imported t new n a p = import_placed t.root new n (declarator_values t) a (p.1 (length (root_scope t.root).types) (omega arith)) p.0

@@ -1,6 +1,5 @@
 -- One more entry of a root may stand where it does.
 use Rattle.std.proofs.Common.{◌≡◌, ◌<◌, ℕ, List, [], ◌∷◌, ◌++◌, length, map, Option, Some, None, true, refl, sym, ap, subst, ◌∙◌, arith, append_assoc, length-append}
-use Rattle.std.specs.Prelude.{get_or}
 use Rattle.std.proofs.lemmas.List.{append-nil}
 use Rattle.distinct_names.specs.Names.{is_new}
 use Rattle.component_value_types.specs.Types.{DefinedTypeValue}
@@ -25,7 +24,7 @@ use Rattle.type_sinks.specs.declared.root.Root.{Root}
 use Rattle.type_sinks.specs.Root.{InterfaceNames, IsHome}
 use Rattle.type_sinks.specs.Imports.{entry_names}
 use Rattle.type_sinks.specs.Placing.{DeclaratorsFollow, ArePlaced, known_of}
-use Rattle.type_sinks.specs.Views.{entry_values, root_scope, root_names, interface_names, RootIsPlaced, IsSameRoot, IsAdded, IsImported}
+use Rattle.type_sinks.specs.Views.{entry_values, root_scope, root_names, RootIsPlaced, IsSameRoot, IsAdded, IsWrittenUnder}
 use Rattle.type_sinks.proofs.Following.{type_follows, instance_type_follows, import_type_follows, import_function_follows, import_instance_follows, alias_follows}
 use Rattle.type_sinks.proofs.Placed.{placed_push}
 use Rattle.type_sinks.proofs.Rooted.{scope_after, types_added, fresh_import}
@@ -89,10 +88,9 @@ instance_placed es mid news ds n e f fresh follow p =
     placed_push mid news (an_import (record { name = n; description = descriptions.Instance (length (meaning es).types) })) f first
     (import_instance_follows (known_of (meaning mid)) n (length (meaning es).types) (ap (λ l. is_new l n) (names_same es mid ds e) ∙ fresh) (one_type_more es mid ds e))
 
-pub import_placed : (old new : Root) (own : ℕ) (ds : List DeclaratorValue) (ids : List ℕ) → IsImported old new own ds ids → DeclaratorsFollow (length (root_scope old).types) ds → RootIsPlaced old → RootIsPlaced new
-import_placed old new own ds ids a follow p =
+pub import_placed : (old new : Root) (n : List ℕ) (ds : List DeclaratorValue) → IsWrittenUnder old new n ds → DeclaratorsFollow (length (root_scope old).types) ds → RootIsPlaced old → RootIsPlaced new
+import_placed old new n ds a follow p =
     let es = entry_values old in
-    let n = get_or (interface_names old) own [] in
     let d = a_type (of_instance ds) in
     let e = an_import (record { name = n; description = descriptions.Instance (length (root_scope old).types) }) in
     instance_placed es (es ++ d ∷ []) (entry_values new) ds n refl (a.entries ∙ sym (append_assoc es (d ∷ []) (e ∷ []))) (fresh_import old n a.fresh) follow p

@@ -12,7 +12,7 @@ use Rattle.wit_types.specs.declared.interface.TypeDef.{TypeDef}
 use Rattle.wit_types.specs.declared.interface.TypeOwner.{TypeOwner}
 use Rattle.wit_types.specs.declared.interface.TypeOwner.TheVariants as belongs
 use Rattle.type_meaning.specs.Tree.{Parts, named, resource, of, none, gap, part}
-use Rattle.type_meaning.specs.Words.{itself, Label}
+use Rattle.type_meaning.specs.Words.{itself, imported, Label}
 use Rattle.type_meaning.specs.Items.{Item, Inside, inside_of, items_of, item_named, a_type, is_value}
 use Rattle.type_meaning.specs.Scope.{Scope}
 use Rattle.type_writing.specs.Unfolding.{OwnName, WitTree, Unfolds}
@@ -52,6 +52,10 @@ is_of own belongs.None = false
 abbrev pub inside_label : InterfaceNames → ℕ → OwnName → Label
 inside_label names own o = if is_of own o.owner then record { site = itself; name = o.name } else root_label names o
 
+-- in an instance of an interface that is imported under a name, its own names are those of that import
+abbrev pub instance_label : InterfaceNames → ℕ → List ℕ → OwnName → Label
+instance_label names own n o = if is_of own o.owner then record { site = imported n; name = o.name } else root_label names o
+
 -- no name in the tree is of this interface
 abbrev mutual
   pub IsApart : ℕ → WitTree → Type 0
@@ -64,9 +68,9 @@ abbrev mutual
   AreApart own (gap ps) = AreApart own ps
   AreApart own (part t ps) = IsApart own t × AreApart own ps
 
--- what may be taken from instances doesn't speak of this interface: those that are imported depend on earlier ones alone
+-- what may be taken from instances of other interfaces doesn't speak of this one: those that are imported depend on earlier ones alone
 abbrev pub TakenAreApart : (ℕ → Option ℕ) → ℕ → List TypeDef → Type 0
-TakenAreApart homes own types = (id k : ℕ) (d : TypeDef) (x : String Global) (t : WitTree) → homes id ≡ Some k → slice_get types id ≡ Some d → d.name ≡ Some x → Unfolds types (Id id) t → IsApart own t
+TakenAreApart homes own types = (id k : ℕ) (d : TypeDef) (x : String Global) (t : WitTree) → homes id ≡ Some k → slice_get types id ≡ Some d → d.name ≡ Some x → is_of own d.owner ≡ false → Unfolds types (Id id) t → IsApart own t
 
 -- these declarators, in the root as it is or with more types, stand for this
 abbrev pub StaysInside : List Item → List DeclaratorValue → Inside → Type 0

@@ -1,5 +1,6 @@
 -- The root of a component, and the type of an instance, as contracts see them.
-use Rattle.std.specs.Prelude.{◌≡◌, ◌⊎◌, ◌<◌, ◌≤◌, ℕ, ◌+◌, ◌^◌, List, [], ◌∷◌, ◌++◌, length, map, get_or, slice_get, option_map, Option, None, Some, true, false, nat_eq, string_bytes}
+use Rattle.std.specs.Prelude.{◌≡◌, ◌⊎◌, ◌<◌, ◌≤◌, ℕ, ◌+◌, ◌^◌, List, [], ◌∷◌, ◌++◌, length, map, get_or, slice_get, option_map, Option, None, Some, true, false, nat_eq, String, string_bytes}
+use Rattle.std.specs.declared.alloc.Global.{Global}
 use Rattle.std.specs.List.{list_any}
 use Rattle.distinct_names.specs.Names.{is_new}
 use Rattle.component_definitions.specs.declared.externs.Description.TheVariants as descriptions
@@ -13,11 +14,11 @@ use Rattle.wit_types.specs.declared.function.Param.{Param}
 use Rattle.wit_types.specs.declared.interface.TypeDef.{TypeDef}
 use Rattle.wit_types.specs.declared.interface.TypeOwner.TheVariants as belongs
 use Rattle.type_meaning.specs.Words.{Site, Label}
-use Rattle.type_meaning.specs.Items.{Inside as TheInside, inside_of, Items, items_of, item_at, item_named, own_label, from_import, a_function, an_instance}
+use Rattle.type_meaning.specs.Items.{Inside as TheInside, inside_of, Items, items_of, item_at, item_named, own_label, from_import, a_type as a_type_item, a_function, an_instance}
 use Rattle.type_meaning.specs.Scope.{Scope, meaning, adds}
 use Rattle.type_sinks.specs.declared.root.Root.{Root}
 use Rattle.type_sinks.specs.declared.inside.InterfaceTypes.{InterfaceTypes}
-use Rattle.type_writing.specs.Unfolding.{WitTree}
+use Rattle.type_writing.specs.Unfolding.{OwnName, WitTree, Unfolds}
 use Rattle.type_writing.specs.declared.fault.Fault.{Fault}
 use Rattle.type_writing.specs.Writing.{written, Stands, Begins, Setting, IsRemembered}
 use Rattle.type_writing.specs.Refusals.{IsCause}
@@ -99,13 +100,22 @@ pub record IsTaken (old new : Root) (name : List ℕ) (id i : ℕ) : Type 0 wher
   pub good : (types : List TypeDef) → RootIsGood old types → RootIsGood new types
   pub stands : (types : List TypeDef) (d : TypeDef) → RootIsGood old types → slice_get types id ≡ Some d → option_map string_bytes d.name ≡ Some name → Stands (root_label (interface_names new)) types (root_scope new).types (Id id) (Index i)
 
--- an instance of these declarators is imported for an interface, under a name that is new, and it is the home of each of these types
-pub record IsImported (old new : Root) (interface : ℕ) (ds : List DeclaratorValue) (ids : List ℕ) : Type 0 where
-  pub fresh : is_new (root_names old) (get_or (interface_names old) interface []) ≡ true
-  pub entries : entry_values new ≡ entry_values old ++ a_type (of_instance ds) ∷ an_import (record { name = get_or (interface_names old) interface []; description = descriptions.Instance (length (root_scope old).types) }) ∷ []
+-- an instance of these declarators is imported under a name that is new
+pub record IsWrittenUnder (old new : Root) (name : List ℕ) (ds : List DeclaratorValue) : Type 0 where
+  pub fresh : is_new (root_names old) name ≡ true
+  pub entries : entry_values new ≡ entry_values old ++ a_type (of_instance ds) ∷ an_import (record { name = name; description = descriptions.Instance (length (root_scope old).types) }) ∷ []
   pub names : interface_names new ≡ interface_names old
   pub known : new.known ≡ old.known
+
+-- so it is for an interface, under the name that this has, and the instance is the home of each of these types
+pub record IsImported (old new : Root) (interface : ℕ) (ds : List DeclaratorValue) (ids : List ℕ) : Type 0 where
+  pub written : IsWrittenUnder old new (get_or (interface_names old) interface []) ds
   pub homes : AreKept (index_of old.homes) (index_of new.homes) ids (length (root_scope old).instances)
+
+-- so it is beside all instances from which types may be taken
+pub record IsImportedBeside (old new : Root) (name : List ℕ) (ds : List DeclaratorValue) : Type 0 where
+  pub written : IsWrittenUnder old new name ds
+  pub homes : new.homes ≡ old.homes
 
 -- an entry takes the next index of a type alone
 pub record AddsOneType (scope : Scope) (e : EntryValue) : Type 0 where
@@ -113,9 +123,17 @@ pub record AddsOneType (scope : Scope) (e : EntryValue) : Type 0 where
   pub functions : (adds scope e).functions ≡ []
   pub instances : (adds scope e).instances ≡ []
 
--- why no instance is imported for an interface: it has no name, or the name is there already; or 32 bits can't say an index
+-- 32 bits can't say how many types or instances there are with one more
+abbrev pub IsFullOfInstances : Root → Type 0
+IsFullOfInstances r = IsFull r ⊎ (2 ^ 32 ≤ length (root_scope r).instances + 1)
+
+-- why no instance is imported under a name: the name is there already; or 32 bits can't say an index
+abbrev pub IsNamedImportCause : Root → List ℕ → Fault → Type 0
+IsNamedImportCause r name = IsCause (is_new (root_names r) name ≡ false) (IsFullOfInstances r)
+
+-- nor for an interface: it has no name either
 abbrev pub IsImportCause : Root → ℕ → Fault → Type 0
-IsImportCause r interface = IsCause ((length (interface_names r) ≤ interface) ⊎ (is_new (root_names r) (get_or (interface_names r) interface []) ≡ false)) (IsFull r ⊎ (2 ^ 32 ≤ length (root_scope r).instances + 1))
+IsImportCause r interface = IsCause ((length (interface_names r) ≤ interface) ⊎ (is_new (root_names r) (get_or (interface_names r) interface []) ≡ false)) (IsFullOfInstances r)
 
 -- and one that takes the next index of a function alone
 pub record AddsOneFunction (scope : Scope) (e : EntryValue) : Type 0 where
@@ -207,10 +225,26 @@ pub record IsInstanceWith (r : Root) (instance : ℕ) (site : Site) (names : Lis
   pub is : item_at (root_scope r).instances instance ≡ an_instance site items
   pub named : names_in items ≡ names
 
--- the instance at an index exports a function under the name
-pub record InstanceHasFunction (r : Root) (instance : ℕ) (site : Site) (types : List TypeDef) (name : List ℕ) (params : List Param) (result : Option Ref) : Type 0 where
+-- the instance at an index exports a function under the name, with types of these labels
+pub record HasFunctionIn (label : OwnName → Label) (r : Root) (instance : ℕ) (site : Site) (types : List TypeDef) (name : List ℕ) (params : List Param) (result : Option Ref) : Type 0 where
   pub items : Items
   pub is : item_at (root_scope r).instances instance ≡ an_instance site items
   pub tree : WitTree
   pub unfolds : FunctionUnfolds types params result tree
-  pub has : item_named name items ≡ a_function (from_import (record { site = site; name = name })) (written (root_label (interface_names r)) tree)
+  pub has : item_named name items ≡ a_function (from_import (record { site = site; name = name })) (written label tree)
+
+-- with those of the root
+abbrev pub InstanceHasFunction : Root → ℕ → Site → List TypeDef → List ℕ → List Param → Option Ref → Type 0
+InstanceHasFunction r = HasFunctionIn (root_label (interface_names r)) r
+
+-- the instance at an index exports the type with that id, under its name, with types of these labels
+pub record HasTypeIn (label : OwnName → Label) (r : Root) (instance : ℕ) (site : Site) (types : List TypeDef) (id : ℕ) : Type 0 where
+  pub def : TypeDef
+  pub there : slice_get types id ≡ Some def
+  pub name : String Global
+  pub named : def.name ≡ Some name
+  pub items : Items
+  pub is : item_at (root_scope r).instances instance ≡ an_instance site items
+  pub tree : WitTree
+  pub unfolds : Unfolds types (Id id) tree
+  pub has : item_named (string_bytes name) items ≡ a_type_item (written label tree)

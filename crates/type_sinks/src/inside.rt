@@ -9,7 +9,7 @@ ghost use Rattle.wit_types.specs.declared.function.Param.{Param as Parameter};
 ghost use Rattle.wit_types.specs.declared.kind.«Type».{«Type» as Ref};
 ghost use Rattle.wit_types.specs.declared.interface.TypeDef.{TypeDef as Def};
 ghost use Rattle.type_sinks.specs.Kept.{index_of};
-ghost use Rattle.type_sinks.specs.Inside.{declares, type_count, exported_name, exported_names, is_of, TakenAreApart};
+ghost use Rattle.type_sinks.specs.Inside.{declares, type_count, exported_name, exported_names, is_of, instance_label, TakenAreApart};
 ghost use Rattle.type_sinks.specs.Refusals.{IsFunctionCause};
 ghost use Rattle.type_writing.specs.Functions.{function_form};
 ghost use Rattle.type_writing.specs.Placing.{AreParametersApart};
@@ -68,7 +68,7 @@ fn export<'s>(
 }
 
 impl<'s> InterfaceTypes<'s> {
-    ghost use Rattle.type_sinks.specs.Views.{root_scope, interface_names, root_names, RootIsGood, RootIsPlaced, IsFull, declarator_values, inside, inside_names, inside_setting, InsideIsGood, InsideIsPlaced, IsFullInside, IsGiven, IsSameInside, IsDeclared, IsImported, IsImportCause, IsInstanceWith, IsTypeOf, HasFunction, InstanceHasFunction};
+    ghost use Rattle.type_sinks.specs.Views.{root_scope, interface_names, root_names, RootIsGood, RootIsPlaced, IsFull, declarator_values, inside, inside_names, inside_setting, InsideIsGood, InsideIsPlaced, IsFullInside, IsGiven, IsSameInside, IsDeclared, IsImported, IsImportedBeside, IsNamedImportCause, IsImportCause, IsInstanceWith, IsTypeOf, HasFunction, HasFunctionIn, InstanceHasFunction, HasTypeIn};
     ghost use Rattle.type_meaning.specs.Words.{imported};
     ghost use Rattle.type_writing.specs.Writing.{Begins};
 
@@ -114,6 +114,26 @@ impl<'s> InterfaceTypes<'s> {
     {
         let mut root = self.root;
         root.import_instance(self.interface, self.declarators, &self.exports)?;
+        Ok(root)
+    }
+
+    /// Imports the instance at the root under another name than the interface's, with which the root answers; no type may be taken from it.
+    /// Answers `NotYet` where the root imports something under that name, `TooLarge` where 32 bits can't say an index, and `OutOfMemory`
+    /// where memory is wanting.
+    pub fn import_as(self, name: &'s str) -> Result<Root<'s>, Fault>
+        ensures imported { IfOk result (λ r. IsImportedBeside self.entry.root r name.entry.now (declarator_values self.entry)) }
+        ensures good { IfOk result (λ r. (types : List Def) → InsideIsGood self.entry types → RootIsGood r types) }
+        ensures placed { IfOk result (λ r. InsideIsPlaced self.entry → RootIsPlaced r) }
+        ensures begins { IfOk result (λ r. Begins (root_scope self.entry.root).types (root_scope r).types × Begins (root_scope self.entry.root).instances (root_scope r).instances) }
+        ensures same { IfOk result (λ r. (root_scope r).functions ≡ (root_scope self.entry.root).functions) }
+        ensures names { IfOk result (λ r. root_names r ≡ root_names self.entry.root ++ name.entry.now ∷ []) }
+        ensures items { IfOk result (λ r. IsInstanceWith r (length (root_scope self.entry.root).instances) (imported name.entry.now) (inside_names self.entry)) }
+        ensures functions { IfOk result (λ r. (types : List Def) (of : List ℕ) (params : List Parameter) (answer : Option Ref) → HasFunction self.entry types of params answer → HasFunctionIn (instance_label (interface_names self.entry.root) self.entry.interface name.entry.now) r (length (root_scope self.entry.root).instances) (imported name.entry.now) types of params answer) }
+        ensures types { IfOk result (λ r. (types : List Def) (id : ℕ) → InsideIsGood self.entry types → IsGiven self.entry id → HasTypeIn (instance_label (interface_names self.entry.root) self.entry.interface name.entry.now) r (length (root_scope self.entry.root).instances) (imported name.entry.now) types id) }
+        ensures cause { IfErr result (IsNamedImportCause self.entry.root name.entry.now) }
+    {
+        let mut root = self.root;
+        root.import_named(name, self.declarators)?;
         Ok(root)
     }
 

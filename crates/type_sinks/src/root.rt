@@ -75,7 +75,7 @@ fn import<'s>(
 }
 
 impl<'s> Root<'s> {
-    ghost use Rattle.type_sinks.specs.Views.{entry_values, root_scope, interface_names, root_names, RootIsGood, RootIsPlaced, IsFull, IsSameRoot, IsAdded, IsTaken, IsImported, IsImportCause, AddsOneType};
+    ghost use Rattle.type_sinks.specs.Views.{entry_values, root_scope, interface_names, root_names, RootIsGood, RootIsPlaced, IsFull, IsSameRoot, IsAdded, IsTaken, IsImported, IsImportedBeside, IsNamedImportCause, IsImportCause, AddsOneType};
 
     /// A root where nothing is written, for interfaces that are imported under these names, by their ids.
     pub fn new(alloc: Global, names: &'s [String]) -> Root<'s>
@@ -183,6 +183,21 @@ impl<'s> Root<'s> {
         Ok(index)
     }
 
+    /// Imports an instance under a name, with a type that these declarators make, and answers its index. Answers `NotYet` where the name is
+    /// there already, `TooLarge` where 32 bits can't say an index, and `OutOfMemory` where memory is wanting.
+    pub(crate) fn import_named(
+        &mut self,
+        name: &'s str,
+        declarators: Vec<Declarator<'s>>,
+    ) -> Result<u32, Fault>
+        ensures ok { IfOk result (λ i. (i ≡ length (root_scope self.old).instances) × IsImportedBeside self.old self.new name.entry.now (map declarator_value declarators.entry.items)) }
+        ensures cause { IfErr result (IsNamedImportCause self.old name.entry.now) }
+    {
+        let definition = TypeDefinition::Instance(InstanceType { declarators });
+        let ty = self.add_type(Entry::Type_(definition))?;
+        self.add_instance(name, ty)
+    }
+
     /// Imports an instance of an interface, with a type that these declarators make, from where these types may be taken. Answers
     /// `NotYet` where the interface has no name, or the name is there already, `TooLarge` where 32 bits can't say an index, and
     /// `OutOfMemory` where memory is wanting.
@@ -197,9 +212,7 @@ impl<'s> Root<'s> {
     {
         let names = self.names;
         let name = names.get(interface.index()).ok_or(Fault::NotYet)?;
-        let definition = TypeDefinition::Instance(InstanceType { declarators });
-        let ty = self.add_type(Entry::Type_(definition))?;
-        let instance = self.add_instance(name.as_str(), ty)?;
+        let instance = self.import_named(name.as_str(), declarators)?;
         self.homes.keep_all(exports, instance)?;
         Ok(())
     }

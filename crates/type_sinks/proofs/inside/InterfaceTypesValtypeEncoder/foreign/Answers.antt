@@ -30,7 +30,7 @@ returns c =
           (λ s. over_begins old _ new n id k (record { interface = refl; known = refl; exports = refl; declarators = refl }) taken s) a.ok a.err;
       placed = in_either r _ (λ i h. foreign_placed old _ new n k id _ (record { interface = refl; known = refl; exports = refl; declarators = refl }) taken h.1)
           (λ s. over_same_placed old _ new n k id (record { interface = refl; known = refl; exports = refl; declarators = refl }) taken s) a.ok a.err;
-      ok = IfOk-weaker r _ _ (λ i h. foreign_taken old _ new c.args._owner n k id i (record { interface = refl; known = refl; exports = refl; declarators = refl }) taken h.0 h.1) a.ok;
+      ok = IfOk-weaker r _ _ (λ i h. foreign_taken old _ new c.args._owner n k id i (record { interface = refl; known = refl; exports = refl; declarators = refl }) taken c.requires h.0 h.1) a.ok;
       err = on_err_weaker r (λ s. over_stays old _ new n id k (record { interface = refl; known = refl; exports = refl; declarators = refl }) taken s) a.err;
       cause = IfErr-weaker r _ _ (cause_weaker (λ h. absurd h) (λ h. inl h)) a.cause;
     }
