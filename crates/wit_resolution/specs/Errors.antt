@@ -1,5 +1,6 @@
 -- Why calls are refused.
 use Rattle.std.specs.Prelude.{◌≡◌, ◌⊎◌, ℕ, Option, Some, None}
+use Rattle.std.specs.Borrow.{Lends, MutBor, Fml}
 use Rattle.wit_words.specs.declared.source_map.Span.{Span}
 use Rattle.wit_words.specs.declared.source_map.SourceFault.{SourceFault}
 use Rattle.wit_words.specs.declared.source_map.SourceFault.TheVariants as source
@@ -15,6 +16,12 @@ use Rattle.wit_selection.specs.declared.selection.SelectFault.{SelectFault}
 use Rattle.wit_selection.specs.declared.selection.SelectFault.TheVariants as selection
 pub use Rattle.wit_resolution.specs.declared.error.ResolveErrorKind.{ResolveErrorKind}
 use Rattle.wit_resolution.specs.declared.error.ResolveErrorKind.TheVariants.{Syntax, Package, TooLarge, PackageNotFound, ItemNotFound, PackageCycle, DuplicatePackage, IncludeClash, ExportConflict, GateVersion, WorldNotFound, ForeignShape, OutOfMemory}
+use Rattle.wit_resolution.specs.contracts.error.ResolveError.{the_row as error_row}
+use Rattle.wit_resolution.specs.contracts.error.ResolveErrorKind.{the_row as kind_row}
+
+-- the kind of an error is lent, and what is written there is its kind from then on
+abbrev pub LendsKind : MutBor ResolveErrorKind → MutBor ResolveErrorKind → Fml
+LendsKind e kind = Lends error_row kind_row e kind (λ k. k)
 
 -- where
 abbrev pub span_of : ResolveErrorKind → Option Span

@@ -92,7 +92,7 @@ pub enum ResolveErrorKind {
 }
 
 /// Why a call of a `Resolve` is refused.
-#[derive(Clone, Copy, Debug, PartialEq, Eq, Drop, Error)]
+#[derive(Clone, Debug, PartialEq, Eq, Drop, Error)]
 #[error("{kind}")]
 pub struct ResolveError {
     kind: ResolveErrorKind,
@@ -112,6 +112,9 @@ impl Model for ResolveError {
 }
 
 impl ResolveError {
+    ghost use Rattle.std.specs.Borrow.{sem};
+    ghost use Rattle.wit_resolution.specs.Errors.{LendsKind};
+
     /// Which refusal it is.
     pub fn kind(&self) -> &ResolveErrorKind
         ensures { result.now ≡ self.now }
@@ -119,9 +122,10 @@ impl ResolveError {
         &self.kind
     }
 
-    /// The same, to be changed in place.
+    /// The same, to be changed in place: what is written there is the kind from then on.
     pub fn kind_mut(&mut self) -> &mut ResolveErrorKind
-        ensures { result.now ≡ self.old }
+        ensures now { result.now ≡ self.old }
+        ensures* lends { sem 𝓛 (LendsKind self.entry result) }
     {
         &mut self.kind
     }
