@@ -204,5 +204,5 @@ module _ (l : Linking) (names : InterfaceNames) (bytes : List ℕ) (t : Table) (
   links_right : LinksRight l t last
   links_right = record { imports = each_of _ last.core_instances takes; exports = each_of _ last.scope.exports lifts_own }
 
-  pub is_right : AreInterfaceNames l.names names → IsRightFor l bytes t last
+  pub is_right : AreInterfaceNames l.names l.main.imports names → IsRightFor l bytes t last
   is_right named = record { names = names; names_are = named; imports = imports_right; exports = exports_right; modules = modules_right; links = links_right }

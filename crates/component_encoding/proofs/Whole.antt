@@ -59,7 +59,7 @@ none_exported : (es : List EntryValue) → EntriesArePlaced es → (scope_meanin
 none_exported es placed none = ap (λ (k : DefinedValue). k.exports) (known es placed) ∙ ap entry_names none
 
 pub whole : (flat : UnfoldedFunctionsAreFlat) (keep : WrittenTreesKeepCoreTypes) (l : Linking) (names : InterfaceNames) (bytes : List ℕ) (t : Table) (es : List EntryValue) (first second last : List DefinitionValue) (lowers lifts : List ℕ) (instance : ℕ)
-    → IsTable l t → AreTypesBackward (types_of l) → AreInterfaceNames l.names names → AreImportsWritten l t names (scope_meaning es) lowers lifts → first ≡ as_definitions es → Begins second last
+    → IsTable l t → AreTypesBackward (types_of l) → AreInterfaceNames l.names l.main.imports names → AreImportsWritten l t names (scope_meaning es) lowers lifts → first ≡ as_definitions es → Begins second last
     → (AreLowerable (main_of bytes l.main) (meaning (main_of bytes l.main) first) lowers → IsInstantiated (main_of bytes l.main) (meaning (main_of bytes l.main) first) (meaning (main_of bytes l.main) second) lowers instance)
     → (Each (IsEntryOffered l (main_of bytes l.main)) t.exports → IsMainInstance (main_of bytes l.main) (meaning (main_of bytes l.main) second) instance → AreTypes (meaning (main_of bytes l.main) second) lifts
     → AreExported l (meaning (main_of bytes l.main) second) (meaning (main_of bytes l.main) last) t.exports lifts × StayPlacedWithAll second last (exported_functions l.names.world))

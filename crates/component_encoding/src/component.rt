@@ -72,7 +72,7 @@ fn add_linked<'e>(
     requires lowered { length imports.lowered.items ≡ length (linking_value linking.now).main.imports }
     requires lifted { length imports.lifted.items ≡ length (functions_exported (linking_value linking.now).names.world) }
     requires backward { AreTypesBackward (types_of (linking_value linking.now)) }
-    ensures right { (names : InterfaceNames) (is : IsTableOf (linking_value linking.entry.now) table.now) → AreInterfaceNames (linking_value linking.entry.now).names names → imported.AreImportsWritten (linking_value linking.entry.now) is.table names (scope_meaning (map entry_value imports.entry.entries.items)) imports.entry.lowered.items imports.entry.lifted.items → OnOk result ((imported.AreImportsListed (linking_value linking.entry.now) names (scope_meaning (map entry_value imports.entry.entries.items)) → IsRightFor (linking_value linking.entry.now) bytes.entry.now is.table (meaning (main_of bytes.entry.now (linking_value linking.entry.now).main) builder.new)) × spec.ArePlacedBehind (map entry_value imports.entry.entries.items) (functions_exported (linking_value linking.entry.now).names.world) builder.new) }
+    ensures right { (names : InterfaceNames) (is : IsTableOf (linking_value linking.entry.now) table.now) → AreInterfaceNames (linking_value linking.entry.now).names (linking_value linking.entry.now).main.imports names → imported.AreImportsWritten (linking_value linking.entry.now) is.table names (scope_meaning (map entry_value imports.entry.entries.items)) imports.entry.lowered.items imports.entry.lifted.items → OnOk result ((imported.AreImportsListed (linking_value linking.entry.now) names (scope_meaning (map entry_value imports.entry.entries.items)) → IsRightFor (linking_value linking.entry.now) bytes.entry.now is.table (meaning (main_of bytes.entry.now (linking_value linking.entry.now).main) builder.new)) × spec.ArePlacedBehind (map entry_value imports.entry.entries.items) (functions_exported (linking_value linking.entry.now).names.world) builder.new) }
 {
     let main = linking.main;
     law_unfolded_functions_are_flat();
@@ -104,7 +104,7 @@ pub fn component_of<'e>(
     bytes: &'e [u8],
 ) -> Result<ComponentBuilder<'e>, Fault>
     requires table { IsTableOf (linking_value linking.now) table.now }
-    requires names { AreInterfaceNames (linking_value linking.now).names (map string_bytes names.now) }
+    requires names { AreInterfaceNames (linking_value linking.now).names (linking_value linking.now).main.imports (map string_bytes names.now) }
     requires backward { AreTypesBackward (types_of (linking_value linking.now)) }
     requires there { AreFunctionsThere (linking_value linking.now).names }
     requires owners { AreOwnersThere (length (linking_value linking.now).names.known.interfaces) (types_of (linking_value linking.now)) }
@@ -142,7 +142,7 @@ pub fn encode<'e>(
     bytes: &'e [u8],
 ) -> Result<Vec<u8>, Fault>
     requires table { IsTableOf (linking_value linking.now) table.now }
-    requires names { AreInterfaceNames (linking_value linking.now).names (map string_bytes names.now) }
+    requires names { AreInterfaceNames (linking_value linking.now).names (linking_value linking.now).main.imports (map string_bytes names.now) }
     requires backward { AreTypesBackward (types_of (linking_value linking.now)) }
     requires there { AreFunctionsThere (linking_value linking.now).names }
     requires owners { AreOwnersThere (length (linking_value linking.now).names.known.interfaces) (types_of (linking_value linking.now)) }

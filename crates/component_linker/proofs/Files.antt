@@ -19,8 +19,8 @@ use Rattle.component_linker.specs.declared.program.Stop.{Stop}
 use Rattle.component_linker.specs.declared.program.Stop.TheVariants as stops
 use Rattle.component_linker.specs.Program.{Files, file_at, missing_path, textless_path, input_fault, file_fault}
 use Rattle.component_linker.specs.Stops.{AppendsFront, IsInputStop, IsFileStop, IsHandStop, IsTextsStop, IsComponentStop}
+use Rattle.component_session.specs.Coming.{ResolveErrorKind}
 use Rattle.component_session.specs.Pushes.{Resolved}
-use Rattle.wit_resolution.specs.declared.error.ResolveErrorKind.{ResolveErrorKind}
 use Rattle.command_line.specs.Line.{is_component}
 use Rattle.wit_component.proofs.PlacesLists.{filter_no}
 

@@ -15,9 +15,9 @@ use Rattle.component_session.specs.Input.{Input}
 use Rattle.component_session.specs.Faults.{code, name, place}
 use Rattle.component_session.specs.declared.fault.Fault.{Fault}
 use Rattle.component_session.specs.declared.fault.Fault.TheVariants as causes
+use Rattle.component_session.specs.Coming.{ResolveErrorKind}
 use Rattle.component_session.specs.Errors.{of_selection}
 use Rattle.component_session.specs.Pushes.{Resolved, AreTextsPushed, AreTextsError}
-use Rattle.wit_resolution.specs.declared.error.ResolveErrorKind.{ResolveErrorKind}
 use Rattle.wit_selection.specs.Selection.{IsSelectCause}
 use Rattle.wit_selection.specs.declared.selection.SelectFault.{SelectFault}
 use Rattle.wit_types.specs.declared.«package».PackageName.{PackageName}

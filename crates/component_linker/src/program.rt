@@ -4,8 +4,7 @@ ghost use Rattle.std.specs.Prelude.{◌≡◌, ◌<◌, ◌⊎◌, ℕ, [], None
 ghost use Rattle.std.specs.List.{flat_map};
 ghost use Rattle.std.specs.Io.KnownBytes.{Appends};
 ghost use Rattle.component_linker.specs.Program as spec;
-ghost use Rattle.component_linker.specs.Program.{line_status, verdict_status, IsFile, file_at, missing_path, textless_path, input_fault, file_fault, text_or, last_main, HasComponent, Handed, IsComponentAnswer, IsLinksAnswer, IsVerdictAnswer, IsAnswer, Writes, IsOutcome};
-ghost use Rattle.component_linker.specs.Stops.{AppendsFront, AppendsPart, WritesPart, refusal_text, fault_text, stop_text, stop_status, line_fault_text, out_path, IsFileStop, IsResolveStop, IsTextsStop, IsNameError, IsInputStop, IsHandStop, IsCompleteStop, IsPrepareStop, IsComponentStop, IsWriteStop, IsAnswerStop, IsStop, IsStopped};
+ghost use Rattle.component_linker.specs.Stops as stops;
 ghost use Rattle.component_session.specs.Refusals.{IsCause, IsBuildCause, IsAuditCause};
 ghost use Rattle.component_session.specs.GroupView.{texts};
 ghost use Rattle.component_session.specs.Pushes.{AreTextsPushed, AreTextsError};
@@ -66,8 +65,8 @@ impl<'a, T: Drop> From<AllocFailed<T>> for Stop<'a> {
 
 /// The bytes of the file at a path.
 fn bytes_at<'a>(files: &'a [(&'a str, &'a [u8])], path: &'a str) -> Result<&'a [u8], Stop<'a>>
-    ensures ok { IfOk result (λ b. IsFile files.entry.now path.entry.now b.now) }
-    ensures err { IfErr result (IsFileStop (λ p. missing_path path.entry.now (file_at files.entry.now path.entry.now) ≡ Some p)) }
+    ensures ok { IfOk result (λ b. spec.IsFile files.entry.now path.entry.now b.now) }
+    ensures err { IfErr result (stops.IsFileStop (λ p. spec.missing_path path.entry.now (spec.file_at files.entry.now path.entry.now) ≡ Some p)) }
 {
     for (name, bytes) in files {
         if *name == path {
@@ -79,9 +78,9 @@ fn bytes_at<'a>(files: &'a [(&'a str, &'a [u8])], path: &'a str) -> Result<&'a [
 
 /// The text of the file at a path.
 fn text_at<'a>(files: &'a [(&'a str, &'a [u8])], path: &'a str) -> Result<&'a str, Stop<'a>>
-    ensures ok { IfOk result (λ t. IsFile files.entry.now path.entry.now t.now) }
-    ensures text { IfOk result (λ _. textless_path path.entry.now (file_at files.entry.now path.entry.now) ≡ None) }
-    ensures err { IfErr result (IsFileStop (λ p. textless_path path.entry.now (file_at files.entry.now path.entry.now) ≡ Some p)) }
+    ensures ok { IfOk result (λ t. spec.IsFile files.entry.now path.entry.now t.now) }
+    ensures text { IfOk result (λ _. spec.textless_path path.entry.now (spec.file_at files.entry.now path.entry.now) ≡ None) }
+    ensures err { IfErr result (stops.IsFileStop (λ p. spec.textless_path path.entry.now (spec.file_at files.entry.now path.entry.now) ≡ Some p)) }
 {
     let bytes = bytes_at(files, path)?;
     match str::from_utf8(bytes) {
@@ -92,8 +91,8 @@ fn text_at<'a>(files: &'a [(&'a str, &'a [u8])], path: &'a str) -> Result<&'a st
 
 /// Looks at the file of an input.
 fn look_at<'a>(input: &'a Input, files: &'a [(&'a str, &'a [u8])]) -> Result<(), Stop<'a>>
-    ensures ok { OnOk result (input_fault files.entry.now input.entry.now ≡ None) }
-    ensures err { IfErr result (IsFileStop (λ p. input_fault files.entry.now input.entry.now ≡ Some p)) }
+    ensures ok { OnOk result (spec.input_fault files.entry.now input.entry.now ≡ None) }
+    ensures err { IfErr result (stops.IsFileStop (λ p. spec.input_fault files.entry.now input.entry.now ≡ Some p)) }
 {
     match input {
         Input::Text(path) | Input::Dep(path) => {
@@ -108,8 +107,8 @@ fn look_at<'a>(input: &'a Input, files: &'a [(&'a str, &'a [u8])]) -> Result<(),
 
 /// Looks at all files of the line, in order.
 fn look_at_files<'a>(inputs: &'a [Input], files: &'a [(&'a str, &'a [u8])]) -> Result<(), Stop<'a>>
-    ensures ok { OnOk result (file_fault files.entry.now inputs.entry.now ≡ None) }
-    ensures err { IfErr result (IsFileStop (λ p. file_fault files.entry.now inputs.entry.now ≡ Some p)) }
+    ensures ok { OnOk result (spec.file_fault files.entry.now inputs.entry.now ≡ None) }
+    ensures err { IfErr result (stops.IsFileStop (λ p. spec.file_fault files.entry.now inputs.entry.now ≡ Some p)) }
 {
     for input in inputs {
         look_at(input, files)?;
@@ -135,7 +134,7 @@ fn text_of(
 
 /// The end for packages that aren't resolved.
 fn unresolved<'a>(alloc: Global, session: &Session<'_>, error: ResolveError) -> Stop<'a>
-    ensures { IsResolveStop (λ e. e ≡ error) result }
+    ensures { stops.IsResolveStop (λ e. e ≡ error) result }
 {
     match text_of(alloc, session, &error) {
         Ok(text) => Stop::Unresolved(error, text),
@@ -150,7 +149,7 @@ fn main_texts<'a>(
     files: &'a [(&'a str, &'a [u8])],
 ) -> Result<Vec<(&'a str, &'a str)>, Stop<'a>>
     ensures ok { IfOk result (λ v. texts v.items ≡ flat_map (spec.main_text files.entry.now) inputs.entry.now) }
-    ensures err { IfErr result (IsTextsStop files.entry.now (λ _. ⊥) inputs.entry.now) }
+    ensures err { IfErr result (stops.IsTextsStop files.entry.now (λ _. ⊥) inputs.entry.now) }
 {
     let mut found = Vec::new(alloc);
     for input in inputs {
@@ -168,7 +167,7 @@ fn dep_texts<'a>(
     files: &'a [(&'a str, &'a [u8])],
 ) -> Result<Vec<(&'a str, &'a str)>, Stop<'a>>
     ensures ok { IfOk result (λ v. texts v.items ≡ flat_map (spec.dep_text files.entry.now) inputs.entry.now) }
-    ensures err { IfErr result (IsTextsStop files.entry.now (λ _. ⊥) inputs.entry.now) }
+    ensures err { IfErr result (stops.IsTextsStop files.entry.now (λ _. ⊥) inputs.entry.now) }
 {
     let mut found = Vec::new(alloc);
     for input in inputs {
@@ -188,7 +187,7 @@ fn push_texts<'a>(
 ) -> Result<PackageId, Stop<'a>>
     ensures ok { IfOk result (AreTextsPushed ⟦<PackageName as PartialEq>⟧.eq session.old.resolved (spec.packages_of files.entry.now inputs.entry.now) session.new.resolved) }
     ensures rest { OnOk result (session.new ≡ record session.old { resolved = session.new.resolved }) }
-    ensures err { IfErr result (IsTextsStop files.entry.now (AreTextsError ⟦<PackageName as PartialEq>⟧.eq session.old.resolved (spec.packages_of files.entry.now inputs.entry.now)) inputs.entry.now) }
+    ensures err { IfErr result (stops.IsTextsStop files.entry.now (AreTextsError ⟦<PackageName as PartialEq>⟧.eq session.old.resolved (spec.packages_of files.entry.now inputs.entry.now)) inputs.entry.now) }
 {
     let main = main_texts(alloc, inputs, files)?;
     let deps = dep_texts(alloc, inputs, files)?;
@@ -206,7 +205,7 @@ fn choose<'a>(
     world: &str,
 ) -> Result<(), Stop<'a>>
     ensures ok { OnOk result ((w : ℕ) × (session.new ≡ record session.old { world = Some w }) × spec.Names session.old.resolved «package» world.now w) }
-    ensures err { IfErr result (IsResolveStop (IsNameError session.old.resolved «package» world.now)) }
+    ensures err { IfErr result (stops.IsResolveStop (stops.IsNameError session.old.resolved «package» world.now)) }
 {
     match session.select_world([package].as_slice(), Some(world)) {
         Ok(_) => Ok(()),
@@ -216,7 +215,7 @@ fn choose<'a>(
 
 /// A text, or the chosen one where it is empty.
 fn text_or<'t>(text: &'t str, chosen: &'t str) -> &'t str
-    ensures { result.now ≡ text_or text.now chosen.now }
+    ensures { result.now ≡ spec.text_or text.now chosen.now }
 {
     if text.is_empty() { chosen } else { text }
 }
@@ -242,7 +241,7 @@ fn hand_in_one<'a>(
 ) -> Result<(), Stop<'a>>
     ensures main { OnOk result (spec.ReplacesMain files.entry.now session.old.resolved «package» line.entry.now input.entry.now session.old.main session.new.main) }
     ensures rest { OnOk result (session.new ≡ record session.old { main = session.new.main }) }
-    ensures err { IfErr result (IsInputStop files.entry.now session.old.resolved «package» (string_bytes line.entry.now.world) input.entry.now) }
+    ensures err { IfErr result (stops.IsInputStop files.entry.now session.old.resolved «package» (string_bytes line.entry.now.world) input.entry.now) }
 {
     let Input::Main { world, path } = input else {
         return Ok(());
@@ -266,9 +265,9 @@ fn hand_in<'a>(
     files: &'a [(&'a str, &'a [u8])],
 ) -> Result<(), Stop<'a>>
     requires { session.old.main ≡ None }
-    ensures main { OnOk result (spec.IsMain files.entry.now session.old.resolved «package» line.entry.now (last_main line.entry.now.inputs.items) session.new.main) }
+    ensures main { OnOk result (spec.IsMain files.entry.now session.old.resolved «package» line.entry.now (spec.last_main line.entry.now.inputs.items) session.new.main) }
     ensures rest { OnOk result (session.new ≡ record session.old { main = session.new.main }) }
-    ensures err { IfErr result (IsHandStop files.entry.now session.old.resolved «package» (string_bytes line.entry.now.world) line.entry.now.inputs.items) }
+    ensures err { IfErr result (stops.IsHandStop files.entry.now session.old.resolved «package» (string_bytes line.entry.now.world) line.entry.now.inputs.items) }
 {
     for input in &line.inputs {
         hand_in_one(alloc, session, package, line, input, files)?;
@@ -281,8 +280,8 @@ fn component_in<'a>(
     inputs: &'a [Input],
     files: &'a [(&'a str, &'a [u8])],
 ) -> Result<&'a [u8], Stop<'a>>
-    ensures ok { IfOk result (λ b. HasComponent files.entry.now inputs.entry.now b.now) }
-    ensures err { IfErr result (IsComponentStop files.entry.now inputs.entry.now) }
+    ensures ok { IfOk result (λ b. spec.HasComponent files.entry.now inputs.entry.now b.now) }
+    ensures err { IfErr result (stops.IsComponentStop files.entry.now inputs.entry.now) }
 {
     for input in inputs {
         if let Input::Component(path) = input {
@@ -295,8 +294,8 @@ fn component_in<'a>(
 /// Writes an answer, whose fault is one of OUT.
 fn put<'a, O: Write>(bytes: &[u8], line: &'a Line, out: &mut O) -> Result<(), Stop<'a>>
     ensures ok { OnOk result (Appends (O.contents out.old) (O.contents out.new) bytes.now) }
-    ensures err { IfErr result (IsFileStop (λ p. p ≡ out_path line.entry.now)) }
-    ensures part { OnErr result (AppendsPart (O.contents out.old) (O.contents out.new) bytes.now) }
+    ensures err { IfErr result (stops.IsFileStop (λ p. p ≡ stops.out_path line.entry.now)) }
+    ensures part { OnErr result (stops.AppendsPart (O.contents out.old) (O.contents out.new) bytes.now) }
 {
     match emit(bytes, out) {
         Ok(()) => Ok(()),
@@ -309,8 +308,8 @@ fn put<'a, O: Write>(bytes: &[u8], line: &'a Line, out: &mut O) -> Result<(), St
 
 /// Writes the component.
 fn build<'a, O: Write>(session: &Session<'a>, line: &'a Line, out: &mut O) -> Result<u8, Stop<'a>>
-    ensures ok { IfOk result (λ s. Writes (IsComponentAnswer session.now s) (O.contents out.old) (O.contents out.new)) }
-    ensures err { IfErr result (IsWriteStop (IsBuildCause session.now) (out_path line.entry.now) (out.new ≡ out.old) (WritesPart (IsComponentAnswer session.now) (O.contents out.old) (O.contents out.new))) }
+    ensures ok { IfOk result (λ s. spec.Writes (spec.IsComponentAnswer session.now s) (O.contents out.old) (O.contents out.new)) }
+    ensures err { IfErr result (stops.IsWriteStop (IsBuildCause session.now) (stops.out_path line.entry.now) (out.new ≡ out.old) (stops.WritesPart (spec.IsComponentAnswer session.now) (O.contents out.old) (O.contents out.new))) }
 {
     let bytes = session.build()?;
     put(&bytes, line, out)?;
@@ -324,8 +323,8 @@ fn list<'a, O: Write>(
     line: &'a Line,
     out: &mut O,
 ) -> Result<u8, Stop<'a>>
-    ensures ok { IfOk result (λ s. Writes (IsLinksAnswer session.now s) (O.contents out.old) (O.contents out.new)) }
-    ensures err { IfErr result (IsWriteStop (IsCause session.now) (out_path line.entry.now) (out.new ≡ out.old) (WritesPart (IsLinksAnswer session.now) (O.contents out.old) (O.contents out.new))) }
+    ensures ok { IfOk result (λ s. spec.Writes (spec.IsLinksAnswer session.now s) (O.contents out.old) (O.contents out.new)) }
+    ensures err { IfErr result (stops.IsWriteStop (IsCause session.now) (stops.out_path line.entry.now) (out.new ≡ out.old) (stops.WritesPart (spec.IsLinksAnswer session.now) (O.contents out.old) (O.contents out.new))) }
 {
     let links = session.links()?;
     let text = lines_of(alloc, &links)?;
@@ -334,7 +333,7 @@ fn list<'a, O: Write>(
 }
 
 fn status_of(verdict: Verdict) -> u8
-    ensures { result ≡ verdict_status verdict }
+    ensures { result ≡ spec.verdict_status verdict }
 {
     match verdict {
         Verdict::Yes => 0,
@@ -350,8 +349,8 @@ fn judge<'a, O: Write>(
     line: &'a Line,
     out: &mut O,
 ) -> Result<u8, Stop<'a>>
-    ensures ok { IfOk result (λ s. Writes (IsVerdictAnswer session.now component.now s) (O.contents out.old) (O.contents out.new)) }
-    ensures err { IfErr result (IsWriteStop (IsAuditCause session.now component.now) (out_path line.entry.now) (out.new ≡ out.old) (WritesPart (IsVerdictAnswer session.now component.now) (O.contents out.old) (O.contents out.new))) }
+    ensures ok { IfOk result (λ s. spec.Writes (spec.IsVerdictAnswer session.now component.now s) (O.contents out.old) (O.contents out.new)) }
+    ensures err { IfErr result (stops.IsWriteStop (IsAuditCause session.now component.now) (stops.out_path line.entry.now) (out.new ≡ out.old) (stops.WritesPart (spec.IsVerdictAnswer session.now component.now) (O.contents out.old) (O.contents out.new))) }
 {
     let verdict = audit(session, component)?;
     let mut text = verdict.to_text(alloc)?;
@@ -368,9 +367,9 @@ fn act<'a, O: Write>(
     files: &'a [(&'a str, &'a [u8])],
     out: &mut O,
 ) -> Result<u8, Stop<'a>>
-    requires { file_fault files.now line.now.inputs.items ≡ None }
-    ensures ok { IfOk result (λ s. Writes (IsAnswer files.entry.now line.entry.now.inputs.items session.now line.entry.now.action s) (O.contents out.old) (O.contents out.new)) }
-    ensures err { IfErr result (IsAnswerStop files.entry.now line.entry.now session.now (out.new ≡ out.old) (O.contents out.old) (O.contents out.new)) }
+    requires { spec.file_fault files.now line.now.inputs.items ≡ None }
+    ensures ok { IfOk result (λ s. spec.Writes (spec.IsAnswer files.entry.now line.entry.now.inputs.items session.now line.entry.now.action s) (O.contents out.old) (O.contents out.new)) }
+    ensures err { IfErr result (stops.IsAnswerStop files.entry.now line.entry.now session.now (out.new ≡ out.old) (O.contents out.old) (O.contents out.new)) }
 {
     match line.action {
         Action::Build => build(session, line, out),
@@ -427,7 +426,7 @@ fn complete<'a>(
 ) -> Result<(), Stop<'a>>
     requires { session.old.main ≡ None }
     ensures ok { OnOk result (spec.IsCompleted files.entry.now «package» line.entry.now session.old session.new) }
-    ensures err { IfErr result (IsCompleteStop files.entry.now session.old.resolved «package» line.entry.now) }
+    ensures err { IfErr result (stops.IsCompleteStop files.entry.now session.old.resolved «package» line.entry.now) }
 {
     choose(alloc, session, package, line.world.as_str())?;
     hand_in(alloc, session, package, line, files)
@@ -439,8 +438,8 @@ fn prepare<'a>(
     line: &'a Line,
     files: &'a [(&'a str, &'a [u8])],
 ) -> Result<Session<'a>, Stop<'a>>
-    ensures ok { IfOk result (Handed ⟦<PackageName as PartialEq>⟧.eq files.entry.now line.entry.now) }
-    ensures err { IfErr result (IsPrepareStop ⟦<PackageName as PartialEq>⟧.eq files.entry.now line.entry.now) }
+    ensures ok { IfOk result (spec.Handed ⟦<PackageName as PartialEq>⟧.eq files.entry.now line.entry.now) }
+    ensures err { IfErr result (stops.IsPrepareStop ⟦<PackageName as PartialEq>⟧.eq files.entry.now line.entry.now) }
 {
     look_at_files(&line.inputs, files)?;
     let mut session = opened(alloc, line)?;
@@ -456,8 +455,8 @@ fn perform<'a, O: Write>(
     files: &'a [(&'a str, &'a [u8])],
     out: &mut O,
 ) -> Result<u8, Stop<'a>>
-    ensures ok { IfOk result (λ s. IsOutcome ⟦<PackageName as PartialEq>⟧.eq files.entry.now line.entry.now s (O.contents out.old) (O.contents out.new)) }
-    ensures err { IfErr result (IsStop ⟦<PackageName as PartialEq>⟧.eq files.entry.now line.entry.now (out.new ≡ out.old) (O.contents out.old) (O.contents out.new)) }
+    ensures ok { IfOk result (λ s. spec.IsOutcome ⟦<PackageName as PartialEq>⟧.eq files.entry.now line.entry.now s (O.contents out.old) (O.contents out.new)) }
+    ensures err { IfErr result (stops.IsStop ⟦<PackageName as PartialEq>⟧.eq files.entry.now line.entry.now (out.new ≡ out.old) (O.contents out.old) (O.contents out.new)) }
 {
     let session = prepare(alloc, line, files)?;
     act(alloc, &session, line, files, out)
@@ -465,7 +464,7 @@ fn perform<'a, O: Write>(
 
 /// Writes texts in order, as far as the writer takes them.
 fn write_texts<E: Write>(texts: &[&str], err: &mut E)
-    ensures { AppendsFront (E.contents err.old) (E.contents err.new) (flat_map (λ t. t.now) texts.now) }
+    ensures { stops.AppendsFront (E.contents err.old) (E.contents err.new) (flat_map (λ t. t.now) texts.now) }
 {
     for text in texts {
         if emit(text.as_bytes(), err).is_err() {
@@ -476,7 +475,7 @@ fn write_texts<E: Write>(texts: &[&str], err: &mut E)
 
 /// Writes the line of a refusal that has a code.
 fn report_coded<'a, E: Write>(code: &'a str, name: &'a str, place: Option<&'a str>, err: &mut E)
-    ensures { AppendsFront (E.contents err.old) (E.contents err.new) (refusal_text (Some code.now) name.now (option_map (λ p. p.now) place.entry)) }
+    ensures { stops.AppendsFront (E.contents err.old) (E.contents err.new) (stops.refusal_text (Some code.now) name.now (option_map (λ p. p.now) place.entry)) }
 {
     match place {
         Some(place) => write_texts(&["error: ", code, " ", name, " at ", place, "\n"], err),
@@ -486,7 +485,7 @@ fn report_coded<'a, E: Write>(code: &'a str, name: &'a str, place: Option<&'a st
 
 /// Writes the line of a refusal.
 fn report_fault<E: Write>(fault: &Fault, err: &mut E)
-    ensures { AppendsFront (E.contents err.old) (E.contents err.new) (fault_text fault.now) }
+    ensures { stops.AppendsFront (E.contents err.old) (E.contents err.new) (stops.fault_text fault.now) }
 {
     match fault.code() {
         Some(code) => report_coded(code, fault.name(), fault.place(), err),
@@ -496,8 +495,8 @@ fn report_fault<E: Write>(fault: &Fault, err: &mut E)
 
 /// Writes why the program ends, and answers the exit status.
 fn report<E: Write>(stop: &Stop<'_>, err: &mut E) -> u8
-    ensures status { result ≡ stop_status stop.now }
-    ensures text { AppendsFront (E.contents err.old) (E.contents err.new) (stop_text stop.now) }
+    ensures status { result ≡ stops.stop_status stop.now }
+    ensures text { stops.AppendsFront (E.contents err.old) (E.contents err.new) (stops.stop_text stop.now) }
 {
     match stop {
         Stop::Refused(fault) => {
@@ -521,8 +520,8 @@ fn report<E: Write>(stop: &Stop<'_>, err: &mut E) -> u8
 
 /// Writes why the words are no line, and answers the exit status.
 fn report_line<E: Write>(fault: &LineFault, err: &mut E) -> u8
-    ensures status { result ≡ line_status fault.now }
-    ensures text { AppendsFront (E.contents err.old) (E.contents err.new) (line_fault_text fault.now) }
+    ensures status { result ≡ spec.line_status fault.now }
+    ensures text { stops.AppendsFront (E.contents err.old) (E.contents err.new) (stops.line_fault_text fault.now) }
 {
     match fault {
         LineFault::Clap(text) => {
@@ -552,11 +551,11 @@ pub fn run<O: Write, E: Write>(
     err: &mut E,
 ) -> u8
     ensures status { result < 4 }
-    ensures done { result ≡ 0 → IfOk line.now (λ l. IsOutcome ⟦<PackageName as PartialEq>⟧.eq files.now l 0 (O.contents out.old) (O.contents out.new)) }
-    ensures line { IfErr line.now (λ fault. result ≡ line_status fault) }
+    ensures done { result ≡ 0 → IfOk line.now (λ l. spec.IsOutcome ⟦<PackageName as PartialEq>⟧.eq files.now l 0 (O.contents out.old) (O.contents out.new)) }
+    ensures line { IfErr line.now (λ fault. result ≡ spec.line_status fault) }
     ensures silent { OnErr line.now (out.new ≡ out.old) }
-    ensures says { IfErr line.now (λ fault. AppendsFront (E.contents err.old) (E.contents err.new) (line_fault_text fault)) }
-    ensures ends { IfOk line.now (λ l. (IsOutcome ⟦<PackageName as PartialEq>⟧.eq files.now l result (O.contents out.old) (O.contents out.new) × (err.new ≡ err.old)) ⊎ IsStopped ⟦<PackageName as PartialEq>⟧.eq files.now l (out.new ≡ out.old) (O.contents out.old) (O.contents out.new) result (E.contents err.old) (E.contents err.new)) }
+    ensures says { IfErr line.now (λ fault. stops.AppendsFront (E.contents err.old) (E.contents err.new) (stops.line_fault_text fault)) }
+    ensures ends { IfOk line.now (λ l. (spec.IsOutcome ⟦<PackageName as PartialEq>⟧.eq files.now l result (O.contents out.old) (O.contents out.new) × (err.new ≡ err.old)) ⊎ stops.IsStopped ⟦<PackageName as PartialEq>⟧.eq files.now l (out.new ≡ out.old) (O.contents out.old) (O.contents out.new) result (E.contents err.old) (E.contents err.new)) }
 {
     let line = match line {
         Ok(line) => line,

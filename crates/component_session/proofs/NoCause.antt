@@ -2,6 +2,7 @@
 use Rattle.std.proofs.Common.{◌≡◌, ◌⊎◌, true, false, Some, List, [], ℕ, refl, sym, ap, subst, ◌∙◌, arith, inl, inr}
 use Rattle.std.specs.Prelude.{slice_get}
 use Rattle.std.proofs.lemmas.Option.{same_Some}
+use Rattle.wasm_types.specs.Entries.{ImportValue}
 use Rattle.wasm_format.specs.declared.fault.ModuleFault.{ModuleFault}
 use Rattle.wasm_format.specs.declared.fault.ModuleFault.TheVariants as modules
 use Rattle.wasm_format.specs.Module.{ModuleValue}
@@ -18,13 +19,12 @@ use Rattle.wit_component.proofs.NoCause.{no_link_cause}
 use Rattle.core_links.specs.Names.{Names}
 use Rattle.core_links.specs.declared.fault.LinkFault.{LinkFault as CoreFault}
 use Rattle.core_links.specs.declared.fault.LinkFault.TheVariants as core
-use Rattle.interface_names.specs.Names.{HasTwoNames}
 use Rattle.link_table.specs.Linking.{Linking as WideLinking}
 use Rattle.link_table.specs.Cause.{IsTableCause}
 use Rattle.link_table.specs.declared.fault.TableFault.{TableFault}
 use Rattle.link_table.specs.declared.fault.TableFault.TheVariants as tables
 use Rattle.distinct_names.specs.Names.{all_new}
-use Rattle.linked_components.specs.Build.{LinkedHaveNoCause}
+use Rattle.linked_components.specs.Build.{LinkedHaveNoCause, HasTwoNames}
 use Rattle.linked_components.specs.Tracks.{tracks, HasOneTrack}
 use Rattle.right_components.specs.Outside.{AreInterfaceNames}
 use Rattle.type_sinks.specs.Root.{InterfaceNames}
@@ -171,13 +171,15 @@ no_build_cause input bytes h fault (IsBuildCause.of_wide_size is m ready) = absu
 no_build_cause input bytes h fault (IsBuildCause.of_names is m ready two) = absurd (h.ready.plain ready.wide)
 
 -- a list by ids has one name for each interface
-no_two_names : (n : Names) (names : InterfaceNames) → AreInterfaceNames n names → HasTwoNames n → ⊥
-no_two_names n names are two =
-    two.apart (sym (are two.under_one.key two.id two.under_one.stability two.under_one.span two.one two.under_one.has two.under_one.is) ∙ are two.under_other.key two.id two.under_other.stability two.under_other.span two.other two.under_other.has two.under_other.is)
+no_two_names : (n : Names) (is : List ImportValue) (names : InterfaceNames) → AreInterfaceNames n is names → HasTwoNames n is → ⊥
+no_two_names n is names are two =
+    let one = two.under_one in
+    let other = two.under_other in
+    two.apart (sym (are.needed one.key two.id one.function two.one one.is_key one.needed one.text_is) ∙ are.needed other.key two.id other.function two.other other.is_key other.needed other.text_is)
 
 pub no_wide_build_cause : (input : Input) (bytes : List ℕ) → LinkedHaveNoCause → IsGraph input.resolved.graph → IsWidelyBuilt input bytes → (fault : Fault) → IsBuildCause input fault → (fault ≡ faults.OutOfMemory) ⊎ (fault ≡ faults.Linking linking.TooLarge)
 no_wide_build_cause input bytes law whole h fault (IsBuildCause.of_links cause) = inl (wide_no_cause input h.linking law whole h.ready fault cause)
 no_wide_build_cause input bytes law whole h fault (IsBuildCause.of_size is m ready large) = absurd (ready.plain h.ready.wide)
 no_wide_build_cause input bytes law whole h fault (IsBuildCause.of_wide_size is m ready) = inr is
 no_wide_build_cause input bytes law whole h fault (IsBuildCause.of_names is m ready two) =
-    absurd (no_two_names h.linking.names h.right.right.names h.right.right.names_are (subst (λ (x : WideLinking). HasTwoNames x.names) (one_wide_linking input m h.linking ready.links_input h.ready.links_input) two))
+    absurd (no_two_names h.linking.names h.linking.main.imports h.right.right.names h.right.right.names_are (subst (λ (x : WideLinking). HasTwoNames x.names x.main.imports) (one_wide_linking input m h.linking ready.links_input h.ready.links_input) two))

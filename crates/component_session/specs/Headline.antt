@@ -22,7 +22,7 @@ use Rattle.component_audit.specs.declared.verdict.Verdict.{Verdict}
 use Rattle.component_audit.specs.declared.verdict.Verdict.TheVariants.{Yes, Finding}
 use Rattle.component_audit.specs.Judged.{IsFinding}
 use Rattle.component_session.specs.Input.{Input, IsLinkingOf}
-use Rattle.component_encoding.specs.Component.{IsEncoding}
+use Rattle.linked_components.specs.Build.{IsEncoding}
 use Rattle.link_table.specs.Linking.{Linking as WideLinking}
 use Rattle.link_table.specs.Lines.{AreLines}
 use Rattle.component_session.specs.Refusals.{IsReady, IsWideReady}

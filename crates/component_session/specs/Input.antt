@@ -5,7 +5,7 @@ use Rattle.wasm_format.specs.Grammar.{IsModule}
 use Rattle.wit_component.specs.Linking.{Linking, main_of}
 use Rattle.link_lines.specs.declared.encoding.StringEncoding.{StringEncoding}
 use Rattle.link_table.specs.Linking.{Linking as WideLinking}
-use Rattle.linked_worlds.specs.Linked.{AreNamesOf}
+use Rattle.linked_components.specs.Build.{AreNamesOf}
 use Rattle.plain_worlds.specs.World.{WorldMeaning, plain_world}
 use Rattle.wit_resolution.specs.Pushes.{Resolved, nothing_resolved}
 use Rattle.wit_types.specs.declared.world.World.{World}

@@ -10,7 +10,6 @@ use Rattle.wit_component.specs.declared.fault.Fault.TheVariants as linking
 use Rattle.component_session.specs.declared.fault.Fault.{Fault}
 use Rattle.component_session.specs.declared.fault.Fault.TheVariants as faults
 use Rattle.component_session.specs.Faults.{of_module}
-use Rattle.interface_names.specs.Names.{HasTwoNames}
 use Rattle.wit_component.specs.Linking.{Linking}
 use Rattle.wit_component.specs.Cause.{IsStillToCome, IsLinkCause, IsLinkable, IsTooLarge}
 use Rattle.core_links.specs.declared.fault.LinkFault.{LinkFault as CoreFault}
@@ -19,6 +18,7 @@ use Rattle.link_table.specs.declared.fault.TableFault.TheVariants as tables
 use Rattle.link_table.specs.Linking.{Linking as WideLinking}
 use Rattle.link_table.specs.Table.{Table, IsTable}
 use Rattle.link_table.specs.Cause.{IsTableCause}
+use Rattle.linked_components.specs.Build.{HasTwoNames}
 use Rattle.linked_components.specs.Tracks.{HasOneTrack}
 use Rattle.component_audit.specs.Judged.{IsBeyond}
 use Rattle.wit_resolution.specs.Names.{known_of}
@@ -137,13 +137,13 @@ pub record IsWideReady (input : Input) (l : WideLinking) : Type 0 where
   pub table : Table
   pub is : IsTable l table
 
--- why a component isn't built: what links are refused for, or 32 bits can't say an index, a count or a size of it; or one interface would be
--- imported under two names, which is still to come
+-- why a component isn't built: what links are refused for, or 32 bits can't say an index, a count or a size of it; or functions of one interface
+-- would be imported under two names, which is still to come
 pub data IsBuildCause (input : Input) (fault : Fault) : Type 0 where
   of_links : IsCause input fault → IsBuildCause input fault
   of_size : fault ≡ faults.Linking linking.TooLarge → (l : Linking) → IsReady input l → IsTooLarge l → IsBuildCause input fault
   of_wide_size : fault ≡ faults.Linking linking.TooLarge → (l : WideLinking) → IsWideReady input l → IsBuildCause input fault
-  of_names : fault ≡ faults.NotYet → (l : WideLinking) → IsWideReady input l → HasTwoNames l.names → IsBuildCause input fault
+  of_names : fault ≡ faults.NotYet → (l : WideLinking) → IsWideReady input l → HasTwoNames l.names l.main.imports → IsBuildCause input fault
 
 -- why bytes aren't judged: the input isn't plain, or what links are refused for, or what the bytes have beyond
 pub data IsAuditCause (input : Input) (bytes : List ℕ) (fault : Fault) : Type 0 where

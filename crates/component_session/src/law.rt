@@ -2,15 +2,15 @@
 
 ghost use Rattle.std.specs.Prelude.{◌≡◌, ◌⊎◌, ℕ, List, MatchResult};
 ghost use Rattle.known_definitions.specs.Component.{IsComponent};
-ghost use Rattle.component_session.specs.Input.{Input, IsLinkingOf, IsWideLinkingOf};
+ghost use Rattle.component_session.specs.Input as inputs;
 ghost use Rattle.link_table.specs.Linking.{Linking as WideLinking};
 ghost use Rattle.wit_component.specs.Linking.{Linking};
 ghost use Rattle.wit_component.specs.Table.{IsLinked};
 ghost use Rattle.wit_component.specs.Component.{component_of};
 ghost use Rattle.wit_component.specs.declared.fault.Fault.TheVariants.{TooLarge};
 ghost use Rattle.wit_resolution.specs.Graph.{IsGraph};
-ghost use Rattle.component_session.specs.Headline.{IsRight, IsPlainlyBuilt, IsWidelyBuilt, IsJudged};
-ghost use Rattle.component_session.specs.Refusals.{IsCause, IsBuildCause, IsReady, IsWideReady, IsAuditCause};
+ghost use Rattle.component_session.specs.Headline as headline;
+ghost use Rattle.component_session.specs.Refusals as refusals;
 
 use crate::fault::Fault;
 use crate::linking::audit;
@@ -20,20 +20,20 @@ use linked_components::law_linked_has_no_cause;
 
 /// What is written for a linking of plain functions is right for its input, whatever bytes the grammar relates to it.
 pub fn law_written_is_right()
-    ensures { (input : Input) (l : Linking) (bytes : List ℕ) → IsLinkingOf input l → IsLinked l → IsComponent bytes (component_of l) → IsRight input bytes }
+    ensures { (input : inputs.Input) (l : Linking) (bytes : List ℕ) → inputs.IsLinkingOf input l → IsLinked l → IsComponent bytes (component_of l) → headline.IsRight input bytes }
 {}
 
 /// An input links one world and one module in one way; where nothing stands in the way of its plain functions, no cause of a refusal
 /// holds, want of memory aside.
 pub fn law_ready_has_no_cause()
-    ensures one { (input : Input) (l m : Linking) → IsLinkingOf input l → IsLinkingOf input m → l ≡ m }
-    ensures none { (input : Input) (l : Linking) → IsReady input l → (fault : Fault) → IsCause input fault → fault ≡ Fault.OutOfMemory }
+    ensures one { (input : inputs.Input) (l m : Linking) → inputs.IsLinkingOf input l → inputs.IsLinkingOf input m → l ≡ m }
+    ensures none { (input : inputs.Input) (l : Linking) → refusals.IsReady input l → (fault : Fault) → refusals.IsCause input fault → fault ≡ Fault.OutOfMemory }
 {}
 
 /// So it is where all that its world has is linked, of the packages of any session, which are a graph.
 pub fn law_wide_ready_has_no_cause()
-    ensures one { (input : Input) (l m : WideLinking) → IsWideLinkingOf input l → IsWideLinkingOf input m → l ≡ m }
-    ensures none { (input : Input) (l : WideLinking) → IsGraph input.resolved.graph → IsWideReady input l → (fault : Fault) → IsCause input fault → fault ≡ Fault.OutOfMemory }
+    ensures one { (input : inputs.Input) (l m : WideLinking) → inputs.IsWideLinkingOf input l → inputs.IsWideLinkingOf input m → l ≡ m }
+    ensures none { (input : inputs.Input) (l : WideLinking) → IsGraph input.resolved.graph → refusals.IsWideReady input l → (fault : Fault) → refusals.IsCause input fault → fault ≡ Fault.OutOfMemory }
 {
     law_linked_has_no_cause();
 }
@@ -41,8 +41,8 @@ pub fn law_wide_ready_has_no_cause()
 /// Where a component of plain functions is answered, no cause holds that one is refused for, want of memory aside; where one of all that a
 /// world has is, B25 aside, too.
 pub fn law_built_has_no_cause()
-    ensures plain { (input : Input) (bytes : List ℕ) → IsPlainlyBuilt input bytes → (fault : Fault) → IsBuildCause input fault → fault ≡ Fault.OutOfMemory }
-    ensures wide { (input : Input) (bytes : List ℕ) → IsGraph input.resolved.graph → IsWidelyBuilt input bytes → (fault : Fault) → IsBuildCause input fault → (fault ≡ Fault.OutOfMemory) ⊎ (fault ≡ Fault.Linking TooLarge) }
+    ensures plain { (input : inputs.Input) (bytes : List ℕ) → headline.IsPlainlyBuilt input bytes → (fault : Fault) → refusals.IsBuildCause input fault → fault ≡ Fault.OutOfMemory }
+    ensures wide { (input : inputs.Input) (bytes : List ℕ) → IsGraph input.resolved.graph → headline.IsWidelyBuilt input bytes → (fault : Fault) → refusals.IsBuildCause input fault → (fault ≡ Fault.OutOfMemory) ⊎ (fault ≡ Fault.Linking TooLarge) }
 {
     law_linked_has_no_cause();
 }
@@ -50,14 +50,14 @@ pub fn law_built_has_no_cause()
 /// The auditor is exact: of bytes that are right for an input in whose way nothing stands, every verdict is yes, and no
 /// cause of a refusal holds, want of memory aside.
 pub fn law_right_is_judged_yes()
-    ensures verdict { (input : Input) (bytes : List ℕ) → IsRight input bytes → (verdict : Verdict) → IsJudged input bytes verdict → verdict ≡ Verdict.Yes }
-    ensures cause { (input : Input) (bytes : List ℕ) (l : Linking) → IsReady input l → IsRight input bytes → (fault : Fault) → IsAuditCause input bytes fault → fault ≡ Fault.OutOfMemory }
+    ensures verdict { (input : inputs.Input) (bytes : List ℕ) → headline.IsRight input bytes → (verdict : Verdict) → headline.IsJudged input bytes verdict → verdict ≡ Verdict.Yes }
+    ensures cause { (input : inputs.Input) (bytes : List ℕ) (l : Linking) → refusals.IsReady input l → headline.IsRight input bytes → (fault : Fault) → refusals.IsAuditCause input bytes fault → fault ≡ Fault.OutOfMemory }
 {}
 
 /// The auditor says yes to what was built of plain functions, want of memory aside: `Session::build` answers bytes that meet the `requires`
 /// wherever the input links these alone.
 pub fn law_audit_of_what_was_built(session: &Session, bytes: &[u8]) -> Result<Verdict, Fault>
-    requires { IsPlainlyBuilt session.now bytes.now }
+    requires { headline.IsPlainlyBuilt session.now bytes.now }
     ensures { MatchResult result (λ v. v ≡ Verdict.Yes) (λ e. e ≡ Fault.OutOfMemory) }
 {
     audit(session, bytes)

@@ -1,9 +1,9 @@
 //! What a session links: its link table, its component, and the judgement of one.
 
 ghost use Rattle.std.specs.Prelude.{◌≡◌, ◌<◌, true, false, length, None, Some, Err, IfOk, IfErr, IfSome, OnOk, Any, map, slice_get};
-ghost use Rattle.component_session.specs.Headline.{IsLinkTable, IsBuilt, IsJudged};
-ghost use Rattle.component_session.specs.Input.{worlds_of, IsLinkingOf, IsWideLinkingOf, IsMainModule};
-ghost use Rattle.component_session.specs.Refusals.{AsksBeyond, IsAuditCause, IsBuildCause, IsCause, IsInputCause, IsPlain, IsWide, OptionsBeyond};
+ghost use Rattle.component_session.specs.Headline as headline;
+ghost use Rattle.component_session.specs.Input as inputs;
+ghost use Rattle.component_session.specs.Refusals as refusals;
 ghost use Rattle.link_lines.specs.Line.{link_value};
 ghost use Rattle.link_table.specs.Linking.{linking_value};
 ghost use Rattle.plain_imports.specs.Imports.{IsBeyond, names_of};
@@ -25,10 +25,9 @@ use linked_components::tracks_are_apart;
 use plain_imports::imports_fit;
 use plain_worlds::{World, plain_world};
 use std::alloc::AllocError;
-use text_graphs::law_text_graphs_are_named;
+use text_graphs::{law_same_names_are_equal, law_text_graphs_are_named};
 use wasm_format::{CoreModule, read_module};
 use wit_component::{Link, Linking, StringEncoding, encode, links_of};
-use wit_new_names::law_same_names_are_equal;
 use wit_types::WorldId;
 
 /// A main module, as its bytes are read.
@@ -43,8 +42,8 @@ impl<'a> Session<'a> {
     /// The chosen world, where options ask for nothing that is still to come.
     fn chosen_world(&self) -> Result<WorldId, Fault>
         ensures found { IfOk result (λ w. self.now.world ≡ Some w) }
-        ensures options { OnOk result (AsksBeyond self.now → ⊥) }
-        ensures cause { IfErr result (IsInputCause self.now) }
+        ensures options { OnOk result (refusals.AsksBeyond self.now → ⊥) }
+        ensures cause { IfErr result (refusals.IsInputCause self.now) }
         ensures first { self.now.main ≡ None → result ≡ Err Fault.NoModule }
     {
         let Some(_main) = self.main() else {
@@ -62,8 +61,8 @@ impl<'a> Session<'a> {
 
     /// The main module, as its bytes are read.
     fn main_module(&self) -> Result<MainModule<'a>, Fault>
-        ensures found { IfOk result (λ m. IsMainModule self.now m.bytes.now m.encoding (module_value m.core)) }
-        ensures cause { IfErr result (IsInputCause self.now) }
+        ensures found { IfOk result (λ m. inputs.IsMainModule self.now m.bytes.now m.encoding (module_value m.core)) }
+        ensures cause { IfErr result (refusals.IsInputCause self.now) }
     {
         let Some(handed) = self.main() else {
             return Err(Fault::NoModule);
@@ -85,9 +84,9 @@ impl<'a> Session<'a> {
         plain: &World,
         core: &CoreModule,
     ) -> Result<bool, AllocError>
-        requires { world < length (worlds_of self.now.resolved) }
-        ensures yes { IfOk result (λ b. b ≡ true → (w : WitWorld) → slice_get (worlds_of self.now.resolved) world ≡ Some w → Any (IsBeyond (known_of self.now.resolved.graph.tables) w (names_of (world_meaning plain.now).imports)) (module_value core.now).imports → ⊥) }
-        ensures no { IfOk result (λ b. b ≡ false → (w : WitWorld) × (slice_get (worlds_of self.now.resolved) world ≡ Some w) × Any (IsBeyond (known_of self.now.resolved.graph.tables) w (names_of (world_meaning plain.now).imports)) (module_value core.now).imports) }
+        requires { world < length (inputs.worlds_of self.now.resolved) }
+        ensures yes { IfOk result (λ b. b ≡ true → (w : WitWorld) → slice_get (inputs.worlds_of self.now.resolved) world ≡ Some w → Any (IsBeyond (known_of self.now.resolved.graph.tables) w (names_of (world_meaning plain.now).imports)) (module_value core.now).imports → ⊥) }
+        ensures no { IfOk result (λ b. b ≡ false → (w : WitWorld) × (slice_get (inputs.worlds_of self.now.resolved) world ≡ Some w) × Any (IsBeyond (known_of self.now.resolved.graph.tables) w (names_of (world_meaning plain.now).imports)) (module_value core.now).imports) }
     {
         let resolve = self.resolve();
         imports_fit(
@@ -108,11 +107,11 @@ impl<'a> Session<'a> {
         main: &MainModule<'a>,
     ) -> Result<Option<World>, AllocError>
         requires chosen { self.now.world ≡ Some world }
-        requires there { world < length (worlds_of self.now.resolved) }
-        requires main { IsMainModule self.now main.now.bytes.now main.now.encoding (module_value main.now.core) }
-        ensures plain { IfOk result (λ found. IfSome found (λ w. IsPlain self.now (world_meaning w))) }
+        requires there { world < length (inputs.worlds_of self.now.resolved) }
+        requires main { inputs.IsMainModule self.now main.now.bytes.now main.now.encoding (module_value main.now.core) }
+        ensures plain { IfOk result (λ found. IfSome found (λ w. refusals.IsPlain self.now (world_meaning w))) }
         ensures fits { IfOk result (λ found. IfSome found (λ w. world_fits (world_meaning w) ≡ true)) }
-        ensures wide { IfOk result (λ found. found ≡ None → IsWide self.now) }
+        ensures wide { IfOk result (λ found. found ≡ None → refusals.IsWide self.now) }
     {
         let Some(plain) = plain_world(self.allocator(), self.resolve().worlds().get(world))? else {
             return Ok(None);
@@ -125,9 +124,9 @@ impl<'a> Session<'a> {
 
     /// What is linked, where that is plain functions alone.
     fn plain_linking<'s>(&self, plain: &'s World, main: MainModule<'a>) -> Linking<'s, 'a>
-        requires plain { IsPlain self.now (world_meaning plain.now) }
-        requires main { IsMainModule self.now main.bytes.now main.encoding (module_value main.core) }
-        ensures { IsLinkingOf self.now (view.linking result) }
+        requires plain { refusals.IsPlain self.now (world_meaning plain.now) }
+        requires main { inputs.IsMainModule self.now main.bytes.now main.encoding (module_value main.core) }
+        ensures { inputs.IsLinkingOf self.now (view.linking result) }
     {
         Linking {
             world: plain,
@@ -144,9 +143,9 @@ impl<'a> Session<'a> {
         main: &'s MainModule<'a>,
     ) -> WideLinking<'s, 's, 'a>
         requires chosen { self.now.world ≡ Some world }
-        requires there { world < length (worlds_of self.now.resolved) }
-        requires main { IsMainModule self.now main.now.bytes.now main.now.encoding (module_value main.now.core) }
-        ensures { IsWideLinkingOf self.entry.now (linking_value result) }
+        requires there { world < length (inputs.worlds_of self.now.resolved) }
+        requires main { inputs.IsMainModule self.now main.now.bytes.now main.now.encoding (module_value main.now.core) }
+        ensures { inputs.IsWideLinkingOf self.entry.now (linking_value result) }
     {
         let resolve = self.resolve();
         let rejects_legacy = self.options().reject_legacy_names;
@@ -163,11 +162,11 @@ impl<'a> Session<'a> {
 
     /// Refuses options that are still to come where all that the chosen world has is linked: they speak of names of interfaces.
     fn check_options(&self, linking: &WideLinking<'_, '_, '_>) -> Result<(), Fault>
-        requires linking { IsWideLinkingOf self.now (linking_value linking.now) }
-        requires here { AsksBeyond self.now → ⊥ }
-        requires wide { IsWide self.now }
-        ensures ok { OnOk result (OptionsBeyond self.now → ⊥) }
-        ensures cause { IfErr result (IsCause self.now) }
+        requires linking { inputs.IsWideLinkingOf self.now (linking_value linking.now) }
+        requires here { refusals.AsksBeyond self.now → ⊥ }
+        requires wide { refusals.IsWide self.now }
+        ensures ok { OnOk result (refusals.OptionsBeyond self.now → ⊥) }
+        ensures cause { IfErr result (refusals.IsCause self.now) }
     {
         self.resolve().graph().law_is_graph();
         let options = self.options();
@@ -185,12 +184,12 @@ impl<'a> Session<'a> {
 
     /// The lines of plain functions.
     fn plain_links(&self, plain: &World, main: MainModule<'a>) -> Result<Vec<Link>, Fault>
-        requires here { AsksBeyond self.now → ⊥ }
-        requires plain { IsPlain self.now (world_meaning plain.now) }
+        requires here { refusals.AsksBeyond self.now → ⊥ }
+        requires plain { refusals.IsPlain self.now (world_meaning plain.now) }
         requires fits { world_fits (world_meaning plain.now) ≡ true }
-        requires main { IsMainModule self.now main.bytes.now main.encoding (module_value main.core) }
-        ensures links { IfOk result (λ v. IsLinkTable self.now (map link_value v.items)) }
-        ensures cause { IfErr result (IsCause self.now) }
+        requires main { inputs.IsMainModule self.now main.bytes.now main.encoding (module_value main.core) }
+        ensures links { IfOk result (λ v. headline.IsLinkTable self.now (map link_value v.items)) }
+        ensures cause { IfErr result (refusals.IsCause self.now) }
     {
         let linking = self.plain_linking(plain, main);
         let links = links_of(self.allocator(), &linking)?;
@@ -199,13 +198,13 @@ impl<'a> Session<'a> {
 
     /// The lines of all that the chosen world has.
     fn wide_links(&self, world: WorldId, main: &MainModule<'a>) -> Result<Vec<Link>, Fault>
-        requires here { AsksBeyond self.now → ⊥ }
-        requires wide { IsWide self.now }
+        requires here { refusals.AsksBeyond self.now → ⊥ }
+        requires wide { refusals.IsWide self.now }
         requires chosen { self.now.world ≡ Some world }
-        requires there { world < length (worlds_of self.now.resolved) }
-        requires main { IsMainModule self.now main.now.bytes.now main.now.encoding (module_value main.now.core) }
-        ensures links { IfOk result (λ v. IsLinkTable self.now (map link_value v.items)) }
-        ensures cause { IfErr result (IsCause self.now) }
+        requires there { world < length (inputs.worlds_of self.now.resolved) }
+        requires main { inputs.IsMainModule self.now main.now.bytes.now main.now.encoding (module_value main.now.core) }
+        ensures links { IfOk result (λ v. headline.IsLinkTable self.now (map link_value v.items)) }
+        ensures cause { IfErr result (refusals.IsCause self.now) }
     {
         self.resolve().graph().law_is_graph();
         let linking = self.wide_linking(world, main);
@@ -219,8 +218,8 @@ impl<'a> Session<'a> {
     ///
     /// Answers B1 before any other cause, X1, B2, and B7 to B17.
     pub fn links(&self) -> Result<Vec<Link>, Fault>
-        ensures links { IfOk result (λ v. IsLinkTable self.now (map link_value v.items)) }
-        ensures cause { IfErr result (IsCause self.now) }
+        ensures links { IfOk result (λ v. headline.IsLinkTable self.now (map link_value v.items)) }
+        ensures cause { IfErr result (refusals.IsCause self.now) }
         ensures first { self.now.main ≡ None → result ≡ Err Fault.NoModule }
     {
         self.law_chosen_is_there();
@@ -234,12 +233,12 @@ impl<'a> Session<'a> {
 
     /// The bytes of the component of plain functions.
     fn plain_build(&self, plain: &World, main: MainModule<'a>) -> Result<Vec<u8>, Fault>
-        requires here { AsksBeyond self.now → ⊥ }
-        requires plain { IsPlain self.now (world_meaning plain.now) }
+        requires here { refusals.AsksBeyond self.now → ⊥ }
+        requires plain { refusals.IsPlain self.now (world_meaning plain.now) }
         requires fits { world_fits (world_meaning plain.now) ≡ true }
-        requires main { IsMainModule self.now main.bytes.now main.encoding (module_value main.core) }
-        ensures right { IfOk result (λ v. IsBuilt self.now v.items) }
-        ensures cause { IfErr result (IsBuildCause self.now) }
+        requires main { inputs.IsMainModule self.now main.bytes.now main.encoding (module_value main.core) }
+        ensures right { IfOk result (λ v. headline.IsBuilt self.now v.items) }
+        ensures cause { IfErr result (refusals.IsBuildCause self.now) }
     {
         let linking = self.plain_linking(plain, main);
         let bytes = encode(self.allocator(), &linking)?;
@@ -248,13 +247,13 @@ impl<'a> Session<'a> {
 
     /// The bytes of the component of all that the chosen world has.
     fn wide_build(&self, world: WorldId, main: &MainModule<'a>) -> Result<Vec<u8>, Fault>
-        requires here { AsksBeyond self.now → ⊥ }
-        requires wide { IsWide self.now }
+        requires here { refusals.AsksBeyond self.now → ⊥ }
+        requires wide { refusals.IsWide self.now }
         requires chosen { self.now.world ≡ Some world }
-        requires there { world < length (worlds_of self.now.resolved) }
-        requires main { IsMainModule self.now main.now.bytes.now main.now.encoding (module_value main.now.core) }
-        ensures right { IfOk result (λ v. IsBuilt self.now v.items) }
-        ensures cause { IfErr result (IsBuildCause self.now) }
+        requires there { world < length (inputs.worlds_of self.now.resolved) }
+        requires main { inputs.IsMainModule self.now main.now.bytes.now main.now.encoding (module_value main.now.core) }
+        ensures right { IfOk result (λ v. headline.IsBuilt self.now v.items) }
+        ensures cause { IfErr result (refusals.IsBuildCause self.now) }
     {
         self.law_packages_come_of_texts();
         law_same_names_are_equal();
@@ -269,8 +268,8 @@ impl<'a> Session<'a> {
 
     /// The bytes of the component, before anything looks at them.
     fn built(&self) -> Result<Vec<u8>, Fault>
-        ensures right { IfOk result (λ v. IsBuilt self.now v.items) }
-        ensures cause { IfErr result (IsBuildCause self.now) }
+        ensures right { IfOk result (λ v. headline.IsBuilt self.now v.items) }
+        ensures cause { IfErr result (refusals.IsBuildCause self.now) }
         ensures first { self.now.main ≡ None → result ≡ Err Fault.NoModule }
     {
         self.law_chosen_is_there();
@@ -286,8 +285,8 @@ impl<'a> Session<'a> {
     ///
     /// Answers B1 before any other cause, X1, B2, B7 to B17, and B25 where none of the others holds.
     pub fn build(&self) -> Result<Vec<u8>, Fault>
-        ensures right { IfOk result (λ v. IsBuilt self.now v.items) }
-        ensures cause { IfErr result (IsBuildCause self.now) }
+        ensures right { IfOk result (λ v. headline.IsBuilt self.now v.items) }
+        ensures cause { IfErr result (refusals.IsBuildCause self.now) }
         ensures first { self.now.main ≡ None → result ≡ Err Fault.NoModule }
     {
         let bytes = self.built()?;
@@ -314,12 +313,12 @@ impl<'a> Session<'a> {
         main: MainModule<'a>,
         bytes: &[u8],
     ) -> Result<Verdict, Fault>
-        requires here { AsksBeyond self.now → ⊥ }
-        requires plain { IsPlain self.now (world_meaning plain.now) }
+        requires here { refusals.AsksBeyond self.now → ⊥ }
+        requires plain { refusals.IsPlain self.now (world_meaning plain.now) }
         requires fits { world_fits (world_meaning plain.now) ≡ true }
-        requires main { IsMainModule self.now main.bytes.now main.encoding (module_value main.core) }
-        ensures verdict { IfOk result (IsJudged self.now bytes.now) }
-        ensures cause { IfErr result (IsAuditCause self.now bytes.now) }
+        requires main { inputs.IsMainModule self.now main.bytes.now main.encoding (module_value main.core) }
+        ensures verdict { IfOk result (headline.IsJudged self.now bytes.now) }
+        ensures cause { IfErr result (refusals.IsAuditCause self.now bytes.now) }
     {
         let linking = self.plain_linking(plain, main);
         let verdict = judge(self.allocator(), &linking, bytes)?;
@@ -328,8 +327,8 @@ impl<'a> Session<'a> {
 
     /// Judges bytes against the input.
     pub(crate) fn audit(&self, bytes: &[u8]) -> Result<Verdict, Fault>
-        ensures verdict { IfOk result (IsJudged self.now bytes.now) }
-        ensures cause { IfErr result (IsAuditCause self.now bytes.now) }
+        ensures verdict { IfOk result (headline.IsJudged self.now bytes.now) }
+        ensures cause { IfErr result (refusals.IsAuditCause self.now bytes.now) }
         ensures first { self.now.main ≡ None → result ≡ Err Fault.NoModule }
     {
         self.law_chosen_is_there();
@@ -350,8 +349,8 @@ impl<'a> Session<'a> {
 /// Answers X1 where the input links more than plain functions, where the bytes have a definition that isn't judged yet, or a core module that
 /// wasn't handed in, and refuses as `Session::links` does.
 pub fn audit(session: &Session, bytes: &[u8]) -> Result<Verdict, Fault>
-    ensures verdict { IfOk result (IsJudged session.now bytes.now) }
-    ensures cause { IfErr result (IsAuditCause session.now bytes.now) }
+    ensures verdict { IfOk result (headline.IsJudged session.now bytes.now) }
+    ensures cause { IfErr result (refusals.IsAuditCause session.now bytes.now) }
     ensures first { session.now.main ≡ None → result ≡ Err Fault.NoModule }
 {
     session.audit(bytes)

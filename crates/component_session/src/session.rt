@@ -10,7 +10,7 @@ ghost use Rattle.wasm_format.specs.Module.{ModuleValue};
 ghost use Rattle.wit_features.specs.Features.{with_name};
 ghost use Rattle.wit_resolution.specs.GroupView.{texts};
 ghost use Rattle.wit_resolution.specs.Errors.{of_selection};
-ghost use Rattle.wit_resolution.specs.Pushes.{AreTextsPushed, AreTextsError, AreTextsRefused};
+ghost use Rattle.wit_resolution.specs.Pushes as pushes;
 ghost use Rattle.wit_order.specs.Order.{Has};
 ghost use Rattle.wit_resolution.specs.Groups.{UnresolvedPackageGroup};
 ghost use Rattle.wit_resolution.specs.Texts.{files_of, IsGroupOf};
@@ -172,9 +172,9 @@ impl<'a> Session<'a> {
         main: &[(&str, &str)],
         deps: &[(&str, &str)],
     ) -> Result<PackageId, ResolveError>
-        ensures ok { IfOk result (AreTextsPushed ⟦<PackageName as PartialEq>⟧.eq self.old.resolved (files_of (texts main.now) (texts deps.now)) self.new.resolved) }
-        ensures cause { IfErr result (AreTextsError ⟦<PackageName as PartialEq>⟧.eq self.old.resolved (files_of (texts main.now) (texts deps.now))) }
-        ensures err { OnErr result (AreTextsRefused ⟦<PackageName as PartialEq>⟧.eq self.old.resolved (files_of (texts main.now) (texts deps.now)) self.new.resolved) }
+        ensures ok { IfOk result (pushes.AreTextsPushed ⟦<PackageName as PartialEq>⟧.eq self.old.resolved (files_of (texts main.now) (texts deps.now)) self.new.resolved) }
+        ensures cause { IfErr result (pushes.AreTextsError ⟦<PackageName as PartialEq>⟧.eq self.old.resolved (files_of (texts main.now) (texts deps.now))) }
+        ensures err { OnErr result (pushes.AreTextsRefused ⟦<PackageName as PartialEq>⟧.eq self.old.resolved (files_of (texts main.now) (texts deps.now)) self.new.resolved) }
         ensures rest { self.new ≡ record self.old { resolved = self.new.resolved } }
     {
         self.resolve.push_texts(main, deps)
@@ -182,9 +182,9 @@ impl<'a> Session<'a> {
 
     /// Adds the packages of a text, as `push_texts` of this text alone.
     pub fn push_source(&mut self, path: &str, contents: &str) -> Result<PackageId, ResolveError>
-        ensures ok { IfOk result (AreTextsPushed ⟦<PackageName as PartialEq>⟧.eq self.old.resolved (files_of (record { path = path.now; contents = contents.now } ∷ []) []) self.new.resolved) }
-        ensures cause { IfErr result (AreTextsError ⟦<PackageName as PartialEq>⟧.eq self.old.resolved (files_of (record { path = path.now; contents = contents.now } ∷ []) [])) }
-        ensures err { OnErr result (AreTextsRefused ⟦<PackageName as PartialEq>⟧.eq self.old.resolved (files_of (record { path = path.now; contents = contents.now } ∷ []) []) self.new.resolved) }
+        ensures ok { IfOk result (pushes.AreTextsPushed ⟦<PackageName as PartialEq>⟧.eq self.old.resolved (files_of (record { path = path.now; contents = contents.now } ∷ []) []) self.new.resolved) }
+        ensures cause { IfErr result (pushes.AreTextsError ⟦<PackageName as PartialEq>⟧.eq self.old.resolved (files_of (record { path = path.now; contents = contents.now } ∷ []) [])) }
+        ensures err { OnErr result (pushes.AreTextsRefused ⟦<PackageName as PartialEq>⟧.eq self.old.resolved (files_of (record { path = path.now; contents = contents.now } ∷ []) []) self.new.resolved) }
         ensures rest { self.new ≡ record self.old { resolved = self.new.resolved } }
     {
         self.push_texts([(path, contents)].as_slice(), [].as_slice())
@@ -198,9 +198,9 @@ impl<'a> Session<'a> {
     ) -> Result<PackageId, ResolveError>
         requires main { IsGroupOf main.source_map main }
         requires deps { (g : UnresolvedPackageGroup) → Has deps.items g → IsGroupOf g.source_map g }
-        ensures ok { IfOk result (AreTextsPushed ⟦<PackageName as PartialEq>⟧.eq self.old.resolved (files_of_groups (main ∷ deps.items)) self.new.resolved) }
-        ensures cause { IfErr result (AreTextsError ⟦<PackageName as PartialEq>⟧.eq self.old.resolved (files_of_groups (main ∷ deps.items))) }
-        ensures err { OnErr result (AreTextsRefused ⟦<PackageName as PartialEq>⟧.eq self.old.resolved (files_of_groups (main ∷ deps.items)) self.new.resolved) }
+        ensures ok { IfOk result (pushes.AreTextsPushed ⟦<PackageName as PartialEq>⟧.eq self.old.resolved (files_of_groups (main ∷ deps.items)) self.new.resolved) }
+        ensures cause { IfErr result (pushes.AreTextsError ⟦<PackageName as PartialEq>⟧.eq self.old.resolved (files_of_groups (main ∷ deps.items))) }
+        ensures err { OnErr result (pushes.AreTextsRefused ⟦<PackageName as PartialEq>⟧.eq self.old.resolved (files_of_groups (main ∷ deps.items)) self.new.resolved) }
         ensures rest { self.new ≡ record self.old { resolved = self.new.resolved } }
     {
         law_parsed_packages_are_well_formed();
@@ -210,9 +210,9 @@ impl<'a> Session<'a> {
     /// Adds the packages of a group that was read from its texts, as `push_groups` does without others.
     pub fn push_group(&mut self, group: UnresolvedPackageGroup) -> Result<PackageId, ResolveError>
         requires { IsGroupOf group.source_map group }
-        ensures ok { IfOk result (AreTextsPushed ⟦<PackageName as PartialEq>⟧.eq self.old.resolved (group.source_map ∷ []) self.new.resolved) }
-        ensures cause { IfErr result (AreTextsError ⟦<PackageName as PartialEq>⟧.eq self.old.resolved (group.source_map ∷ [])) }
-        ensures err { OnErr result (AreTextsRefused ⟦<PackageName as PartialEq>⟧.eq self.old.resolved (group.source_map ∷ []) self.new.resolved) }
+        ensures ok { IfOk result (pushes.AreTextsPushed ⟦<PackageName as PartialEq>⟧.eq self.old.resolved (group.source_map ∷ []) self.new.resolved) }
+        ensures cause { IfErr result (pushes.AreTextsError ⟦<PackageName as PartialEq>⟧.eq self.old.resolved (group.source_map ∷ [])) }
+        ensures err { OnErr result (pushes.AreTextsRefused ⟦<PackageName as PartialEq>⟧.eq self.old.resolved (group.source_map ∷ []) self.new.resolved) }
         ensures rest { self.new ≡ record self.old { resolved = self.new.resolved } }
     {
         self.push_groups(group, Vec::new(self.alloc))

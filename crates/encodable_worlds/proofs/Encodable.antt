@@ -20,7 +20,7 @@ use Rattle.component_imports.specs.Order.{EarlierTypesAreApart}
 use Rattle.component_imports.specs.Ready.{IsInterfaceAsked, AreWritable}
 use Rattle.link_table.specs.Linking.{Linking, types_of, exported_functions}
 use Rattle.link_table.specs.Table.{Table, IsTable}
-use Rattle.right_components.specs.Outside.{AreInterfaceNames}
+use Rattle.right_components.specs.Outside.{AreKeyTexts}
 use Rattle.linked_imports.specs.Imports.{AreNeeded, own_types, AreListed, AreNamed, IsImportable}
 use Rattle.wit_reach.specs.Holding.{AreTheirs, AreListed as AreTypesOfInterfacesListed, TypesUseEarlier}
 use Rattle.wit_graph.specs.Graph.{items_of, AreWhole, TypesOfItemsUseEarlier}
@@ -51,7 +51,7 @@ same_ends uses xs ys ids h = record {
 
 -- ---- all of it
 
-module _ (t : Tables) (world : ℕ) (l : Linking) (names : InterfaceNames) (whole : AreWhole t) (named : AreItemsNamed t) (of : AreNamesOf t world l.names) (called : AreInterfaceNames l.names names) (so_many : length names ≡ length l.names.known.interfaces) where
+module _ (t : Tables) (world : ℕ) (l : Linking) (names : InterfaceNames) (whole : AreWhole t) (named : AreItemsNamed t) (of : AreNamesOf t world l.names) (called : AreKeyTexts l.names names) (so_many : length names ≡ length l.names.known.interfaces) where
   -- in either order
   own_ids : (own : List Function) → ids_of (own_and_exported l.names own) ≡ own_types l own
   own_ids own = flat_map-append function_ids own (exported_functions l.names.world)
@@ -62,7 +62,7 @@ module _ (t : Tables) (world : ℕ) (l : Linking) (names : InterfaceNames) (whol
       (subst (AreOwnersThere (length t.interfaces.all)) (sym of.types_are) whole.whole.sound.owners)
 
   empty : (r : Root) → interface_names r ≡ names → root_names r ≡ [] → IsEmptyRoot l.names r
-  empty r same none = record { named = subst (AreInterfaceNames l.names) (sym same) called; so_many = ap length same ∙ so_many; empty = none }
+  empty r same none = record { named = subst (AreKeyTexts l.names) (sym same) called; so_many = ap length same ∙ so_many; empty = none }
 
   items_named : WorldsHaveTextsApart → AreNamed l.names
   items_named texts = record {

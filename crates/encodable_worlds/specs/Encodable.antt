@@ -6,7 +6,7 @@ use Rattle.type_sinks.specs.Root.{InterfaceNames}
 use Rattle.component_imports.specs.Interfaces.{EarlierAreApart}
 use Rattle.link_table.specs.Linking.{Linking, types_of, AreFunctionsThere}
 use Rattle.link_table.specs.Table.{Table, IsTable}
-use Rattle.right_components.specs.Outside.{AreInterfaceNames}
+use Rattle.right_components.specs.Outside.{AreKeyTexts}
 use Rattle.linked_imports.specs.Imports.{IsImportable}
 use Rattle.component_encoding.specs.Component.{AreNeededListed}
 use Rattle.wit_graph.specs.Graph.{AreWhole}
@@ -26,5 +26,5 @@ pub record IsEncodable (l : Linking) (world : ℕ) (names : InterfaceNames) : Ty
 -- so is the world of each linking with names of the graph
 abbrev pub WorldsAreEncodable : Type 0
 WorldsAreEncodable =
-    (t : Tables) (world : ℕ) (l : Linking) (names : InterfaceNames) → AreWhole t → AreItemsNamed t → AreNamesOf t world l.names → AreInterfaceNames l.names names → length names ≡ length l.names.known.interfaces
+    (t : Tables) (world : ℕ) (l : Linking) (names : InterfaceNames) → AreWhole t → AreItemsNamed t → AreNamesOf t world l.names → AreKeyTexts l.names names → length names ≡ length l.names.known.interfaces
     → IsEncodable l world names

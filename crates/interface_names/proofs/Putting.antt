@@ -41,7 +41,7 @@ module _ (slots : Slots) (place : ℕ) (here : Option (String Global)) (text : S
 
       by : (r : Bool) → bytes_eq a b ≡ r → Puts (texts_of slots) place (string_bytes text) alone (texts_of slots)
       by true e = again (there ∙ ap (λ (t : List ℕ). Some t) (sym left ∙ (bytes_eq-Decides a b).0 e ∙ right)) (answer ∙ e) refl
-      by false e = another (string_bytes other) there (λ same. let yes_it_is = (bytes_eq-Decides a b).1 (left ∙ same ∙ sym right) in let differ : false ≡ true = sym e ∙ yes_it_is in absurd cc) (answer ∙ e)
+      by false e = another (string_bytes other) there (λ same. let yes_it_is = (bytes_eq-Decides a b).1 (left ∙ same ∙ sym right) in let differ : false ≡ true = sym e ∙ yes_it_is in absurd cc) (answer ∙ e) refl
 
 -- ---- names of texts
 

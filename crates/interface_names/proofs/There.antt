@@ -69,8 +69,7 @@ imports_are_there law t i n whole are = record {
 }
 
 pub two_names_not_listed : TwoNamesAreNotListed
-two_names_not_listed n names two are =
+two_names_not_listed n is names two are =
     let one = two.under_one in
     let other = two.under_other in
-    two.apart
-    (sym (are one.key two.id one.stability one.span two.one one.has one.is) ∙ are other.key two.id other.stability other.span two.other other.has other.is)
+    two.apart (sym (are.needed one.key two.id one.function two.one one.is_key one.needed one.text_is) ∙ are.needed other.key two.id other.function two.other other.is_key other.needed other.text_is)

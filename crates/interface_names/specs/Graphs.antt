@@ -1,5 +1,6 @@
 -- Worlds of a graph, and lists of names by ids (WIT, Worlds, Item: `include`).
-use Rattle.std.specs.Prelude.{ℕ}
+use Rattle.std.specs.Prelude.{ℕ, List}
+use Rattle.wasm_types.specs.Entries.{ImportValue}
 use Rattle.core_links.specs.Names.{Names}
 use Rattle.type_sinks.specs.Root.{InterfaceNames}
 use Rattle.right_components.specs.Outside.{AreInterfaceNames}
@@ -12,6 +13,6 @@ use Rattle.interface_names.specs.Names.{AreImportsThere, HasTwoNames}
 abbrev pub ImportsAreThere : Type 0
 ImportsAreThere = (t : Tables) (i : ℕ) (n : Names) → AreWhole t → AreNamesOf t i n → AreImportsThere n
 
--- no list says two names of one interface
+-- no list says two names of one interface by which core imports name it
 abbrev pub TwoNamesAreNotListed : Type 0
-TwoNamesAreNotListed = (n : Names) (names : InterfaceNames) → HasTwoNames n → AreInterfaceNames n names → ⊥
+TwoNamesAreNotListed = (n : Names) (is : List ImportValue) (names : InterfaceNames) → HasTwoNames n is → AreInterfaceNames n is names → ⊥

@@ -1,15 +1,18 @@
--- Names under which a world imports interfaces, by the interfaces' ids (Component Model, Explainer, Import and Export Definitions; WIT, Item: `world`).
-use Rattle.std.specs.Prelude.{◌≡◌, ◌⊎◌, ℕ, ◌<◌, List, [], get_or, length}
+-- Names under which interfaces of a world are imported, by the interfaces' ids (Component Model, Explainer, Import and Export Definitions; WIT,
+-- Item: `world`).
+use Rattle.std.specs.Prelude.{◌≡◌, ◌⊎◌, ℕ, ◌<◌, List, [], get_or, length, Some}
+use Rattle.wasm_types.specs.Entries.{ImportValue}
 use Rattle.wit_order.specs.Order.{Has}
 use Rattle.wit_words.specs.declared.source_map.Span.{Span}
+use Rattle.wit_types.specs.declared.function.Function.{Function}
 use Rattle.wit_types.specs.declared.stability.Stability.{Stability}
 use Rattle.wit_types.specs.declared.world.WorldItem.TheVariants as item
 use Rattle.wit_types.specs.declared.world_key.WorldKey.{WorldKey}
 use Rattle.wit_names.specs.Names.{ArePackagesKnown, IsKeyThere}
-use Rattle.wit_core_items.specs.Places.{Entry}
 use Rattle.core_links.specs.Names.{Names}
+use Rattle.core_links.specs.Needed.{IsKeyOf, IsNeeded}
 use Rattle.type_sinks.specs.Root.{InterfaceNames}
-use Rattle.right_components.specs.Outside.{IsTextOf, AreInterfaceNames}
+use Rattle.right_components.specs.Outside.{IsTextOf, IsImportedUnder, AreInterfaceNames}
 
 -- ---- what the world imports is there
 
@@ -26,30 +29,28 @@ pub record AreImportsThere (n : Names) : Type 0 where
 
 -- ---- names
 
--- among these imports is the interface, under a key of that text
-pub record IsImportedUnder (n : Names) (es : List Entry) (id : ℕ) (text : List ℕ) : Type 0 where
+-- core imports name a function of the interface by a key of this text
+pub record IsNeededUnder (n : Names) (is : List ImportValue) (id : ℕ) (text : List ℕ) : Type 0 where
   pub key : WorldKey
-  pub stability : Stability
-  pub span : Span
-  pub has : Has es (key, item.Interface id stability span)
-  pub is : IsTextOf n key text
+  pub is_key : IsKeyOf n key id
+  pub function : Function
+  pub needed : IsNeeded n is (Some key) function
+  pub text_is : IsTextOf n key text
 
--- at the id of each interface stands the text of the keys under which the world imports it, and nothing at those that it doesn't import
-pub record AreNamesById (n : Names) (names : InterfaceNames) : Type 0 where
+-- at the id of each interface stands the text of a key under which the world imports it, that by which core imports name it where they do,
+-- and nothing at those that it doesn't import
+pub record AreNamesById (n : Names) (is : List ImportValue) (names : InterfaceNames) : Type 0 where
   pub so_many : length names ≡ length n.known.interfaces
-  pub are : AreInterfaceNames n names
-  pub only : (id : ℕ) → (get_or names id [] ≡ []) ⊎ IsImportedUnder n n.world.imports.entries id (get_or names id [])
+  pub are : AreInterfaceNames n is names
+  pub only : (id : ℕ) → (get_or names id [] ≡ []) ⊎ IsImportedUnder n id (get_or names id [])
 
 -- ---- what has no such names
 
--- among these imports is one interface under keys of two texts
-pub record IsImportedTwice (n : Names) (es : List Entry) : Type 0 where
+-- core imports name functions of one interface by keys of two texts
+pub record HasTwoNames (n : Names) (is : List ImportValue) : Type 0 where
   pub id : ℕ
   pub one : List ℕ
   pub other : List ℕ
-  pub under_one : IsImportedUnder n es id one
-  pub under_other : IsImportedUnder n es id other
+  pub under_one : IsNeededUnder n is id one
+  pub under_other : IsNeededUnder n is id other
   pub apart : one ≡ other → ⊥
-
-abbrev pub HasTwoNames : Names → Type 0
-HasTwoNames n = IsImportedTwice n n.world.imports.entries

@@ -12,7 +12,7 @@ pub fn law_imports_are_there()
     law_elaborated_worlds_are_there();
 }
 
-/// Where it answers none, no list by ids has the names under which the world imports its interfaces.
+/// Where it answers none, no list by ids has the names by which core imports name the world's interfaces.
 pub fn law_two_names_are_not_listed()
     ensures { TwoNamesAreNotListed }
 {}

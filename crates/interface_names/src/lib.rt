@@ -1,4 +1,4 @@
-//! The names under which a world imports its interfaces, by the interfaces' ids.
+//! The names under which interfaces of a world are imported, by the interfaces' ids.
 #![tactic(auto)]
 
 mod law;

@@ -1,13 +1,17 @@
 //! Names of interfaces by their ids.
 
-ghost use Rattle.std.specs.Prelude.{◌≡◌, ◌<◌, length, map, option_map, slice_get, string_bytes, IfOk, MatchOption, Some};
+ghost use Rattle.std.specs.Prelude.{◌≡◌, ◌<◌, length, map, option_map, slice_get, string_bytes, true, false, IfOk, OnOk, MatchOption, Some};
+ghost use Rattle.wasm_types.specs.Entries.{import_value};
 ghost use Rattle.wit_core_items.specs.Places.{Entry};
 ghost use Rattle.core_links.specs.Names.{names_in};
+ghost use Rattle.core_links.specs.View.{AreLinksOf};
 ghost use Rattle.interface_names.specs.Names as spec;
 ghost use Rattle.interface_names.specs.Found as found;
 
-use core_links::CoreNames;
+use core_links::{CoreNames, ImportLinks};
 use std::alloc::{AllocError, Global};
+use wasm_types::Import;
+use wit_core_items::ImportPlace;
 use wit_names::{Known, name_world_key};
 use wit_types::{WorldItem, WorldKey};
 
@@ -104,22 +108,87 @@ fn names_of(alloc: Global, texts: Vec<Option<String>>) -> Result<Vec<String>, Al
     Ok(names)
 }
 
-/// The text of the key under which a world imports each interface, by the interfaces' ids, and an empty one where it doesn't import it; none
-/// where it imports an interface under keys of two texts, which no such list says: so it can be where an `include` brings an interface that
-/// stands in a world under a name twice, and changes that name once (WIT, Item: `include`). Fails only for want of memory.
+/// Puts the text of the key of the interface of which a function stands at a place, if one does, at that interface's place; answers whether no
+/// other one stands there.
+fn put_place(
+    alloc: Global,
+    texts: &mut Vec<Option<String>>,
+    names: &CoreNames<'_>,
+    place: ImportPlace,
+) -> Result<bool, AllocError>
+    requires there { spec.AreImportsThere (names_in names.now) }
+    requires so_many { length texts.old.items ≡ length (names_in names.now).known.interfaces }
+    ensures { IfOk result (λ alone. found.PutsPlace (names_in names.now) (found.texts_of texts.old.items) place alone (found.texts_of texts.new.items)) }
+{
+    match place {
+        ImportPlace::InterfaceFunction { entry, .. } => put_import(alloc, texts, names, entry),
+        ImportPlace::OwnFunction(_)
+        | ImportPlace::OwnDrop(_)
+        | ImportPlace::InterfaceDrop { .. }
+        | ImportPlace::ExportedIntrinsic { .. } => Ok(true),
+    }
+}
+
+/// Puts the texts of the keys by which core imports name functions of interfaces at these interfaces' places; answers whether that is one of
+/// each.
+fn put_needed(
+    alloc: Global,
+    texts: &mut Vec<Option<String>>,
+    names: &CoreNames<'_>,
+    links: &ImportLinks,
+    imports: &[Import<'_>],
+) -> Result<bool, AllocError>
+    requires there { spec.AreImportsThere (names_in names.now) }
+    requires links { AreLinksOf (names_in names.now) (map import_value imports.now) links.now }
+    requires none { found.AreNone (found.texts_of texts.old.items) (length (names_in names.now).known.interfaces) }
+    ensures yes { IfOk result (λ one. one ≡ true → found.AreFound (names_in names.now) (map import_value imports.now) (found.texts_of texts.new.items)) }
+    ensures no { IfOk result (λ one. one ≡ false → spec.HasTwoNames (names_in names.now) (map import_value imports.now)) }
+{
+    // Each item has a key of its own.
+    let _count = names.world.imports.len();
+    for index in 0..imports.len() {
+        if !put_place(alloc, texts, names, links.place(index))? {
+            return Ok(false);
+        }
+    }
+    Ok(true)
+}
+
+/// Puts the text of a key at the place of each interface that a world imports and that has none.
+fn put_others(
+    alloc: Global,
+    texts: &mut Vec<Option<String>>,
+    names: &CoreNames<'_>,
+) -> Result<(), AllocError>
+    requires there { spec.AreImportsThere (names_in names.now) }
+    requires so_many { length texts.old.items ≡ length (names_in names.now).known.interfaces }
+    ensures { OnOk result (found.AreFilled (names_in names.now) (names_in names.now).world.imports.entries (found.texts_of texts.old.items) (found.texts_of texts.new.items)) }
+{
+    for entry in 0..names.world.imports.len() {
+        let _alone = put_import(alloc, texts, names, entry)?;
+    }
+    Ok(())
+}
+
+/// The text of a key under which a world imports each interface, by the interfaces' ids: of the key by which core imports name functions of it
+/// where they do, and else of the first; an empty one where the world doesn't import it. None where core imports name functions of one
+/// interface by keys of two texts, which no such list says: so it can be where an `include` brings an interface that stands in a world under
+/// a name twice, and changes that name once (WIT, Item: `include`). Fails only for want of memory.
 pub fn interface_names(
     alloc: Global,
     names: &CoreNames<'_>,
+    links: &ImportLinks,
+    imports: &[Import<'_>],
 ) -> Result<Option<Vec<String>>, AllocError>
-    requires { spec.AreImportsThere (names_in names.now) }
-    ensures { IfOk result (λ o. MatchOption o (spec.HasTwoNames (names_in names.now)) (λ v. spec.AreNamesById (names_in names.now) (map string_bytes v.items))) }
+    requires there { spec.AreImportsThere (names_in names.now) }
+    requires links { AreLinksOf (names_in names.now) (map import_value imports.now) links.now }
+    ensures { IfOk result (λ o. MatchOption o (spec.HasTwoNames (names_in names.now) (map import_value imports.now)) (λ v. spec.AreNamesById (names_in names.now) (map import_value imports.now) (map string_bytes v.items))) }
 {
     let mut texts = no_texts(alloc, names.tables.interfaces.len())?;
-    for entry in 0..names.world.imports.len() {
-        if !put_import(alloc, &mut texts, names, entry)? {
-            return Ok(None);
-        }
+    if !put_needed(alloc, &mut texts, names, links, imports)? {
+        return Ok(None);
     }
+    put_others(alloc, &mut texts, names)?;
     let found = names_of(alloc, texts)?;
     Ok(Some(found))
 }

@@ -11,12 +11,12 @@ use Rattle.link_table.specs.Linking.{Linking, exported_functions}
 use Rattle.link_table.specs.Table.{Table, IsTable}
 use Rattle.link_table.specs.declared.fault.TableFault.{TableFault}
 use Rattle.link_table.specs.declared.fault.TableFault.TheVariants.{NotYet, OutOfMemory}
-use Rattle.interface_names.specs.Names.{HasTwoNames}
+pub use Rattle.interface_names.specs.Names.{HasTwoNames}
 use Rattle.linked_imports.specs.Imports.{ArePartsApart}
-use Rattle.component_encoding.specs.Component.{IsEncoding}
+pub use Rattle.component_encoding.specs.Component.{IsEncoding}
 use Rattle.wit_graph.specs.Graph.{AreWhole}
 use Rattle.wit_graph.specs.declared.tables.Tables.{Tables}
-use Rattle.linked_worlds.specs.Linked.{AreNamesOf}
+pub use Rattle.linked_worlds.specs.Linked.{AreNamesOf}
 use Rattle.linked_worlds.specs.Named.{AreItemsNamed}
 use Rattle.linked_components.specs.declared.fault.ComponentFault.{ComponentFault}
 use Rattle.linked_components.specs.declared.fault.ComponentFault.TheVariants as faults
@@ -46,9 +46,9 @@ HasLines l lines = (t : Table) × IsTable l t × AreLines l t lines
 abbrev pub IsComponentOf : Linking → List ℕ → List ℕ → Type 0
 IsComponentOf l bytes encoded = (t : Table) × IsTable l t × IsEncoding l bytes t encoded
 
--- there is no link table; or the world imports one interface under two names, or 32 bits can't say an index, a count or a size
+-- there is no link table; or core imports name functions of one interface under two names, or 32 bits can't say an index, a count or a size
 abbrev pub IsComponentCause : Linking → ComponentFault → Type 0
-IsComponentCause l (faults.Table fault) = IsTableCause l fault ⊎ ((fault ≡ NotYet) × ((t : Table) × IsTable l t) × HasTwoNames l.names)
+IsComponentCause l (faults.Table fault) = IsTableCause l fault ⊎ ((fault ≡ NotYet) × ((t : Table) × IsTable l t) × HasTwoNames l.names l.main.imports)
 IsComponentCause l faults.TooLarge = (t : Table) × IsTable l t
 
 -- where a world of a graph has a link table with a module, no cause holds that one is refused for, want of memory aside

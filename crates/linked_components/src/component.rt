@@ -43,7 +43,7 @@ fn encoded(
 ) -> Result<Vec<u8>, ComponentFault>
     requires graph { spec.IsOfNamedGraph (linking_value linking.now) world }
     requires table { IsTableOf (linking_value linking.now) table.now }
-    requires names { AreNamesById (linking_value linking.now).names (map string_bytes names.now) }
+    requires names { AreNamesById (linking_value linking.now).names (linking_value linking.now).main.imports (map string_bytes names.now) }
     ensures right { IfOk result (λ v. spec.IsComponentOf (linking_value linking.now) bytes.now v.items) }
     ensures cause { IfErr result (spec.IsComponentCause (linking_value linking.now)) }
 {
@@ -54,8 +54,8 @@ fn encoded(
 }
 
 /// The component that joins the module of these bytes with a world of a graph (Component Model, Explainer, Component Definitions). Answers
-/// what `links` does; X1 too where the world imports one interface under two names; and B25 where 32 bits can't say an index, a count or
-/// a size.
+/// what `links` does; X1 too where core imports name functions of one interface under two names; and B25 where 32 bits can't say an index, a
+/// count or a size.
 pub fn build(
     alloc: Global,
     linking: &Linking<'_, '_, '_>,
@@ -69,7 +69,8 @@ pub fn build(
     law_functions_are_there();
     law_imports_are_there();
     let table = table_of(alloc, linking)?;
-    let Some(names) = interface_names(alloc, &linking.names)? else {
+    let imports = linking.main.imports.as_slice();
+    let Some(names) = interface_names(alloc, &linking.names, table.imports(), imports)? else {
         return Err(ComponentFault::Table(TableFault::NotYet));
     };
     encoded(alloc, linking, &table, world, names.as_slice(), bytes)

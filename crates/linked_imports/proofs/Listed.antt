@@ -50,7 +50,7 @@ use Rattle.core_links.specs.Needed.{own_functions, functions_of}
 use Rattle.link_table.specs.Linking.{Linking, types_of, exported_functions}
 use Rattle.link_table.proofs.Pairwise.{placed}
 use Rattle.right_components.specs.Needed.{IsFunctionNeeded, IsTypeNeeded}
-use Rattle.right_components.specs.Outside.{AreInterfaceNames, IsTextOf, IsFunction, IsType, IsOfInterface, its_function as function_inside, its_type as type_inside, IsListed, an_interface, its_function, its_type, AreTypesHeld}
+use Rattle.right_components.specs.Outside.{AreKeyTexts, IsFunction, IsType, IsOfInterface, its_function as function_inside, its_type as type_inside, IsListed, an_interface, its_function, its_type, AreTypesHeld}
 use Rattle.linked_imports.specs.Imports.{AreNeeded, own_types, AreListed, AreNamed, AreImportsListed}
 use Rattle.linked_imports.specs.Roots.{HasImports, HoldsImports, Keeps}
 use Rattle.linked_imports.specs.declared.imports.Imported.{Imported}
@@ -119,7 +119,7 @@ own_entry (e ∷ es) f h = elim (has_split (option_to_list (own_function e.1)) (
 
 -- the others are the types of functions that the world exports
 module _ (l : Linking) (world : ℕ) (r : Root) (instances : List (Option ℕ)) (first : ℕ) (own : List Function) (linked : List (List Function)) (has : HasImports r (types_of l) world instances first (ids_of (exported_functions l.names.world)) own linked)
-    (needed : AreNeeded l own linked) (all : AreListed l world own linked) (called : AreNamed l.names) (under : AreInterfaceNames l.names (interface_names r)) where
+    (needed : AreNeeded l own linked) (all : AreListed l world own linked) (called : AreNamed l.names) (under : AreKeyTexts l.names (interface_names r)) where
   abbrev names : InterfaceNames
   names = interface_names r
 
@@ -250,11 +250,11 @@ module _ (l : Linking) (world : ℕ) (r : Root) (instances : List (Option ℕ)) 
       let d = got l.names.known.interfaces i (omega (arith, lt, size)) in
       let key = all.interfaces i (asked_of i one.ids one.fs one.needed_there one.linked_there one.counts) in
       let text = called.keys key.0 i key.1 in
-      let is : name ≡ text.0 = under key.0 i key.1.0 key.1.1 text.0 key.1.2 text.1 in (
+      let its = under i text.0 (record { key = key.0; is_key = key.1; is = text.1 }) in (
         entry name,
         subst (λ (m : List ℕ). Has imports (entry m)) (sym same) made.has,
         sym (called_so ∙ ap (interface_name r) (one.is ∙ zero-add i)),
-        an_interface key.0 i key.1.0 key.1.1 d.0 h.items.items key.1.2 d.1 (interface_needed l own linked needed has.needed has.needed_are i one.ids one.fs one.needed_there one.linked_there one.counts) (subst (λ (t : List ℕ). IsTextOf l.names key.0 t) (sym is) text.1) refl (inside_listed i one.ids one.fs one.needed_there one.linked_there h d.0 d.1),
+        an_interface its.key i its.is_key.0 its.is_key.1 d.0 h.items.items its.is_key.2 d.1 (interface_needed l own linked needed has.needed has.needed_are i one.ids one.fs one.needed_there one.linked_there one.counts) its.is refl (inside_listed i one.ids one.fs one.needed_there one.linked_there h d.0 d.1),
       )
 
   -- a type of an interface that is needed is there, where its owner is
@@ -323,11 +323,11 @@ module _ (l : Linking) (world : ℕ) (r : Root) (instances : List (Option ℕ)) 
   }
 
 pub imports_listed : (l : Linking) (world : ℕ) (names : InterfaceNames) (i : Imported) (r : Root) (others : List ℕ) (own : List Function) (linked : List (List Function)) → HoldsImports i names (types_of l) world others own linked
-    → others ≡ ids_of (exported_functions l.names.world) → Keeps i.root r (types_of l) → AreNeeded l own linked → AreListed l world own linked → AreNamed l.names → AreInterfaceNames l.names names
+    → others ≡ ids_of (exported_functions l.names.world) → Keeps i.root r (types_of l) → AreNeeded l own linked → AreListed l world own linked → AreNamed l.names → AreKeyTexts l.names names
     → AreOwnersThere (length l.names.known.interfaces) (types_of l) → AreImportsListed l names (root_scope r)
 imports_listed l world names i r others own linked held are keeps needed all called under owners =
     let given = ids_of (exported_functions l.names.world) in
     let before = subst (λ (ids : List ℕ). HasImports i.root (types_of l) world i.instances.items i.first ids own linked) are held.has in
     let has = imports_keep i.root r (types_of l) world i.instances.items i.first given own linked keeps before in
     let same : interface_names r ≡ names = keeps.interfaces ∙ held.interfaces in
-    subst (λ (ns : InterfaceNames). AreImportsListed l ns (root_scope r)) same (all_listed l world r i.instances.items i.first own linked has needed all called (subst (AreInterfaceNames l.names) (sym same) under) owners)
+    subst (λ (ns : InterfaceNames). AreImportsListed l ns (root_scope r)) same (all_listed l world r i.instances.items i.first own linked has needed all called (subst (AreKeyTexts l.names) (sym same) under) owners)

@@ -5,6 +5,8 @@ use Rattle.std.specs.Prelude.{slice_get, string_bytes}
 use Rattle.wasm_types.specs.Entries.{ImportValue}
 use Rattle.wit_order.specs.Order.{Has}
 use Rattle.wit_types.specs.Package.{interface_text}
+use Rattle.wit_reach.proofs.Holding.{mapped_has}
+use Rattle.linked_types.proofs.Walks.{has_at}
 use Rattle.wit_types.specs.declared.function.Function.{Function}
 use Rattle.wit_types.specs.declared.interface.TypeDef.{TypeDef}
 use Rattle.wit_types.specs.declared.«package».Package.{Package}
@@ -70,8 +72,9 @@ key_text n i k f s =
 
 -- ---- functions that are lowered
 
-label_is : (n : Names) (names : InterfaceNames) (e : ImportEntry) (interface : Option ℕ) → AreInterfaceNames n names → StandsForFunction n e.import e.key e.function → IsInterfaceOf n e.key interface → IsImportOf n e (label_of names interface e.function)
-label_is n names e interface named stands is = by e.key interface refl stands is
+label_is : (n : Names) (is : List ImportValue) (names : InterfaceNames) (e : ImportEntry) (interface : Option ℕ) → AreInterfaceNames n is names → Has is e.import → StandsForFunction n e.import e.key e.function → IsInterfaceOf n e.key interface
+    → IsImportOf n e (label_of names interface e.function)
+label_is n is names e interface named among stands of = by e.key interface refl stands of
   where
     by : (k : Option WorldKey) (i : Option ℕ) → e.key ≡ k → StandsForFunction n e.import k e.function → IsInterfaceOf n k i → IsImportOf n e (label_of names i e.function)
     by None None at s h = its_own at refl
@@ -79,7 +82,7 @@ label_is n names e interface named stands is = by e.key interface refl stands is
     by (Some k) None at s h = absurd h
     by (Some k) (Some id) at s h =
         let t = key_text n e.import k e.function s in
-        let under : get_or names id [] ≡ t.0 = named k id h.0.0 h.0.1 t.0 h.0.2 t.1 in
+        let under : get_or names id [] ≡ t.0 = named.needed k id e.function t.0 h.0 (e.import, among, s) t.1 in
         of_interface k t.0 at t.1 (let of : List ℕ → Label = λ text. record { site = imported text; name = string_bytes e.function.name } in ap of under)
 
 is_imported : (r : Root) (types : List TypeDef) (label : Label) (i : ℕ) (t : BinaryTree) → RootIsGood r types → item_at (root_scope r).functions i ≡ a_function (from_import label) t → ComesFrom r label (a_function (from_import label) t)
@@ -93,15 +96,15 @@ is_imported r types label i t good is (of_instance k items at has) =
     let there = good.imports.instances k label.site items at in
     spec.of_instance (record { name = there.name; item = an_instance label.site items }) items there.has refl has
 
-module _ (l : Linking) (names : InterfaceNames) (r : Root) (same : interface_names r ≡ names) (good : RootIsGood r (types_of l)) (named : AreInterfaceNames l.names names) where
-  lowered_is : (e : ImportEntry) (i : ℕ) → IsImportEntry l e → IsIndexOfEntry l r e i → IsLowered l names (root_scope r) e i
-  lowered_is e i entry (interface, of, at) =
+module _ (l : Linking) (names : InterfaceNames) (r : Root) (same : interface_names r ≡ names) (good : RootIsGood r (types_of l)) (named : AreInterfaceNames l.names l.main.imports names) where
+  lowered_is : (e : ImportEntry) (i : ℕ) → Has l.main.imports e.import → IsImportEntry l e → IsIndexOfEntry l r e i → IsLowered l names (root_scope r) e i
+  lowered_is e i among entry (interface, of, at) =
       let Item_of : InterfaceNames → Item = λ ns. a_function (from_import (label_of ns interface e.function)) (written (root_label ns) at.tree) in
       let Imported : InterfaceNames → Type 0 = λ ns. HasImport (root_scope r) (label_of ns interface e.function) (Item_of ns) in
       let has : Imported (interface_names r) = is_imported r (types_of l) (label_of (interface_names r) interface e.function) i (written (root_label (interface_names r)) at.tree) good at.is at.from in
       record {
         label = label_of names interface e.function;
-        is_import = label_is l.names names e interface named entry.stands of;
+        is_import = label_is l.names l.main.imports names e interface named among entry.stands of;
         tree = at.tree;
         unfolds = at.unfolds;
         is = at.is ∙ ap Item_of same;
@@ -109,7 +112,7 @@ module _ (l : Linking) (names : InterfaceNames) (r : Root) (same : interface_nam
       }
 
   pub lowered_are : (t : Table) (is : List ℕ) → IsTable l t → Pairwise (IsIndexOfEntry l r) t.imports is → Pairwise (IsLowered l names (root_scope r)) t.imports is
-  lowered_are t is table all = record { so_many = all.so_many; each = λ k e i at there. lowered_is e i (each_at (IsImportEntry l) t.imports k e table.imports_are at) (all.each k e i at there) }
+  lowered_are t is table all = record { so_many = all.so_many; each = λ k e i at there. lowered_is e i (subst (λ (is : List ImportValue). Has is e.import) table.imports (mapped_has (λ (x : ImportEntry). x.import) t.imports e (has_at t.imports k e at))) (each_at (IsImportEntry l) t.imports k e table.imports_are at) (all.each k e i at there) }
 
 -- ---- types of functions that are lifted
 
@@ -138,7 +141,7 @@ typed_keeps old new types fs is h = record {
   good = h.good;
 }
 
-pub all_written : (l : Linking) (t : Table) (names : InterfaceNames) (old new : Root) (fs : List Function) (lowered lifted : List ℕ) → IsTable l t → AreInterfaceNames l.names names → interface_names old ≡ names → fs ≡ exported_functions l.names.world
+pub all_written : (l : Linking) (t : Table) (names : InterfaceNames) (old new : Root) (fs : List Function) (lowered lifted : List ℕ) → IsTable l t → AreInterfaceNames l.names l.main.imports names → interface_names old ≡ names → fs ≡ exported_functions l.names.world
     → Pairwise (IsIndexOfEntry l old) t.imports lowered → AreTypesWritten old new (types_of l) fs lifted → AreImportsWritten l t names (root_scope new) lowered lifted
 all_written l t names old new fs lowered lifted is named same exported all types =
     let keeps = typed_keeps old new (types_of l) fs lifted types in

@@ -297,7 +297,7 @@ pub fn write_imports<'e>(
     exported: &[&'e Function],
 ) -> Result<WrittenImports<'e>, Fault>
     requires table { IsTableOf (linking_value linking.now) table.now }
-    requires names { AreInterfaceNames (linking_value linking.now).names (map string_bytes names.now) }
+    requires names { AreInterfaceNames (linking_value linking.now).names (linking_value linking.now).main.imports (map string_bytes names.now) }
     requires exported { functions_of exported.now ≡ functions_exported (linking_value linking.now).names.world }
     requires backward { AreTypesBackward (types_of (linking_value linking.now)) }
     requires there { AreFunctionsThere (linking_value linking.now).names }

@@ -41,7 +41,8 @@ module _ (t : Tables) (i : ℕ) (n : Names) (r : Root) (imports : List ImportVal
     text_of j asked =
         let k = asked_are_imported t i n imports own linked whole named.taken are own_are linked_are j asked in
         let x = have_texts t i n whole are named k.0 (item.Interface j k.1.0 k.1.1) k.1.2 in
-        record { key = k.0; imported = k.1; text = x.0; has = x.1; is_name = root.named k.0 j k.1.0 k.1.1 x.0 k.1.2 x.1 }
+        let u = root.named j x.0 (record { key = k.0; is_key = k.1; is = x.1 }) in
+        record { key = u.key; imported = u.is_key; text = interface_name r j; has = u.is; is_name = refl }
 
     pub one_text : (j k : ℕ) → HasItsText j → HasItsText k → interface_name r k ≡ interface_name r j → j ≡ k
     one_text j k x y e =

@@ -9,7 +9,7 @@ use Rattle.link_table.specs.Linking.{exported_functions}
 use Rattle.linked_types.specs.Reached.{ids_of, MayBeLinked}
 use Rattle.type_sinks.specs.declared.root.Root.{Root}
 use Rattle.type_sinks.specs.Views.{root_names, interface_names}
-use Rattle.right_components.specs.Outside.{AreInterfaceNames}
+use Rattle.right_components.specs.Outside.{AreKeyTexts}
 use Rattle.component_imports.specs.Ready.{AreWritable}
 use Rattle.linked_interfaces.specs.Writable.{all_linked, AreImportable}
 use Rattle.wit_graph.specs.Graph.{AreWhole}
@@ -17,9 +17,9 @@ use Rattle.wit_graph.specs.declared.tables.Tables.{Tables}
 use Rattle.linked_worlds.specs.Linked.{AreNamesOf}
 use Rattle.linked_worlds.specs.Named.{AreItemsNamed}
 
--- a root with the names of all interfaces, under which nothing is imported yet
+-- a root with names of all interfaces, each the text of a key, under which nothing is imported yet
 pub record IsEmptyRoot (n : Names) (r : Root) : Type 0 where
-  pub named : AreInterfaceNames n (interface_names r)
+  pub named : AreKeyTexts n (interface_names r)
   pub so_many : length (interface_names r) ≡ length n.known.interfaces
   pub empty : root_names r ≡ []
 

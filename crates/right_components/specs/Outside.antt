@@ -3,6 +3,7 @@
 use Rattle.std.specs.Prelude.{◌≡◌, ℕ, List, [], get_or, slice_get, Some, String, string_bytes}
 use Rattle.std.specs.List.{AllByRecursion as Each}
 use Rattle.std.specs.declared.alloc.Global.{Global}
+use Rattle.wasm_types.specs.Entries.{ImportValue}
 use Rattle.wit_order.specs.Order.{Has}
 use Rattle.wit_types.specs.Package.{interface_text}
 use Rattle.wit_types.specs.declared.function.Function.{Function}
@@ -23,6 +24,7 @@ use Rattle.type_writing.specs.Writing.{written}
 use Rattle.type_sinks.specs.Root.{InterfaceNames, root_label}
 use Rattle.type_sinks.specs.Imports.{entries_of}
 use Rattle.core_links.specs.Names.{Names}
+use Rattle.core_links.specs.Needed.{IsKeyOf, IsNeeded}
 use Rattle.link_table.specs.Linking.{Linking, types_of}
 use Rattle.link_table.specs.Types.{HasTree}
 use Rattle.right_components.specs.Needed.{IsFunctionNeeded, IsOwnNeeded, IsTypeNeeded, IsInterfaceNeeded}
@@ -33,10 +35,20 @@ use Rattle.right_components.specs.Needed.{IsFunctionNeeded, IsOwnNeeded, IsTypeN
 abbrev pub IsTextOf : Names → WorldKey → List ℕ → Type 0
 IsTextOf n key text = IsKeyText interface_text n.known.packages n.known.interfaces key (Some text)
 
--- under the texts of their keys interfaces are imported
-abbrev pub AreInterfaceNames : Names → InterfaceNames → Type 0
-AreInterfaceNames n names = (key : WorldKey) (id : ℕ) (stability : Stability) (span : _) (text : List ℕ)
-    → Has n.world.imports.entries (key, item.Interface id stability span) → IsTextOf n key text → get_or names id [] ≡ text
+-- the world imports the interface with that id under a key of this text
+pub record IsImportedUnder (n : Names) (id : ℕ) (text : List ℕ) : Type 0 where
+  pub key : WorldKey
+  pub is_key : IsKeyOf n key id
+  pub is : IsTextOf n key text
+
+-- each interface that the world imports has the text of a key under which it does
+abbrev pub AreKeyTexts : Names → InterfaceNames → Type 0
+AreKeyTexts n names = (id : ℕ) (text : List ℕ) → IsImportedUnder n id text → IsImportedUnder n id (get_or names id [])
+
+-- under these texts interfaces are imported: each under that of one of its keys, and of the key by which core imports name functions of it
+pub record AreInterfaceNames (n : Names) (is : List ImportValue) (names : InterfaceNames) : Type 0 where
+  pub keys : AreKeyTexts n names
+  pub needed : (key : WorldKey) (id : ℕ) (f : Function) (text : List ℕ) → IsKeyOf n key id → IsNeeded n is (Some key) f → IsTextOf n key text → get_or names id [] ≡ text
 
 -- ---- trees
 

@@ -86,7 +86,7 @@ pub record LinksRight (l : Linking) (t : Table) (s : Spaces) : Type 0 where
 -- written out, since trees have their names.
 pub record IsRightFor (l : Linking) (bytes : List ℕ) (t : Table) (s : Spaces) : Type 0 where
   pub names : InterfaceNames
-  pub names_are : AreInterfaceNames l.names names
+  pub names_are : AreInterfaceNames l.names l.main.imports names
   pub imports : ImportsRight l names t s
   pub exports : ExportsRight l names s
   pub modules : ModulesRight bytes s

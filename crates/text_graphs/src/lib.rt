@@ -4,3 +4,4 @@
 mod law;
 
 pub use law::{law_text_graphs_are_named, law_text_names_tell_interfaces_apart};
+pub use wit_new_names::law_same_names_are_equal;

@@ -14,5 +14,5 @@ table_of-requires-clause-backward c = (c.law_functions_are_there.ensures c.requi
 pub table_of-requires-clause-there : goal.table_of-requires-clause-there
 table_of-requires-clause-there c = (c.law_functions_are_there.ensures c.requires.tables c.args.world (names_in c.args.linking.now.names) c.requires.whole c.requires.names_are).there
 
-pub interface_names-requires : goal.interface_names-requires
-interface_names-requires c = c.law_imports_are_there.ensures c.requires.tables c.args.world (names_in c.args.linking.now.names) c.requires.whole c.requires.names_are
+pub interface_names-requires-clause-there : goal.interface_names-requires-clause-there
+interface_names-requires-clause-there c = c.law_imports_are_there.ensures c.requires.tables c.args.world (names_in c.args.linking.now.names) c.requires.whole c.requires.names_are

@@ -98,7 +98,7 @@ returns-clause-listed c called all =
     let keeps = keeps_on imported.root c.indices.new.self.root written.root (types_of l) c.in_ok-lowered.ensures.keeps
     (typed_keeps c.indices.new.self.root written.root (types_of l) (functions_of c.args.exported.now) written.indices.items c.in_ok-written.ensures.ok) in
     subst (AreImportsListed l names) (sym (ap meaning c.into_entries.ensures))
-    (imports_listed l c.args.world names imported written.root c.as_slice.result.now own linked c.in_ok-imported.ensures.ok are keeps needed (all own linked needed) called c.requires.names c.requires.owners)
+    (imports_listed l c.args.world names imported written.root c.as_slice.result.now own linked c.in_ok-imported.ensures.ok are keeps needed (all own linked needed) called c.requires.names.keys c.requires.owners)
 
 pub returns-clause-placed : goal.returns-clause-placed
 returns-clause-placed c apart =

@@ -1,8 +1,7 @@
 use Rattle.std.proofs.Common.{sym, ap, subst, ◌∙◌}
 use Rattle.std.proofs.lemmas.Option.{same_Some}
 use Rattle.link_table.specs.Linking.{linking_value}
-use Rattle.linked_components.specs.Build.{IsComponentOf}
-use Rattle.linked_worlds.specs.Linked.{AreNamesOf}
+use Rattle.linked_components.specs.Build.{IsComponentOf, AreNamesOf}
 use Rattle.wit_component.proofs.Results.{moved_up}
 use Rattle.wit_types.specs.contracts.«package».PackageNamePartialEq.TheImpl.{eq-value as package_eq}
 use Rattle.component_session.specs.Refusals.{IsBuildCause}
