@@ -1,5 +1,5 @@
 -- Texts of keys, found core import by core import, and then import by import.
-use Rattle.std.proofs.Common.{◌≡◌, ℕ, zero, suc, ◌+◌, ◌<◌, ◌⊎◌, Bool, true, false, List, [], ◌∷◌, ◌++◌, length, get_or, set, take, drop, Option, Some, None, String, inl, inr, refl, sym, subst, ap, ◌∙◌}
+use Rattle.std.proofs.Common.{◌≡◌, ℕ, zero, suc, ◌+◌, ◌<◌, ◌⊎◌, Bool, true, false, List, [], ◌∷◌, ◌++◌, length, get_or, set, take, drop, Option, Some, None, inl, inr, refl, sym, subst, ap, ◌∙◌}
 use Rattle.std.proofs.lemmas.Bool.Decides.{eqb_tells}
 use Rattle.std.proofs.lemmas.Map.Entries.{lookup_from_place}
 use Rattle.std.proofs.lemmas.List.{get_or-set_same, get_or-set_other, length-map, length-set, take-append-drop, take_more}
@@ -8,7 +8,6 @@ use Rattle.std.proofs.Math.ListN.{get_or-map}
 use Rattle.std.specs.List.{IsDistinct}
 use Rattle.std.specs.Map.{keys_of}
 use Rattle.std.specs.Prelude.{slice_get, option_map}
-use Rattle.std.specs.declared.alloc.Global.{Global}
 use Rattle.wasm_types.specs.Entries.{ImportValue}
 use Rattle.wit_order.specs.Order.{Has}
 use Rattle.wit_words.specs.declared.source_map.Span.{Span}
@@ -34,7 +33,7 @@ use Rattle.wit_core_items.specs.declared.import_places.ImportPlace.{ImportPlace}
 use Rattle.wit_core_items.specs.declared.import_places.ImportPlace.TheVariants.{OwnFunction, InterfaceFunction, OwnDrop, InterfaceDrop, ExportedIntrinsic}
 use Rattle.core_links.specs.Names.{Names}
 use Rattle.core_links.specs.Imports.{StandsFor, StandsAt}
-use Rattle.core_links.specs.Needed.{IsKeyOf, IsNeeded}
+use Rattle.core_links.specs.Needed.{IsKeyOf}
 use Rattle.linked_types.proofs.Walks.{has_one_more, has_at}
 use Rattle.type_sinks.proofs.Names.{has_before, has_last}
 use Rattle.right_components.specs.Outside.{IsTextOf, IsImportedUnder}

@@ -1,10 +1,8 @@
-use Rattle.std.proofs.Common.{◌≡◌, length, map, sym, subst, ◌∙◌}
-use Rattle.std.proofs.lemmas.List.{length-map}
-use Rattle.std.specs.Prelude.{option_map, string_bytes}
+use Rattle.std.proofs.Common.{map, sym, subst}
 use Rattle.wasm_types.specs.Entries.{import_value}
 use Rattle.core_links.specs.Names.{names_in}
 use Rattle.interface_names.specs.Names.{AreNamesById}
-use Rattle.interface_names.specs.Found.{AreFound, AreNone, texts_of}
+use Rattle.interface_names.specs.Found.{AreNone, texts_of}
 use Rattle.interface_names.proofs.Finding.{all_found}
 use Rattle.interface_names.proofs.names.interface_names.Goals as goal
 

@@ -1,10 +1,10 @@
-use Rattle.std.proofs.Common.{◌≡◌, ◌<◌, length, map, take, sym, subst, ◌∙◌, arith}
-use Rattle.std.proofs.lemmas.List.{take_all, length-map}
+use Rattle.std.proofs.Common.{◌≡◌, length, map, sym, ◌∙◌, arith}
+use Rattle.std.proofs.lemmas.List.{length-map}
 use Rattle.std.specs.Prelude.{option_map, string_bytes}
 use Rattle.wasm_types.specs.Entries.{import_value}
 use Rattle.wit_reach.proofs.Holding.{got}
 use Rattle.core_links.specs.Names.{names_in}
-use Rattle.interface_names.specs.Found.{AreFound, texts_of}
+use Rattle.interface_names.specs.Found.{texts_of}
 use Rattle.interface_names.proofs.Finding.{none_found, next_found, next_twice}
 use Rattle.interface_names.proofs.names.put_needed.Goals as goal
 
