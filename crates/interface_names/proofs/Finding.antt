@@ -57,7 +57,7 @@ taken_more xs k x at = take_more xs k x (slice_get_within xs k x at) ∙ ap (λ 
 -- ---- what a core import stands for
 
 -- it is a function of the interface that stands there
-record IsOfInterface (n : Names) (entry : ℕ) (x : CoreImport) : Type 0 where
+record IsFunctionThere (n : Names) (entry : ℕ) (x : CoreImport) : Type 0 where
   own : WorldKey
   id : ℕ
   stability : Stability
@@ -66,14 +66,14 @@ record IsOfInterface (n : Names) (entry : ℕ) (x : CoreImport) : Type 0 where
   function : Function
   is : x ≡ CoreImport.func (Some own) function
 
-of_interface : (n : Names) (entry j : ℕ) (x : CoreImport) → interface_import n.known j (slice_get n.world.imports.entries entry) ≡ Some x → IsOfInterface n entry x
+of_interface : (n : Names) (entry j : ℕ) (x : CoreImport) → interface_import n.known j (slice_get n.world.imports.entries entry) ≡ Some x → IsFunctionThere n entry x
 of_interface n entry j x is = by (slice_get n.world.imports.entries entry) refl is
   where
-    found : (k : WorldKey) (id : ℕ) (s : Stability) (at : Span) → slice_get n.world.imports.entries entry ≡ Some (k, item.Interface id s at) → (o : Option Function) → import_of_function (Some k) o ≡ Some x → IsOfInterface n entry x
+    found : (k : WorldKey) (id : ℕ) (s : Stability) (at : Span) → slice_get n.world.imports.entries entry ≡ Some (k, item.Interface id s at) → (o : Option Function) → import_of_function (Some k) o ≡ Some x → IsFunctionThere n entry x
     found k id s at there None e = absurd cc
     found k id s at there (Some f) e = record { own = k; id = id; stability = s; span = at; at = there; function = f; is = sym (same_Some (CoreImport.func (Some k) f) x e) }
 
-    by : (o : Option Entry) → slice_get n.world.imports.entries entry ≡ o → interface_import n.known j o ≡ Some x → IsOfInterface n entry x
+    by : (o : Option Entry) → slice_get n.world.imports.entries entry ≡ o → interface_import n.known j o ≡ Some x → IsFunctionThere n entry x
     by None there e = absurd cc
     by (Some (k, item.Interface id s at)) there e = found k id s at there (function_in n.known (item.Interface id s at) j) e
     by (Some (k, item.Function f)) there e = absurd cc

@@ -171,7 +171,7 @@ fn put_others(
 }
 
 /// The text of a key under which a world imports each interface, by the interfaces' ids: of the key by which core imports name functions of it
-/// where they do, and else of the first; an empty one where the world doesn't import it. None where core imports name functions of one
+/// where they do, and else of one of them; an empty one where the world doesn't import it. None where core imports name functions of one
 /// interface by keys of two texts, which no such list says: so it can be where an `include` brings an interface that stands in a world under
 /// a name twice, and changes that name once (WIT, Item: `include`). Fails only for want of memory.
 pub fn interface_names(
