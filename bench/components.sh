@@ -15,19 +15,7 @@ top=$(CDPATH='' cd -- "$(dirname -- "$0")/.." && pwd)
 folder=$(mktemp -d)
 trap 'rm -rf "$folder"' EXIT
 
-program=$folder/crates/components_bench
-mkdir -p "$program/src" "$folder/components"
-cp "$top/bench/components/main.rt.txt" "$program/src/main.rt"
-for crate in binary_grammar wasm_types distinct_names component_value_types component_definitions component_instances \
-    component_entries component_sections component_builder; do
-    cp -R "$top/crates/$crate" "$folder/crates/"
-    grep "^$crate:" "$top/crates.txt" >>"$folder/crates.txt"
-done
-echo 'components_bench: component_builder component_sections anyhow' >>"$folder/crates.txt"
-
-if ! log=$(cd "$program" && rt run </dev/null 2>&1); then
-    printf '%s\n' "$log" >&2
-    exit 1
-fi
+mkdir -p "$folder/components"
+python3 "$top/bench/build.py" components "$folder" component_builder component_sections anyhow
 python3 "$top/bench/components.py" make "$folder/components" "$@"
-python3 "$top/bench/components.py" tables "$program/out/components_bench" "$folder"
+python3 "$top/bench/components.py" tables "$folder/crates/components_bench/out/components_bench" "$folder"

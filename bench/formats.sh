@@ -13,18 +13,7 @@ top=$(CDPATH='' cd -- "$(dirname -- "$0")/.." && pwd)
 folder=$(mktemp -d)
 trap 'rm -rf "$folder"' EXIT
 
-program=$folder/crates/formats_bench
-mkdir -p "$program/src" "$folder/modules"
-cp "$top/bench/formats/main.rt.txt" "$program/src/main.rt"
-for crate in binary_grammar wasm_types wasm_sections wasm_format; do
-    cp -R "$top/crates/$crate" "$folder/crates/"
-    grep "^$crate:" "$top/crates.txt" >>"$folder/crates.txt"
-done
-echo 'formats_bench: wasm_format' >>"$folder/crates.txt"
-
-if ! log=$(cd "$program" && rt run </dev/null 2>&1); then
-    printf '%s\n' "$log" >&2
-    exit 1
-fi
+mkdir -p "$folder/modules"
+python3 "$top/bench/build.py" formats "$folder" wasm_format
 python3 "$top/bench/formats.py" make "$folder/modules" "$@"
-"$program/out/formats_bench" "$folder"/modules/*.wasm | python3 "$top/bench/formats.py" table
+"$folder/crates/formats_bench/out/formats_bench" "$folder"/modules/*.wasm | python3 "$top/bench/formats.py" table

@@ -13,20 +13,7 @@ top=$(CDPATH='' cd -- "$(dirname -- "$0")/.." && pwd)
 folder=$(mktemp -d)
 trap 'rm -rf "$folder"' EXIT
 
-program=$folder/crates/graph_bench
-mkdir -p "$program/src" "$folder/texts"
-cp "$top/bench/graph/main.rt.txt" "$program/src/main.rt"
-for crate in wit_resolution $(sed -n 's/^wit_resolution: //p' "$top/crates.txt"); do
-    if [ -d "$top/crates/$crate" ]; then
-        cp -R "$top/crates/$crate" "$folder/crates/"
-        grep "^$crate:" "$top/crates.txt" >>"$folder/crates.txt"
-    fi
-done
-echo 'graph_bench: wit_resolution wit_package' >>"$folder/crates.txt"
-
-if ! log=$(cd "$program" && rt run </dev/null 2>&1); then
-    printf '%s\n' "$log" >&2
-    exit 1
-fi
+mkdir -p "$folder/texts"
+python3 "$top/bench/build.py" graph "$folder" wit_resolution wit_package
 python3 "$top/bench/graph.py" make "$folder/texts" "$@"
-"$program/out/graph_bench" "$folder"/texts/*.wit | python3 "$top/bench/graph.py" table
+"$folder/crates/graph_bench/out/graph_bench" "$folder"/texts/*.wit | python3 "$top/bench/graph.py" table

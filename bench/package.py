@@ -78,7 +78,7 @@ def make(folder, *counts):
 
 
 def table():
-    """The program's lines as a table: how long a text is read, how long it is resolved, and how that grows."""
+    """The program's lines as a table: how long a text is read, how much longer it takes with resolving, and how that grows."""
     print("| package | bytes | read, s | resolved, s | resolved / read | MB/s, both | times the one before |")
     print("| --- | --- | --- | --- | --- | --- | --- |")
     before = (None, None)
@@ -89,8 +89,8 @@ def table():
         if took == ["refused"]:
             print(f"| {name} | {int(size):,} | refused | | | | |")
             continue
-        reading, resolving = [int(it) / 1e9 for it in took]
-        both = reading + resolving
+        reading, both = [int(it) / 1e9 for it in took]
+        resolving = both - reading
         ratio = f"{resolving / before[1]:.2f}" if before[0] == pattern else ""
         print(
             f"| {name} | {int(size):,} | {reading:.4f} | {resolving:.4f} | {resolving / reading:.1f}"

@@ -13,20 +13,7 @@ top=$(CDPATH='' cd -- "$(dirname -- "$0")/.." && pwd)
 folder=$(mktemp -d)
 trap 'rm -rf "$folder"' EXIT
 
-program=$folder/crates/package_bench
-mkdir -p "$program/src" "$folder/texts"
-cp "$top/bench/package/main.rt.txt" "$program/src/main.rt"
-for crate in wit_package $(sed -n 's/^wit_package: //p' "$top/crates.txt"); do
-    if [ -d "$top/crates/$crate" ]; then
-        cp -R "$top/crates/$crate" "$folder/crates/"
-        grep "^$crate:" "$top/crates.txt" >>"$folder/crates.txt"
-    fi
-done
-echo 'package_bench: wit_package wit_rules wit_types wit_syntax' >>"$folder/crates.txt"
-
-if ! log=$(cd "$program" && rt run </dev/null 2>&1); then
-    printf '%s\n' "$log" >&2
-    exit 1
-fi
+mkdir -p "$folder/texts"
+python3 "$top/bench/build.py" package "$folder" wit_package wit_rules wit_types wit_syntax
 python3 "$top/bench/package.py" make "$folder/texts" "$@"
-"$program/out/package_bench" "$folder"/texts/*.wit | python3 "$top/bench/package.py" table
+"$folder/crates/package_bench/out/package_bench" "$folder"/texts/*.wit | python3 "$top/bench/package.py" table

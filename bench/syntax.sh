@@ -13,18 +13,7 @@ top=$(CDPATH='' cd -- "$(dirname -- "$0")/.." && pwd)
 folder=$(mktemp -d)
 trap 'rm -rf "$folder"' EXIT
 
-program=$folder/crates/syntax_bench
-mkdir -p "$program/src" "$folder/texts"
-cp "$top/bench/syntax/main.rt.txt" "$program/src/main.rt"
-for crate in wit_words wit_tokens wit_productions wit_items wit_syntax; do
-    cp -R "$top/crates/$crate" "$folder/crates/"
-    grep "^$crate:" "$top/crates.txt" >>"$folder/crates.txt"
-done
-echo 'syntax_bench: wit_syntax' >>"$folder/crates.txt"
-
-if ! log=$(cd "$program" && rt run </dev/null 2>&1); then
-    printf '%s\n' "$log" >&2
-    exit 1
-fi
+mkdir -p "$folder/texts"
+python3 "$top/bench/build.py" syntax "$folder" wit_syntax
 python3 "$top/bench/syntax.py" make "$top/crates/wit_syntax_rows/data" "$folder/texts" "$@"
-"$program/out/syntax_bench" "$folder"/texts/*.wit | python3 "$top/bench/syntax.py" table
+"$folder/crates/syntax_bench/out/syntax_bench" "$folder"/texts/*.wit | python3 "$top/bench/syntax.py" table

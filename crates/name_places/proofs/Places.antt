@@ -123,3 +123,17 @@ place_names name (n ∷ ns) p h = here (λ k e. place_names name ns k e) (bytes_
     here behind false t (Some k) e =
         let q : Some (suc k) ≡ Some p = sym (ap (λ (b : Bool). cond b (Some 0) (option_map suc (place_of name ns))) t ∙ ap (option_map suc) e) ∙ h in
         ap (slice_get (n ∷ ns)) (sym (same_Some (suc k) p q)) ∙ behind k e
+
+-- behind names that are others a name has the place of the next one, where it is that
+pub place_next : (name : List ℕ) (ns : List (List ℕ)) (n : List ℕ) (ms : List (List ℕ)) → place_of name ns ≡ None → bytes_eq name n ≡ true → place_of name (ns ++ n ∷ ms) ≡ Some (length ns)
+place_next name [] n ms h t = rw t refl
+place_next name (m ∷ ns) n ms h t = here (λ f. place_next name ns n ms f t) (bytes_eq name m) refl (place_of name ns) refl
+  where
+    here : (place_of name ns ≡ None → place_of name (ns ++ n ∷ ms) ≡ Some (length ns)) → (b : Bool) → bytes_eq name m ≡ b → (o : Option ℕ) → place_of name ns ≡ o → place_of name ((m ∷ ns) ++ n ∷ ms) ≡ Some (length (m ∷ ns))
+    here behind true e o f = absurd (let q : Some 0 ≡ None = sym (ap (λ (b : Bool). cond b (Some 0) (option_map suc (place_of name ns))) e) ∙ h in cc)
+    here behind false e (Some k) f = absurd (let q : Some (suc k) ≡ None = sym (ap (λ (b : Bool). cond b (Some 0) (option_map suc (place_of name ns))) e ∙ ap (option_map suc) f) ∙ h in cc)
+    here behind false e None f = rw e (ap (option_map suc) (behind f))
+
+-- behind names that are others stands one that is another
+pub place_other : (name : List ℕ) (ns : List (List ℕ)) (n : List ℕ) → place_of name ns ≡ None → bytes_eq name n ≡ false → place_of name (ns ++ n ∷ []) ≡ None
+place_other name ns n h t = place_push name ns n ∙ rw (h, t) refl

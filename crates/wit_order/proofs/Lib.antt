@@ -1,3 +1,4 @@
+pub mod InTurn
 pub mod Orders
 pub mod Lists
 pub mod Steps

@@ -23,6 +23,10 @@ Needs g i j = Has (row g i) j
 abbrev pub AreBelow : Rows → ℕ → Type 0
 AreBelow g n = (i j : ℕ) → Has (row g i) j → j < n
 
+-- each place needs places before it alone
+abbrev pub NeedEarlier : Rows → Type 0
+NeedEarlier g = (i j : ℕ) → Needs g i j → j < i
+
 -- no place leads back to itself
 abbrev pub HasNoCircle : Rows → Type 0
 HasNoCircle g = (i : ℕ) → IsOnCircle (length g) (Needs g) i → ⊥

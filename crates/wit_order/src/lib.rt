@@ -1,6 +1,7 @@
 //! The order of names that need one another: what a name needs stands before it.
 #![tactic(auto)]
 
+mod backward;
 mod fault;
 mod law;
 mod names;

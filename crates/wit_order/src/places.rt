@@ -5,6 +5,7 @@ ghost use Rattle.wit_order.specs.Order.{Has};
 ghost use Rattle.wit_order.specs.Places.{row, AreBelow, IsPlaceCause, IsSorted};
 ghost use Rattle.wit_order.specs.Sorter.{AreTurned};
 
+use crate::backward::{in_turn, need_earlier};
 use crate::sorter::{Circle, Sorter};
 use std::alloc::{AllocError, AllocFailed, Global};
 
@@ -72,6 +73,9 @@ pub fn least_order(alloc: Global, needs: &[Vec<usize>]) -> Result<Vec<usize>, Pl
     ensures ok { IfOk result (λ order. IsSorted needs.now order.items) }
     ensures cause { IfErr result (IsPlaceCause needs.now) }
 {
+    if need_earlier(needs) {
+        return Ok(in_turn(alloc, needs.len())?);
+    }
     let needed_by = turned(alloc, needs)?;
     let mut sorter = Sorter::new(alloc, needs)?;
     let mut order = Vec::new(alloc);

@@ -1,7 +1,8 @@
 use Rattle.std.proofs.Common.{◌≡◌, ℕ, ◌<◌, true, List, Bool, Option, sym, subst, arith, length}
 use Rattle.std.specs.Prelude.{MatchOption}
 use Rattle.wit_order.specs.Sorter.{Sorting, Takes, Ends, unset_count, is_set}
-use Rattle.wit_order.specs.Places.{Rows}
+use Rattle.wit_order.specs.Places.{Rows, IsSorted}
+use Rattle.wit_order.proofs.InTurn.{in_turn_sorted}
 use Rattle.wit_order.proofs.Lists.{unset_falls}
 use Rattle.wit_order.proofs.Steps.{sorting_step, sorting_ends}
 use Rattle.wit_order.proofs.places.least_order.Goals as goal
@@ -30,3 +31,7 @@ returns-in-None-clause-ok c =
     subst (λ (r : Option ℕ). MatchOption r (Ends g c.loop-order.sorter c.next.new.self) (λ p. Takes g p c.loop-order.sorter c.next.new.self)) c.in_default.is c.in_ok-place.ensures in
     sorting_ends g c.loop-order.sorter c.loop-order.order.items c.loop-order.invariant.sorting
     (λ i l. subst (λ (f : List Bool). is_set f i ≡ true) e.flags (c.in-None.ensures.none i (omega (arith, l, e.settled.flags))))
+
+pub returns-then-need_earlier-clause-ok : goal.returns-then-need_earlier-clause-ok
+returns-then-need_earlier-clause-ok c =
+    subst (λ (order : List ℕ). IsSorted c.args.needs.now order) (sym c.in_ok-in_turn.ensures) (in_turn_sorted c.args.needs.now (c.need_earlier.ensures.yes c.if-need_earlier.true))
