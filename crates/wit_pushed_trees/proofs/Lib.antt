@@ -1,0 +1,3 @@
+mod Types
+mod Parts
+mod Interfaces
