@@ -1,7 +1,8 @@
 -- Rows of places, and the needs for which they stand.
-use Rattle.std.proofs.Common.{◌≡◌, ℕ, ◌<◌, ◌≤◌, ◌+◌, zero, suc, List, [], ◌∷◌, ◌++◌, Result, ◌⊎◌, ◌↔◌, Option, Some, None, map, take, get_or, length, inl, inr, refl, sym, subst, ap, ◌∙◌, arith}
-use Rattle.std.specs.Prelude.{slice_get, slice_index, Vec, IfOk}
+use Rattle.std.proofs.Common.{◌≡◌, ℕ, ◌<◌, ◌≤◌, ◌+◌, zero, suc, List, [], ◌∷◌, ◌++◌, Result, ◌⊎◌, ◌↔◌, Option, Some, None, map, take, get_or, length, inl, inr, refl, sym, subst, ap, ◌∙◌, arith, true, false}
+use Rattle.std.specs.Prelude.{◌==◌, slice_get, slice_index, Vec, IfOk}
 use Rattle.std.specs.declared.alloc.Global.{Global}
+use Rattle.std.proofs.lemmas.Bool.{eqb-true}
 use Rattle.std.proofs.lemmas.List.{length-map, map_push}
 use Rattle.std.proofs.lemmas.Option.{slice_get_cases, slice_get-get_or}
 use Rattle.name_places.specs.FirstPlaces.{place_of}
@@ -137,3 +138,12 @@ at_more ms places i found m within are there =
     ap (map (slice_get ms)) (taken places i (get_or places i 0) (slice_get-get_or places i 0 within)) ∙ map_push (slice_get ms) (take i places) (get_or places i 0)
     ∙ ap (λ (os : List (Option MemberTree)). os ++ slice_get ms (get_or places i 0) ∷ []) are ∙ ap (λ (o : Option MemberTree). map (λ (n : MemberTree). Some n) found ++ o ∷ []) there
     ∙ sym (map_push (λ (n : MemberTree). Some n) found m)
+
+-- a list without an element, and one with
+pub none_of : {X Y : Type 0} (f : X → Y) (xs : List X) → length xs == 0 ≡ true → map f xs ≡ []
+none_of f [] e = refl
+none_of f (x ∷ xs) e = absurd (let none : length (x ∷ xs) ≡ 0 = eqb-true (length (x ∷ xs)) 0 e in omega (arith, none))
+
+pub some_of : {X Y : Type 0} (f : X → Y) (xs : List X) → length xs == 0 ≡ false → map f xs ≡ [] → ⊥
+some_of f [] e h = cc
+some_of f (x ∷ xs) e h = cc

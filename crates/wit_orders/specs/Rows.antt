@@ -1,5 +1,5 @@
 -- Entries by places: what each needs, in the order in which it names it.
-use Rattle.std.specs.Prelude.{◌≡◌, ℕ, List, [], ◌∷◌, map, flat_map, Option, Some, None}
+use Rattle.std.specs.Prelude.{◌≡◌, ℕ, List, [], ◌∷◌, map, flat_map, Option, Some, None, slice_get}
 use Rattle.name_places.specs.FirstPlaces.{place_of}
 use Rattle.wit_words.specs.Slice.{Slice}
 use Rattle.wit_order.specs.Places.{Rows}
@@ -19,3 +19,7 @@ row_of names e = places_in names e.needs
 -- the rows are what each entry needs
 abbrev pub AreRows : List Entry → Rows → Type 0
 AreRows es rows = map (λ r. r.items) rows ≡ map (row_of (labels es)) es
+
+-- none of the entries names anything
+abbrev pub AreWithoutNeeds : List Entry → Type 0
+AreWithoutNeeds es = (i : ℕ) (one : Entry) → slice_get es i ≡ Some one → one.needs ≡ []

@@ -1,10 +1,10 @@
 //! The order of what names one another.
 
-ghost use Rattle.std.specs.Prelude.{◌≡◌, ◌<◌, map, length, slice_get, Some, IfOk, IfErr};
+ghost use Rattle.std.specs.Prelude.{◌≡◌, ◌<◌, ℕ, true, false, map, length, slice_get, Some, IfOk, IfErr};
 ghost use Rattle.wit_rules.specs.Breaks.{IsKept, IsFaultOf};
 ghost use Rattle.wit_syntax.specs.AstView as view;
 ghost use Rattle.wit_orders.specs.Needs as spec;
-ghost use Rattle.wit_orders.specs.Rows.{AreRows, places_in};
+ghost use Rattle.wit_orders.specs.Rows.{AreRows, AreWithoutNeeds, places_in, row_of};
 ghost use Rattle.wit_orders.specs.View as seen;
 ghost use Rattle.wit_rules.specs.declared.fault.PackageRule.TheVariants.{Cycle};
 
@@ -34,6 +34,29 @@ fn places<'a>(alloc: Global, entries: &[Entry<'a>]) -> Result<FirstPlaces<'a>, A
     Ok(found)
 }
 
+/// Whether none of the entries names anything.
+fn need_nothing(entries: &[Entry<'_>]) -> bool
+    ensures yes { result ≡ true → AreWithoutNeeds (map seen.entry entries.now) }
+    ensures no { result ≡ false → AreWithoutNeeds (map seen.entry entries.now) → ⊥ }
+{
+    for entry in entries {
+        if !entry.needs.as_slice().is_empty() {
+            return false;
+        }
+    }
+    true
+}
+
+/// The names of the entries, each with its place, as far as one of them names something.
+fn needed_places<'a>(alloc: Global, entries: &[Entry<'a>]) -> Result<FirstPlaces<'a>, AllocError>
+    ensures { IfOk result (λ p. (i : ℕ) (one : spec.Entry) → slice_get (map seen.entry entries.now) i ≡ Some one → row_of p one ≡ row_of (spec.labels (map seen.entry entries.now)) one) }
+{
+    if need_nothing(entries) {
+        return Ok(FirstPlaces::new(alloc));
+    }
+    places(alloc, entries)
+}
+
 /// The places of these names, where they are those of entries.
 fn places_of(
     alloc: Global,
@@ -55,7 +78,7 @@ fn places_of(
 fn rows<'a>(alloc: Global, entries: &[Entry<'a>]) -> Result<Vec<Vec<usize>>, AllocError>
     ensures { IfOk result (λ r. AreRows (map seen.entry entries.now) r.items) }
 {
-    let places = places(alloc, entries)?;
+    let places = needed_places(alloc, entries)?;
     let mut rows = Vec::new(alloc);
     for entry in entries {
         let row = places_of(alloc, &places, entry.needs.as_slice())?;

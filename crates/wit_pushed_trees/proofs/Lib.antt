@@ -1,3 +1,5 @@
 mod Types
 mod Parts
-mod Interfaces
+mod Texts
+mod Graphs
+mod Spans

@@ -1,2 +1,4 @@
-pub mod Pushed
 pub mod Meaning
+pub mod Worlds
+pub mod Packages
+pub mod Pushed

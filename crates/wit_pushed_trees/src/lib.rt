@@ -3,4 +3,8 @@
 
 mod law;
 
-pub use law::{law_pushed_interfaces_mean_their_texts, law_pushed_types_stand_for_the_same};
+pub use law::{
+    law_moved_packages_mean_their_texts, law_pushed_interfaces_mean_their_texts,
+    law_pushed_types_stand_for_the_same, law_pushed_worlds_mean_their_texts,
+    law_resolved_packages_mean_their_texts,
+};

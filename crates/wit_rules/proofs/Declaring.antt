@@ -1,7 +1,6 @@
 -- What files declare that keep the rules of their headers, names, interfaces and worlds.
-use Rattle.std.proofs.Common.{List, Some, map, sym, subst}
+use Rattle.std.proofs.Common.{List, map, sym, subst}
 use Rattle.wit_syntax.specs.Ast.{PackageNameTree, FileTree}
-use Rattle.wit_syntax.specs.AstView as view
 use Rattle.wit_scopes.specs.View as scope_view
 use Rattle.wit_rules.specs.declared.files.Declared.{Declared}
 use Rattle.wit_rules.specs.Facts.{IsNamed, IsDeclared}

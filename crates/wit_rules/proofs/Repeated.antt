@@ -21,6 +21,13 @@ module _ {K : Type 0} (eq : K → K → Bool) where
   among key [] = refl
   among key (b ∷ seen) = ap (λ r. eq key b.now || r) (among key seen)
 
+  -- a key that none of those before it is
+  pub none_before : (keys : List K) (place : ℕ) (key : K) → slice_get keys place ≡ Some key → list_any (eq key) (take place keys) ≡ false → IsRepeat eq keys place → ⊥
+  none_before keys place key there none r =
+      let same : key ≡ r.key = same_Some key r.key (sym there ∙ r.there) in
+      let no : list_any (eq r.key) (take place keys) ≡ false = subst (λ (k : K). list_any (eq k) (take place keys) ≡ false) same none in
+      cc (sym r.again ∙ no)
+
   module _ (keys : List K) (place : ℕ) (key : K) (seen : List (Bor K)) (are : map (λ b. b.now) seen ≡ take place keys) (there : slice_get keys place ≡ Some key) where
     found_is : list_any (λ b. eq key b.now) seen ≡ list_any (eq key) (take place keys)
     found_is = among key seen ∙ ap (list_any (eq key)) are
@@ -32,10 +39,7 @@ module _ {K : Type 0} (eq : K → K → Bool) where
     -- a key that is none of those before it
     pub not_repeated : (is_new : Bool) → is_new ≡ not (list_any (λ b. eq key b.now) seen) → is_new ≡ true → IsRepeat eq keys place → ⊥
     not_repeated is_new test outcome r =
-        let none : list_any (eq key) (take place keys) ≡ false = sym found_is ∙ not_true (list_any (λ b. eq key b.now) seen) (sym test ∙ outcome) in
-        let same : key ≡ r.key = same_Some key r.key (sym there ∙ r.there) in
-        let no : list_any (eq r.key) (take place keys) ≡ false = subst (λ (k : K). list_any (eq k) (take place keys) ≡ false) same none in
-        cc (sym r.again ∙ no)
+        none_before keys place key there (sym found_is ∙ not_true (list_any (λ b. eq key b.now) seen) (sym test ∙ outcome)) r
 
     -- the keys so far, with one more
     pub keys_more : (item : Bor K) (new : List (Bor K)) (is_new : Bool) → item.now ≡ key → new ≡ cond (list_any (λ b. eq key b.now) seen) seen (seen ++ item ∷ [])

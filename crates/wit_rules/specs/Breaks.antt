@@ -1,5 +1,5 @@
 -- Rules, and what breaks them where.
-use Rattle.std.specs.Prelude.{◌≡◌, ◌⊎◌, ℕ, Bool, false, List, map, Option, Some, None, slice_get, bytes_eq, is_ok}
+use Rattle.std.specs.Prelude.{◌≡◌, ◌⊎◌, ℕ, false, List, map, Option, Some, None, slice_get, bytes_eq, is_ok}
 use Rattle.semver.specs.Parse.{version_parts}
 use Rattle.wit_words.specs.declared.source_map.Span.{Span}
 use Rattle.wit_words.specs.Slice.{Slice}

@@ -1,4 +1,4 @@
-use Rattle.std.proofs.Common.{◌≡◌, ◌∷◌, ◌++◌, [], ℕ, List, map, take, ◌+◌, sym, ap, subst, ◌∙◌}
+use Rattle.std.proofs.Common.{◌≡◌, ◌∷◌, ◌++◌, [], List, map, take, ◌+◌, sym, ap, subst, ◌∙◌}
 use Rattle.std.proofs.lemmas.List.{map_push}
 use Rattle.wit_order.proofs.Lists.{has_get}
 use Rattle.wit_scopes.specs.Members.{MemberTree}

@@ -1,4 +1,4 @@
-use Rattle.std.proofs.Common.{List, map, sym, subst}
+use Rattle.std.proofs.Common.{List, map}
 use Rattle.wit_syntax.specs.Ast.{FileTree}
 use Rattle.wit_syntax.specs.AstView as view
 use Rattle.wit_scopes.specs.Scopes.{package_scopes}

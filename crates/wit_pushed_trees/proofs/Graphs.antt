@@ -1,0 +1,240 @@
+-- Packages that were pushed mean in the graph what they meant.
+use Rattle.std.proofs.Common.{◌≡◌, ℕ, ◌+◌, Bool, true, List, [], ◌∷◌, ◌++◌, zero, suc, length, map, Some, String, inl, inr, refl, sym, subst, ap, ◌∙◌, arith}
+use Rattle.std.proofs.lemmas.Option.{same_Some}
+use Rattle.std.specs.Prelude.{slice_get, string_bytes}
+use Rattle.std.specs.declared.alloc.Global.{Global}
+use Rattle.wit_words.specs.declared.source_map.Span.{Span}
+use Rattle.wit_types.specs.declared.function.Param.{Param}
+use Rattle.wit_types.specs.declared.function.Function.{Function}
+use Rattle.wit_types.specs.declared.interface.Interface.{Interface}
+use Rattle.wit_types.specs.declared.interface.TypeDef.{TypeDef}
+use Rattle.wit_types.specs.declared.world.World.{World}
+use Rattle.wit_types.specs.declared.world.WorldItem.{WorldItem}
+use Rattle.wit_types.specs.declared.world.WorldItem.TheVariants as item
+use Rattle.wit_types.specs.declared.world_key.WorldKey.{WorldKey}
+use Rattle.wit_types.specs.declared.world_key.WorldKey.TheVariants as key
+use Rattle.wit_types.specs.WorldKey.{spelled, known}
+use Rattle.wit_features.specs.Features.{FeatureSet, stays}
+use Rattle.wit_scopes.specs.Members.{MemberTree}
+use Rattle.wit_scopes.specs.Scopes.{WorldScope}
+use Rattle.wit_arena.specs.Tree.{Name, Place, in_world, Owner, Tree, Trees}
+use Rattle.wit_arena.specs.Unfold.{Owners, trees}
+use Rattle.wit_arena.specs.Standing.{Stands}
+use Rattle.wit_arena.specs.Meaning.{Has}
+use Rattle.wit_arena.proofs.Lists.{has_none, has_here, has_later, has_cases, map_has}
+use Rattle.wit_moves.specs.Breaks.{AnyOf, IsKept}
+use Rattle.wit_moves.specs.Moved.{Places, place_of, is_signature_placed, to, IsMovedFunction}
+use Rattle.wit_moves.specs.Interfaces.{AreKept, no_entries, one_goes, one_stays, FunctionsBreak, function_stays, IsMovedInterface}
+use Rattle.wit_moves.specs.Worlds.{item_stays, IsMovedItem, moved_function, moved_type, moved_key, moved_entry, IsMovedSide, SideBreaks}
+use Rattle.wit_moved_trees.specs.Law.{StandForTheSame, MovedNamesStandForTheSame, MovedFunctionsStandForTheSame}
+use Rattle.wit_moved_trees.proofs.Moving.{either}
+use Rattle.wit_plans.specs.Checks.{Standing, WorldBreaks}
+use Rattle.wit_plans.specs.Moves.{AreMovedWorlds, no_worlds, world_goes, world_stays, IsMovedWorld}
+use Rattle.wit_plans.specs.Plans.{standing}
+use Rattle.wit_plans.specs.declared.moves.MovedWorld.{MovedWorld}
+use Rattle.wit_placed.proofs.Holding.{interface_kept, goes_to}
+use Rattle.wit_placed.proofs.Own.{interface_from}
+use Rattle.wit_resolved_scopes.specs.InArena.{Context}
+use Rattle.wit_resolved_scopes.specs.Texts.{InterfaceText, own_members}
+use Rattle.wit_graph_parts.specs.Own.{own_parts}
+use Rattle.wit_pushed_trees.specs.Meaning.{IsFunctionMeant, IsInterfaceMeant, IsOfText}
+use Rattle.wit_pushed_trees.specs.Worlds.{IsTextOf, IsTypeMeant, IsOwnFunctionMeant, IsWorldMeant}
+use Rattle.wit_pushed_trees.specs.Pushed.{PushedTypesStandForTheSame, PushedInterfacesMeanTheirTexts, PushedWorldsMeanTheirTexts}
+use Rattle.wit_pushed_trees.proofs.Parts.{parts_joined, parts_split}
+
+-- ---- lists of which some goes
+
+got_behind : (xs ys : List Interface) (k : ℕ) → slice_get (xs ++ ys) (length xs + k) ≡ slice_get ys k
+got_behind [] ys k = ap (slice_get ys) (omega arith)
+got_behind (x ∷ xs) ys k = (let e : length (x ∷ xs) + k ≡ suc (length xs + k) = omega arith in ap (slice_get (x ∷ (xs ++ ys))) e ∙ got_behind xs ys k)
+
+-- what stands in a list of which some went was there, and stays
+kept_was : {K V : Type 0} (stays : V → Bool) (changes : V → V → Type 0) (es fs : List (K × V)) → AreKept stays changes es fs → (x : K) (w : V) → Has fs (x, w) → (v : V) × Has es (x, v) × (stays v ≡ true) × changes v w
+kept_was stays changes _ _ no_entries x w has = absurd (has_none (x, w) has)
+kept_was stays changes _ _ (one_goes k v es fs st rest) x w has =
+    let r = kept_was stays changes es fs rest x w has in
+    (r.0, has_later (k, v) es (x, r.0) r.1, r.2, r.3)
+kept_was {K} {V} stays changes _ _ (one_stays k v u es fs st change rest) x w has =
+    elim (has_cases (k, u) fs (x, w) has) as (λ _. (y : V) × Has ((k, v) ∷ es) (x, y) × (stays y ≡ true) × changes y w) [
+      | inl same ↦ (v, subst (λ (z : K). Has ((k, v) ∷ es) (z, v)) (sym (ap (λ (e : K × V). e.0) same)) (has_here (k, v) es), st, subst (changes v) (sym (ap (λ (e : K × V). e.1) same)) change)
+      | inr later ↦ (let r = kept_was stays changes es fs rest x w later in (r.0, has_later (k, v) es (x, r.0) r.1, r.2, r.3))
+    ]
+
+-- ---- types and functions
+
+module _ (given : Owner → Name → Tree) (c : Context) (graph_owners : Owners) (places : Places) (a b : List TypeDef) (stand : StandForTheSame given places c.owners a graph_owners b) where
+  type_goes : (o : Place) (x : Name) (i j : ℕ) → place_of places i ≡ Some j → Stands c.me c.scopes given c.owners a o x i → Stands c.me c.scopes given graph_owners b o x j
+  type_goes o x i j at means = (means.0, stand i j means.0 at means.1, means.2)
+
+  function_goes : MovedFunctionsStandForTheSame → (o : Place) (ms : List MemberTree) (f g : Function) → IsMovedFunction (to places) f g → is_signature_placed places f.params.items f.result ≡ true → IsFunctionMeant given c c.owners a o ms f
+      → IsFunctionMeant given c graph_owners b o ms g
+  function_goes functions_stand o ms f g moved all_placed is =
+      let split = parts_split (trees c.owners given a) (map (λ (q : Param). Some q.ty) f.params.items) f.result is.means.parts is.means.unfolds in
+      let there =
+      functions_stand given places c.owners graph_owners a b f g (map (λ (q : Param). string_bytes q.name) f.params.items) split.front split.last stand moved all_placed record { names_are = refl; params_are = split.front_is; result_is = split.last_is } in
+      record {
+        member = is.member;
+        written = is.written;
+        named = ap (λ (n : String Global). string_bytes n) moved.name ∙ is.named;
+        means = record {
+          parts = is.means.parts;
+          unfolds = parts_joined (trees graph_owners given b) (map (λ (q : Param). Some q.ty) g.params.items) g.result split.front split.last there.params_are there.result_is ∙ ap (λ (ts : Trees). Some ts) (sym split.are);
+          mean = is.means.mean;
+        };
+      }
+
+-- ---- an interface
+
+module _ (names_stand : MovedNamesStandForTheSame) (functions_stand : MovedFunctionsStandForTheSame) (given : Owner → Name → Tree) (c : Context) (graph_owners : Owners) (features : FeatureSet) (places : Places) (a b : List TypeDef)
+    (stand : StandForTheSame given places c.owners a graph_owners b) (t : InterfaceText) (owner : ℕ) (old new : Interface) (is : IsInterfaceMeant given c c.owners a t old) (moved : IsMovedInterface features places owner old new)
+    (kept : IsKept (FunctionsBreak features places old.functions.entries))
+  where
+    name_goes : (x : String Global) (i : ℕ) → Has new.types.entries (x, i) → Stands c.me c.scopes given graph_owners b t.place (string_bytes x) i
+    name_goes x i has =
+        let was = names_stand given places c.owners graph_owners a b old.types.entries new.types.entries stand moved.types x i has in
+        let means = is.names x was.0 was.1 in
+        (means.0, was.2 means.0 means.1, means.2)
+
+    all_placed : (k : ℕ) (x : String Global) (f : Function) → slice_get old.functions.entries k ≡ Some (x, f) → function_stays features places f ≡ true → is_signature_placed places f.params.items f.result ≡ true
+    all_placed k x f at stays = elim (either (is_signature_placed places f.params.items f.result)) as (λ _. is_signature_placed places f.params.items f.result ≡ true) [
+      | inl is_there ↦ is_there
+      | inr isnt ↦ absurd (kept f.span (record { place = k; one = (x, f); there = at; stays = stays; unplaced = isnt; stands = refl }))
+    ]
+
+    interface_goes : IsInterfaceMeant given c graph_owners b t new
+    interface_goes = record {
+      names = name_goes;
+      functions = λ x g has.
+          let was = kept_was (function_stays features places) (IsMovedFunction (to places)) old.functions.entries new.functions.entries moved.functions x g has in
+          function_goes given c graph_owners places a b stand functions_stand t.place t.members was.0 g was.3 (all_placed was.1.0 x was.0 was.1.1 was.2) (is.functions x was.0 was.1);
+    }
+
+-- ---- a world
+
+-- a type
+type_from : (places interfaces : Places) (v : WorldItem) (i : ℕ) (span : Span) → IsMovedItem (to places) (to interfaces) v (item.TypeItem i span) → (j : ℕ) × (v ≡ item.TypeItem j span) × (i ≡ to places j)
+type_from places interfaces _ _ _ (moved_type j s) = (j, refl, refl)
+
+-- and a function
+function_from : (places interfaces : Places) (v : WorldItem) (g : Function) → IsMovedItem (to places) (to interfaces) v (item.Function g) → (f : Function) × (v ≡ item.Function f) × IsMovedFunction (to places) f g
+function_from places interfaces _ _ (moved_function f g is) = (f, refl, is)
+
+-- a key that is spelled stays
+spelled_key : (f : ℕ → ℕ) (k : WorldKey) (x : Name) → known k ≡ spelled x → known (moved_key f k) ≡ spelled x
+spelled_key f (key.Name n) x e = e
+spelled_key f (key.Interface i) x e = absurd cc
+
+-- what stands on a side was there
+record Was (features : FeatureSet) (places interfaces : Places) (old : List (WorldKey × WorldItem)) (k : WorldKey) (x : WorldItem) : Type 0 where
+  first : WorldKey
+  item_was : WorldItem
+  there : Has old (first, item_was)
+  stayed : item_stays features places item_was ≡ true
+  moved : IsMovedItem (to places) (to interfaces) item_was x
+  key_is : k ≡ moved_key (to interfaces) first
+
+side_was : (features : FeatureSet) (places interfaces : Places) (old new : List (WorldKey × WorldItem)) → IsMovedSide features places interfaces old new → (k : WorldKey) (x : WorldItem) → Has new (k, x) → Was features places interfaces old k x
+side_was features places interfaces old new (kept, are, is) k x has =
+    let e = map_has (moved_entry (to interfaces)) kept (k, x) (subst (λ (es : List (WorldKey × WorldItem)). Has es (k, x)) is has) in
+    let same : x ≡ e.0.1 = ap (λ (y : WorldKey × WorldItem). y.1) e.2 in
+    let was = kept_was (item_stays features places) (IsMovedItem (to places) (to interfaces)) old kept are e.0.0 e.0.1 e.1 in
+    record {
+      first = e.0.0;
+      item_was = was.0;
+      there = was.1;
+      stayed = was.2;
+      moved = subst (IsMovedItem (to places) (to interfaces) was.0) (sym same) was.3;
+      key_is = ap (λ (y : WorldKey × WorldItem). y.0) e.2;
+    }
+
+module _ (functions_stand : MovedFunctionsStandForTheSame) (given : Owner → Name → Tree) (c : Context) (graph_owners : Owners) (features : FeatureSet) (s : Standing) (a b : List TypeDef) (stand : StandForTheSame given s.types c.owners a graph_owners b) (ws : List WorldScope) (old : World) (m : MovedWorld)
+    (is : IsWorldMeant given c c.owners a ws old.name old.imports.entries old.exports.entries) (moved : IsMovedWorld features s old m)
+  where
+    text_goes : (w : WorldScope) → IsTextOf ws old.name w → IsTextOf ws m.name w
+    text_goes w t = record { there = t.there; named = ap (λ (n : String Global). string_bytes n) moved.name ∙ t.named }
+
+    own_type_goes : (k : WorldKey) (i : ℕ) (span : Span) → Has m.imports.items (k, item.TypeItem i span) → IsTypeMeant given c graph_owners b ws m.name k i
+    own_type_goes k i span has =
+        let was = side_was features s.types s.interfaces old.imports.entries m.imports.items moved.imports k (item.TypeItem i span) has in
+        let from = type_from s.types s.interfaces was.item_was i span was.moved in
+        let there : Has old.imports.entries (was.first, item.TypeItem from.0 span) = subst (λ (x : WorldItem). Has old.imports.entries (was.first, x)) from.1 was.there in
+        let stands : place_of s.types from.0 ≡ Some i = goes_to s.types from.0 i (subst (λ (x : WorldItem). item_stays features s.types x ≡ true) from.1 was.stayed) (sym from.2) in
+        let t = is.own_types was.first from.0 span there in
+        record {
+          text = t.text;
+          is_text = text_goes t.text t.is_text;
+          spelling = t.spelling;
+          known_by = ap known was.key_is ∙ spelled_key (to s.interfaces) was.first t.spelling t.known_by;
+          means = type_goes given c graph_owners s.types a b stand (in_world t.text.name.text) t.spelling from.0 i stands t.means;
+        }
+
+    all_go : (es : List (WorldKey × WorldItem)) → IsKept (SideBreaks features s.types s.interfaces es) → (n : ℕ) (k : WorldKey) (f : Function) → slice_get es n ≡ Some (k, item.Function f) → item_stays features s.types (item.Function f) ≡ true → is_signature_placed s.types f.params.items f.result ≡ true
+    all_go es kept n k f at stays = elim (either (is_signature_placed s.types f.params.items f.result)) as (λ _. is_signature_placed s.types f.params.items f.result ≡ true) [
+      | inl is_there ↦ is_there
+      | inr isnt ↦ absurd (kept f.span (record { place = n; one = (k, item.Function f); there = at; stays = stays; unplaced = isnt; stands = refl }))
+    ]
+
+    own_function_goes : (es fs : List (WorldKey × WorldItem)) → IsMovedSide features s.types s.interfaces es fs → IsKept (SideBreaks features s.types s.interfaces es) → ((k : WorldKey) (f : Function) → Has es (k, item.Function f) → IsOwnFunctionMeant given c c.owners a ws old.name f)
+        → (k : WorldKey) (g : Function) → Has fs (k, item.Function g) → IsOwnFunctionMeant given c graph_owners b ws m.name g
+    own_function_goes es fs side kept meant k g has =
+        let was = side_was features s.types s.interfaces es fs side k (item.Function g) has in
+        let from = function_from s.types s.interfaces was.item_was g was.moved in
+        let there : Has es (was.first, item.Function from.0) = subst (λ (x : WorldItem). Has es (was.first, x)) from.1 was.there in
+        let stays_there = subst (λ (x : WorldItem). item_stays features s.types x ≡ true) from.1 was.stayed in
+        let f = meant was.first from.0 there in
+        record { text = f.text; is_text = text_goes f.text f.is_text; is = function_goes given c graph_owners s.types a b stand functions_stand (in_world f.text.name.text) (own_members f.text.members) from.0 g from.2 (all_go es kept there.0 was.first from.0 there.1 stays_there) f.is }
+
+    world_goes_there : IsKept (SideBreaks features s.types s.interfaces old.imports.entries) → IsKept (SideBreaks features s.types s.interfaces old.exports.entries) → IsWorldMeant given c graph_owners b ws m.name m.imports.items m.exports.items
+    world_goes_there imports_kept exports_kept = record {
+      own_types = own_type_goes;
+      functions = λ k g has. elim has as (λ _. IsOwnFunctionMeant given c graph_owners b ws m.name g) [
+        | inl imported ↦ own_function_goes old.imports.entries m.imports.items moved.imports imports_kept (λ k f h. is.functions k f (inl h)) k g imported
+        | inr exported ↦ own_function_goes old.exports.entries m.exports.items moved.exports exports_kept (λ k f h. is.functions k f (inr h)) k g exported
+      ];
+    }
+
+-- ---- all that came
+
+-- a world that stays was one of the package's
+record StaysFrom (features : FeatureSet) (s : Standing) (ws : List World) (m : MovedWorld) : Type 0 where
+  place : ℕ
+  old : World
+  was : slice_get ws place ≡ Some old
+  gate : stays features old.stability ≡ true
+  moved : IsMovedWorld features s old m
+
+from_later : (features : FeatureSet) (s : Standing) (w : World) (ws : List World) (m : MovedWorld) → StaysFrom features s ws m → StaysFrom features s (w ∷ ws) m
+from_later features s w ws m f = record { place = suc f.place; old = f.old; was = f.was; gate = f.gate; moved = f.moved }
+
+stays_from : (features : FeatureSet) (s : Standing) (ws : List World) (ms : List MovedWorld) → AreMovedWorlds features s ws ms → (k : ℕ) (m : MovedWorld) → slice_get ms k ≡ Some m → StaysFrom features s ws m
+stays_from features s _ _ no_worlds k m at = absurd cc
+stays_from features s _ _ (world_goes w ws ms st rest) k m at = from_later features s w ws m (stays_from features s ws ms rest k m at)
+stays_from features s _ _ (world_stays w n ws ms st is rest) zero m at = record { place = zero; old = w; was = refl; gate = st; moved = subst (IsMovedWorld features s w) (same_Some n m at) is }
+stays_from features s _ _ (world_stays w n ws ms st is rest) (suc k) m at = from_later features s w ws m (stays_from features s ws ms rest k m at)
+
+world_kept : (features : FeatureSet) (s : Standing) (ws : List World) → IsKept (AnyOf (WorldBreaks features s) ws) → (k : ℕ) (w : World) → slice_get ws k ≡ Some w → IsKept (WorldBreaks features s w)
+world_kept features s [] kept k w at = absurd cc
+world_kept features s (v ∷ ws) kept zero w at = λ where_ b. kept where_ (inl (subst (λ (x : World). WorldBreaks features s x where_) (sym (same_Some v w at)) b))
+world_kept features s (v ∷ ws) kept (suc k) w at = world_kept features s ws (λ where_ b. kept where_ (inr b)) k w at
+
+pub interfaces_go : PushedTypesStandForTheSame → MovedNamesStandForTheSame → MovedFunctionsStandForTheSame → PushedInterfacesMeanTheirTexts
+interfaces_go typed names_stand functions_stand given c interfaces worlds graph_owners eq features old p new id package_is h agreed k d at =
+    let a = h.put.added.parts.own_interfaces in
+    let here : slice_get a.moved k ≡ Some d = sym (got_behind old.tables.interfaces.all a.moved k) ∙ subst (λ (ds : List Interface). slice_get ds (length old.tables.interfaces.all + k) ≡ Some d) a.added.all_are at in
+    let from = interface_from features (standing h.owners h.places) (length old.tables.packages) h.foreign.interfaces (length old.tables.interfaces.all) (own_parts p).interfaces a.moved a.are_moved k d here in
+    let o : IsOfText given c c.owners p.types interfaces from.old = package_is.each_interface given from.place from.old from.was in
+    let kept : IsKept (FunctionsBreak features h.places from.old.functions.entries) =
+    interface_kept features (standing h.owners h.places) (own_parts p).interfaces (λ at b. h.are_places.planned.kept at (inl b)) from.place from.old from.was from.kept in (
+      o.0,
+      o.1,
+      interface_goes names_stand functions_stand given c graph_owners features h.places p.types new.tables.types (typed given c.owners graph_owners eq features old p new id h (package_is.whole given) agreed) o.0 (length old.tables.packages) from.old d o.2
+          from.moved kept,
+    )
+
+pub worlds_go : PushedTypesStandForTheSame → MovedFunctionsStandForTheSame → PushedWorldsMeanTheirTexts
+worlds_go typed functions_stand given c interfaces worlds graph_owners eq features old p new id package_is h agreed k m at =
+    let s : Standing = standing h.owners h.places in
+    let from = stays_from features s (own_parts p).worlds h.put.added.parts.own_worlds.moved h.put.added.parts.own_worlds.are_moved k m at in
+    let kept : IsKept (WorldBreaks features s from.old) = world_kept features s (own_parts p).worlds (λ at b. h.are_places.planned.kept at (inr b)) from.place from.old from.was in
+    world_goes_there functions_stand given c graph_owners features s p.types new.tables.types (typed given c.owners graph_owners eq features old p new id h (package_is.whole given) agreed) worlds from.old m
+    (package_is.each_world given from.place from.old from.was) from.moved (λ at b. kept at (from.gate, inl (inl b))) (λ at b. kept at (from.gate, inl (inr b)))

@@ -1,0 +1,245 @@
+-- Packages to which files are resolved mean what their texts do.
+use Rattle.std.proofs.Common.{◌≡◌, ℕ, ◌+◌, ◌<◌, ◌≤◌, List, [], length, Some, String, inl, inr, refl, sym, subst, ◌∙◌, arith}
+use Rattle.std.proofs.lemmas.Option.{slice_get_within}
+use Rattle.std.specs.Prelude.{slice_get, flat_map, string_bytes}
+use Rattle.std.specs.declared.alloc.Global.{Global}
+use Rattle.wit_syntax.specs.Ast.{FileTree}
+use Rattle.wit_words.specs.declared.source_map.Span.{Span}
+use Rattle.wit_types.specs.declared.function.Function.{Function}
+use Rattle.wit_types.specs.declared.interface.Interface.{Interface}
+use Rattle.wit_types.specs.declared.interface.TypeDef.{TypeDef}
+use Rattle.wit_types.specs.declared.interface.TypeOwner.TheVariants as belongs
+use Rattle.wit_types.specs.declared.«package».UnresolvedPackage.{UnresolvedPackage}
+use Rattle.wit_types.specs.declared.world.World.{World}
+use Rattle.wit_types.specs.declared.world.WorldItem.TheVariants as item
+use Rattle.wit_types.specs.declared.world_key.WorldKey.{WorldKey}
+use Rattle.wit_scopes.specs.declared.worlds.Side.{Side}
+use Rattle.wit_scopes.specs.declared.worlds.Side.TheVariants.{Import, Export}
+use Rattle.wit_scopes.specs.Members.{MemberTree}
+use Rattle.wit_scopes.specs.Scopes as scope
+use Rattle.wit_scopes.specs.Scopes.{WorldScope, WorldMemberTree, ListedTree, ExternKind}
+use Rattle.wit_arena.specs.Tree.{Name, Place, in_world, Owner, Tree}
+use Rattle.wit_arena.specs.Table.{Entries}
+use Rattle.wit_arena.specs.Standing.{Stands}
+use Rattle.wit_arena.specs.Meaning.{Has}
+use Rattle.wit_arena.proofs.Lists.{has_none, has_here, has_map}
+use Rattle.wit_foreign.specs.Items.{interfaces_in, worlds_in}
+use Rattle.wit_interfaces.specs.Interfaces.{IsInterfaceIn}
+use Rattle.wit_interfaces.proofs.Behind.{get_either}
+use Rattle.wit_readiness.proofs.Flat.{in_flat, flat_has, has_one}
+use Rattle.wit_resolved_scopes.specs.Each.{Each}
+use Rattle.wit_resolved_scopes.specs.InArena.{Context, IsTypeIn, IsFunctionIn}
+use Rattle.wit_resolved_scopes.specs.Scope.{function_of, member_function, functions_among}
+use Rattle.wit_resolved_scopes.specs.Texts.{InterfaceText, interface_texts, own_member, own_members, listed_member, at_side, side_member, side_members, worlds_of}
+use Rattle.wit_resolved_scopes.proofs.Eaches.{each_right}
+use Rattle.wit_worlds.specs.Worlds.{Entry, function_member, IsTypeEntry, IsFunctionEntry, IsExternEntry, IsEntryOf, IsWorldIn}
+use Rattle.wit_package.specs.Resolved.{context_of, IsResolved}
+use Rattle.wit_package.specs.Steps.{Resolves}
+use Rattle.wit_package.specs.TopUses.{files_need}
+use Rattle.wit_reach.proofs.Holding.{got}
+use Rattle.wit_well_formed.proofs.Belonging.{counted}
+use Rattle.wit_well_formed.proofs.Counted.{world_item}
+use Rattle.wit_well_formed.proofs.Lists.{get_drop}
+use Rattle.wit_graph_parts.specs.Own.{asked, own_parts}
+use Rattle.wit_pushed_trees.specs.Meaning.{IsFunctionMeant, IsInterfaceMeant, IsOfText}
+use Rattle.wit_pushed_trees.specs.Worlds.{IsTextOf, IsTypeMeant, IsOwnFunctionMeant, IsWorldMeant}
+use Rattle.wit_pushed_trees.specs.Packages.{ResolvedPackagesMeanTheirTexts}
+
+-- what is one of a kind
+function_is : (f g : Function) → item.Function f ≡ item.Function g → f ≡ g
+function_is f g e = cc
+
+type_is : (i j : ℕ) (s t : Span) → item.TypeItem i s ≡ item.TypeItem j t → i ≡ j
+type_is i j s t e = cc
+
+member_is : (m n : MemberTree) → scope.member m ≡ scope.member n → m ≡ n
+member_is m n e = cc
+
+-- a function of a scope that is one of these members
+in_scope : (given : Owner → Name → Tree) (c : Context) (a : List TypeDef) (o : Place) (ms : List MemberTree) (table : Entries) (m : MemberTree) (f : Function) → Has (functions_among ms) m → IsFunctionIn c o a table m f → IsFunctionMeant given c c.owners a o ms f
+in_scope given c a o ms table m f written is = record { member = m; written = written; named = is.is.name; means = is.means given }
+
+-- ---- interfaces
+
+interface_meant : (given : Owner → Name → Tree) (c : Context) (a : List TypeDef) (t : InterfaceText) (id : ℕ) (d : Interface) → IsInterfaceIn c a t id d → IsInterfaceMeant given c c.owners a t d
+interface_meant given c a t id d is = record {
+  names = λ x i has.
+      let listed : Has is.table (string_bytes x, i) = subst (λ es. Has es (string_bytes x, i)) is.is.types (has_map (λ (e : String Global × ℕ). (string_bytes e.0, e.1)) d.types.entries (x, i) has) in
+      let m = each_right (IsTypeIn c t.place (belongs.Interface id) a) is.scope.sorted is.table is.scope.types_are listed.0 (string_bytes x, i) listed.1 in
+      subst (λ (n : Name). Stands c.me c.scopes given c.owners a t.place n i) (sym m.2.name) (m.2.means given);
+  functions = λ x f has.
+      let listed : Has is.functions f = subst (λ fs. Has fs f) is.is.functions (has_map (λ (e : String Global × Function). e.1) d.functions.entries (x, f) has) in
+      let m = each_right (IsFunctionIn c t.place a is.table) (functions_among t.members) is.functions is.scope.functions_are listed.0 f listed.1 in
+      in_scope given c a t.place t.members is.table m.0 f (listed.0, m.1) m.2;
+}
+
+-- ---- what stands for what in a world
+
+at_side_is : (s t : Side) (x y : WorldMemberTree) → Has (at_side s t x) y → y ≡ x
+at_side_is Import Import x y h = has_one x y h
+at_side_is Import Export x y h = absurd (has_none y h)
+at_side_is Export Import x y h = absurd (has_none y h)
+at_side_is Export Export x y h = has_one x y h
+
+-- a function that a member gives
+member_of : (side : Side) (fs : List MemberTree) (y : WorldMemberTree) → Has (flat_map (λ f. at_side side Import (scope.member f)) fs) y → (f : MemberTree) × Has fs f × (y ≡ scope.member f)
+member_of side fs y h =
+    let r = in_flat (λ (f : MemberTree). at_side side Import (scope.member f)) fs y h in
+    (r.0, r.1, at_side_is side Import (scope.member r.0) y r.2)
+
+module _ (ws : List WorldMemberTree) (side : Side) where
+  -- a function of a resource of the world is one of its functions
+  member_among : (m : MemberTree) → Has (side_members side ws) (scope.member m) → Has (functions_among (own_members ws)) m
+  member_among m h = (let r = in_flat (side_member side) ws (scope.member m) h in of r.0 r.1 r.2)
+    where
+      of : (x : WorldMemberTree) → Has ws x → Has (side_member side x) (scope.member m) → Has (functions_among (own_members ws)) m
+      of (scope.member n) has given =
+          let f = member_of side (function_of n.kind n) (scope.member m) given in
+          let same : m ≡ f.0 = member_is m f.0 f.2 in
+          flat_has member_function (own_members ws) n m (flat_has own_member ws (scope.member n) n has (has_here n [])) (subst (λ (z : MemberTree). Has (member_function n) z) (sym same) f.1)
+      of (scope.listed l) has given = absurd (let e : scope.member m ≡ scope.listed l = at_side_is side l.side (scope.listed l) (scope.member m) given in cc)
+      of (scope.included i) has given = absurd (has_none (scope.member m) given)
+
+  -- what is listed is a member
+  listed_among : (l : ListedTree) → Has (side_members side ws) (scope.listed l) → Has ws (scope.listed l)
+  listed_among l h = (let r = in_flat (side_member side) ws (scope.listed l) h in of r.0 r.1 r.2)
+    where
+      of : (x : WorldMemberTree) → Has ws x → Has (side_member side x) (scope.listed l) → Has ws (scope.listed l)
+      of (scope.member n) has given = absurd (let f = member_of side (function_of n.kind n) (scope.listed l) given in let e : scope.listed l ≡ scope.member f.0 = f.2 in cc)
+      of (scope.listed k) has given = subst (Has ws) (sym (at_side_is side k.side (scope.listed k) (scope.listed l) given)) has
+      of (scope.included i) has given = absurd (has_none (scope.listed l) given)
+
+module _ (c : Context) (n : Name) (a : List TypeDef) (table : Entries) where
+  -- an import or export that the text lists is no type
+  extern_no_type : (l : ListedTree) (k : ExternKind) (e : Entry) → IsExternEntry c n a table l k e → (j : ℕ) (span : Span) → e.1 ≡ item.TypeItem j span → ⊥
+  extern_no_type l (scope.ExternKind.function f) e h j span is = (let q : item.TypeItem j span ≡ item.Function h.made = sym is ∙ h.item in cc)
+  extern_no_type l (scope.ExternKind.interface ms) e h j span is = (let q : item.TypeItem j span ≡ item.Interface h.id h.stability l.name.span = sym is ∙ h.item in cc)
+  extern_no_type l (scope.item t) e h j span is = (let q : item.TypeItem j span ≡ item.Interface h.id h.stability l.name.span = sym is ∙ h.item in cc)
+
+  no_type : (x : WorldMemberTree) (e : Entry) → IsEntryOf c n a table x e → (j : ℕ) (span : Span) → e.1 ≡ item.TypeItem j span → ⊥
+  no_type (scope.member m) e h j span is = (let q : item.TypeItem j span ≡ item.Function h.made = sym is ∙ h.item in cc)
+  no_type (scope.listed l) e h j span is = extern_no_type l l.kind e h j span is
+  no_type (scope.included i) e h j span is = h
+
+  -- a function that stands for a member
+  abbrev IsOfMember : List WorldMemberTree → Function → Type 0
+  IsOfMember ws f = (m : MemberTree) × Has (functions_among (own_members ws)) m × IsFunctionIn c (in_world n) a table m f
+
+  made_is : (ws : List WorldMemberTree) (m : MemberTree) (e : Entry) (f : Function) → Has (functions_among (own_members ws)) m → (h : IsFunctionEntry c (in_world n) a table m e) → e.1 ≡ item.Function f → IsOfMember ws f
+  made_is ws m e f has h is = (m, has, subst (IsFunctionIn c (in_world n) a table m) (function_is h.made f (sym h.item ∙ is)) h.is)
+
+  extern_function : (ws : List WorldMemberTree) (l : ListedTree) → Has ws (scope.listed l) → (k : ExternKind) → l.kind ≡ k → (e : Entry) → IsExternEntry c n a table l k e → (f : Function) → e.1 ≡ item.Function f → IsOfMember ws f
+  extern_function ws l has (scope.ExternKind.function g) kind e h f is =
+      let m : MemberTree = function_member l g in
+      let among : Has (own_members ws) m = flat_has own_member ws (scope.listed l) m has (subst (λ (k : ExternKind). Has (listed_member l k) m) (sym kind) (has_here m [])) in
+      made_is ws m e f (flat_has member_function (own_members ws) m m among (has_here m [])) h is
+  extern_function ws l has (scope.ExternKind.interface ms) kind e h f is = absurd (let q : item.Function f ≡ item.Interface h.id h.stability l.name.span = sym is ∙ h.item in cc)
+  extern_function ws l has (scope.item t) kind e h f is = absurd (let q : item.Function f ≡ item.Interface h.id h.stability l.name.span = sym is ∙ h.item in cc)
+
+  entry_function : (ws : List WorldMemberTree) (side : Side) (x : WorldMemberTree) (e : Entry) → Has (side_members side ws) x → IsEntryOf c n a table x e → (f : Function) → e.1 ≡ item.Function f → IsOfMember ws f
+  entry_function ws side (scope.member m) e has h f is = made_is ws m e f (member_among ws side m has) h is
+  entry_function ws side (scope.listed l) e has h f is = extern_function ws l (listed_among ws side l has) l.kind refl e h f is
+  entry_function ws side (scope.included i) e has h f is = absurd h
+
+-- ---- one world
+
+module _ (given : Owner → Name → Tree) (c : Context) (a : List TypeDef) (w : WorldScope) (id : ℕ) (d : World) (is : IsWorldIn c a w id d) (ws : List WorldScope) (there : Has ws w) where
+  abbrev o : Name
+  o = w.name.text
+
+  text : IsTextOf ws d.name w
+  text = record { there = there; named = is.name }
+
+  type_meant : (k : WorldKey) (i : ℕ) (span : Span) → Has d.imports.entries (k, item.TypeItem i span) → IsTypeMeant given c c.owners a ws d.name k i
+  type_meant k i span has =
+      elim (get_either is.type_entries is.other_imports has.0 (k, item.TypeItem i span) (subst (λ es. slice_get es has.0 ≡ Some (k, item.TypeItem i span)) is.imports_are has.1)) as (λ _. IsTypeMeant given c c.owners a ws d.name k i) [
+        | inl own ↦
+            let e = each_right (IsTypeEntry a) is.table is.type_entries is.type_entries_are has.0 (k, item.TypeItem i span) own in
+            let t : Name × ℕ = e.0 in
+            let same : i ≡ t.1 = type_is i t.1 span e.2.def.span e.2.item in
+            let of = each_right (IsTypeIn c (in_world o) (belongs.World id) a) is.sorted is.table is.types_are has.0 t e.1 in
+            record {
+              text = w;
+              is_text = text;
+              spelling = t.0;
+              known_by = e.2.key;
+              means = subst (λ (z : ℕ). Stands c.me c.scopes given c.owners a (in_world o) t.0 z) (sym same) (subst (λ (x : Name). Stands c.me c.scopes given c.owners a (in_world o) x t.1) (sym of.2.name) (of.2.means given));
+            }
+        | inr other ↦ absurd (
+            let e = each_right (IsEntryOf c o a is.table) (side_members Import w.members) is.other_imports is.lists_are.imports_are other.0 (k, item.TypeItem i span) other.2 in
+            no_type c o a is.table e.0 (k, item.TypeItem i span) e.2 i span refl)
+      ]
+
+  side_function : (side : Side) (es : List Entry) → Each (IsEntryOf c o a is.table) (side_members side w.members) es → (n : ℕ) (k : WorldKey) (f : Function) → slice_get es n ≡ Some (k, item.Function f) → IsOwnFunctionMeant given c c.owners a ws d.name f
+  side_function side es each n k f at =
+      let e = each_right (IsEntryOf c o a is.table) (side_members side w.members) es each n (k, item.Function f) at in
+      let of = entry_function c o a is.table w.members side e.0 (k, item.Function f) (n, e.1) e.2 f refl in
+      record { text = w; is_text = text; is = in_scope given c a (in_world o) (own_members w.members) is.table of.0 f of.1 of.2 }
+
+  import_meant : (k : WorldKey) (f : Function) → Has d.imports.entries (k, item.Function f) → IsOwnFunctionMeant given c c.owners a ws d.name f
+  import_meant k f has =
+      elim (get_either is.type_entries is.other_imports has.0 (k, item.Function f) (subst (λ es. slice_get es has.0 ≡ Some (k, item.Function f)) is.imports_are has.1)) as (λ _. IsOwnFunctionMeant given c c.owners a ws d.name f) [
+        | inl own ↦ absurd (
+            let e = each_right (IsTypeEntry a) is.table is.type_entries is.type_entries_are has.0 (k, item.Function f) own in
+            let q : item.Function f ≡ item.TypeItem e.0.1 e.2.def.span = e.2.item in cc)
+        | inr other ↦ side_function Import is.other_imports is.lists_are.imports_are other.0 k f other.2
+      ]
+
+  world_meant : IsWorldMeant given c c.owners a ws d.name d.imports.entries d.exports.entries
+  world_meant = record {
+    own_types = type_meant;
+    functions = λ k f has. elim has as (λ _. IsOwnFunctionMeant given c c.owners a ws d.name f) [ inl imported ↦ import_meant k f imported | inr exported ↦ side_function Export d.exports.entries is.lists_are.exports_are exported.0 k f exported.1 ];
+  }
+
+-- one of another package has nothing
+nothing_meant : (given : Owner → Name → Tree) (c : Context) (a : List TypeDef) (d : World) (ws : List WorldScope) → d.imports.entries ≡ [] → d.exports.entries ≡ [] → IsWorldMeant given c c.owners a ws d.name d.imports.entries d.exports.entries
+nothing_meant given c a d ws no_imports no_exports = record {
+  own_types = λ k i span has. absurd (has_none (k, item.TypeItem i span) (subst (λ es. Has es (k, item.TypeItem i span)) no_imports has));
+  functions = λ k f has. absurd (elim has as (λ _. ⊥) [ inl imported ↦ has_none (k, item.Function f) (subst (λ es. Has es (k, item.Function f)) no_imports imported) | inr exported ↦ has_none (k, item.Function f) (subst (λ es. Has es (k, item.Function f)) no_exports exported) ]);
+}
+
+-- ---- a package
+
+module _ (files : List FileTree) (p : UnresolvedPackage) (r : Resolves files p) where
+  abbrev s : IsResolved files p
+  s = r.resolved
+
+  abbrev c : Context
+  c = context_of s.me files s.items s.sorted
+
+  own_interface : (given : Owner → Name → Tree) (i : ℕ) (d : Interface) → slice_get (own_parts p).interfaces i ≡ Some d → IsOfText given c c.owners p.types (interface_texts s.sorted) d
+  own_interface given i d at =
+      let behind = get_drop (asked p).interfaces p.interfaces i d at in
+      let so_many : length s.foreign_interfaces ≡ interfaces_in s.items = s.foreign_are.so_many_interfaces in
+      let most : interfaces_in s.items ≤ (asked p).interfaces = counted files p r in
+      elim (get_either s.foreign_interfaces s.own_interfaces ((asked p).interfaces + i) d (subst (λ (ds : List Interface). slice_get ds ((asked p).interfaces + i) ≡ Some d) s.interfaces_are behind)) as (λ _. IsOfText given c c.owners p.types (interface_texts s.sorted) d) [
+        | inl other ↦ absurd (
+            let within : (asked p).interfaces + i < length s.foreign_interfaces = slice_get_within s.foreign_interfaces ((asked p).interfaces + i) d other in
+            omega (arith, within, so_many, most))
+        | inr o ↦
+            let within : o.0 < length s.own_interfaces = slice_get_within s.own_interfaces o.0 d o.2 in
+            let size = s.own_interfaces_are.so_many in
+            let t = got (interface_texts s.sorted) o.0 (omega (arith, within, size)) in
+            (t.0, (o.0, t.1), interface_meant given c p.types t.0 (length s.foreign_interfaces + o.0) d (s.own_interfaces_are.each o.0 t.0 d t.1 o.2))
+      ]
+
+  own_world : (given : Owner → Name → Tree) (i : ℕ) (w : World) → slice_get (own_parts p).worlds i ≡ Some w → IsWorldMeant given c c.owners p.types (worlds_of s.sorted) w.name w.imports.entries w.exports.entries
+  own_world given i w at =
+      let n : ℕ = (asked p).worlds + i in
+      let behind : slice_get p.worlds n ≡ Some w = get_drop (asked p).worlds p.worlds i w at in
+      elim (get_either s.foreign_worlds s.own_worlds n w (subst (λ (ws : List World). slice_get ws n ≡ Some w) s.worlds_are behind)) as (λ _. IsWorldMeant given c c.owners p.types (worlds_of s.sorted) w.name w.imports.entries w.exports.entries) [
+        | inl other ↦
+            let within : n < length s.foreign_worlds = slice_get_within s.foreign_worlds n w other in
+            let so_many : length s.foreign_worlds ≡ worlds_in s.items = s.foreign_are.so_many_worlds in
+            let one = world_item (files_need s.me files) s.items s.items_are n (omega (arith, within, so_many)) in
+            let is = s.foreign_are.worlds one.0 n w one.1 other in
+            nothing_meant given c p.types w (worlds_of s.sorted) is.imports is.exports
+        | inr o ↦
+            let within : o.0 < length s.own_worlds = slice_get_within s.own_worlds o.0 w o.2 in
+            let size = s.own_worlds_are.so_many in
+            let t = got (worlds_of s.sorted) o.0 (omega (arith, within, size)) in
+            world_meant given c p.types t.0 (length s.foreign_worlds + o.0) w (s.own_worlds_are.each o.0 t.0 w t.1 o.2) (worlds_of s.sorted) (o.0, t.1)
+      ]
+
+pub resolved_meant : ResolvedPackagesMeanTheirTexts
+resolved_meant files p r = record { whole = r.resolved.whole; each_interface = own_interface files p r; each_world = own_world files p r }
