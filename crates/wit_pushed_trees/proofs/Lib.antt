@@ -3,3 +3,7 @@ mod Parts
 mod Texts
 mod Graphs
 mod Spans
+mod Asking
+mod Names
+mod Finding
+mod Given

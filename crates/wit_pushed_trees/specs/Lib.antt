@@ -2,3 +2,5 @@ pub mod Meaning
 pub mod Worlds
 pub mod Packages
 pub mod Pushed
+pub mod Asked
+pub mod Found

@@ -1,5 +1,7 @@
 //! Laws of packages that mean what their texts do.
 
+ghost use Rattle.wit_pushed_trees.specs.Asked.{MovedPackagesAskByName, ResolvedPackagesAskByName};
+ghost use Rattle.wit_pushed_trees.specs.Found.{AskedItemsAreFoundByName, AskedTypesStandForTheSame, EmptyNamesStand, EqualNamesAreTheSame, PushedNamesStand};
 ghost use Rattle.wit_pushed_trees.specs.Packages.{MovedPackagesMeanTheirTexts, ResolvedPackagesMeanTheirTexts};
 ghost use Rattle.wit_pushed_trees.specs.Pushed.{PushedInterfacesMeanTheirTexts, PushedTypesStandForTheSame, PushedWorldsMeanTheirTexts};
 
@@ -43,3 +45,41 @@ pub fn law_pushed_worlds_mean_their_texts()
     law_pushed_types_stand_for_the_same();
     law_moved_functions_stand_for_the_same();
 }
+
+/// Each interface and world that a package to which files are resolved asks of another is the one of the other's under the name by which the text
+/// asks for it, and of types that it asks for their names alone are known (WIT, Packages, Use).
+pub fn law_resolved_packages_ask_by_name()
+    ensures { ResolvedPackagesAskByName }
+{}
+
+/// They are wherever the texts stand among others.
+pub fn law_moved_packages_ask_by_name()
+    ensures { MovedPackagesAskByName }
+{}
+
+/// Names of packages that are equal by `==` have the same texts and versions (WIT, Package Names).
+pub fn law_equal_names_are_the_same()
+    ensures { EqualNamesAreTheSame }
+{}
+
+/// In a graph without packages each name stands for a package of that name.
+pub fn law_empty_graphs_have_names_stand()
+    ensures { EmptyNamesStand }
+{}
+
+/// Each does when `Graph::push` has answered for a package, where each did (WIT, Packages, Package Names).
+pub fn law_pushed_graphs_have_names_stand()
+    ensures { PushedNamesStand }
+{}
+
+/// Where each name stands for a package of that name, each interface and world that a package asks of others, as far as it is found, is the one of
+/// the package of that name under the name by which it is asked for (WIT, Packages, Use).
+pub fn law_asked_items_are_found_by_name()
+    ensures { AskedItemsAreFoundByName }
+{}
+
+/// Then each type that a package asks for is found where what stands is what is given for its name, in a graph that gives what stands in it (WIT, Use,
+/// Types).
+pub fn law_asked_types_stand_for_the_same()
+    ensures { AskedTypesStandForTheSame }
+{}
