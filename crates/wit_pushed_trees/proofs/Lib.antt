@@ -7,3 +7,7 @@ mod Asking
 mod Names
 mod Finding
 mod Given
+mod Owning
+mod Owned
+mod Resolved
+mod Agreeing

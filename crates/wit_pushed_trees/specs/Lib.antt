@@ -4,3 +4,5 @@ pub mod Packages
 pub mod Pushed
 pub mod Asked
 pub mod Found
+pub mod Owned
+pub mod Agreed

@@ -1,7 +1,9 @@
 //! Laws of packages that mean what their texts do.
 
+ghost use Rattle.wit_pushed_trees.specs.Agreed.{PushedPackagesAreAgreed};
 ghost use Rattle.wit_pushed_trees.specs.Asked.{MovedPackagesAskByName, ResolvedPackagesAskByName};
 ghost use Rattle.wit_pushed_trees.specs.Found.{AskedItemsAreFoundByName, AskedTypesStandForTheSame, EmptyNamesStand, EqualNamesAreTheSame, PushedNamesStand};
+ghost use Rattle.wit_pushed_trees.specs.Owned.{EmptyGraphsAreOwned, MovedPackagesHaveOwners, PushedGraphsAreOwned, ResolvedPackagesHaveOwners};
 ghost use Rattle.wit_pushed_trees.specs.Packages.{MovedPackagesMeanTheirTexts, ResolvedPackagesMeanTheirTexts};
 ghost use Rattle.wit_pushed_trees.specs.Pushed.{PushedInterfacesMeanTheirTexts, PushedTypesStandForTheSame, PushedWorldsMeanTheirTexts};
 
@@ -82,4 +84,32 @@ pub fn law_asked_items_are_found_by_name()
 /// Types).
 pub fn law_asked_types_stand_for_the_same()
     ensures { AskedTypesStandForTheSame }
+{}
+
+/// A package to which files are resolved has owners of all that it holds, those of its texts: its interfaces and worlds are its own under their names,
+/// and those that it asks of others are the others' (WIT, Packages, Package Names).
+pub fn law_resolved_packages_have_owners()
+    ensures { ResolvedPackagesHaveOwners }
+{}
+
+/// It has them wherever the texts stand among others.
+pub fn law_moved_packages_have_owners()
+    ensures { MovedPackagesHaveOwners }
+{}
+
+/// A graph without packages has none.
+pub fn law_empty_graphs_are_owned()
+    ensures { EmptyGraphsAreOwned }
+{}
+
+/// A graph that has owners of all that it holds, by the names of its packages and of what stands in them, has more when `Graph::push` has answered for a
+/// package that has owners: whose an interface or a world of the package was, it still is where it stands (WIT, Packages, Package Names).
+pub fn law_pushed_graphs_are_owned()
+    ensures { PushedGraphsAreOwned }
+{}
+
+/// Where what is given for names of interfaces is what stands in the graph under them, the graph and a package that is pushed to it agree on names of
+/// other packages, by the owners of what the graph holds then: the interfaces and worlds that came mean what their texts do (WIT, Packages, Use, Types).
+pub fn law_pushed_packages_are_agreed()
+    ensures { PushedPackagesAreAgreed }
 {}

@@ -17,7 +17,7 @@ use Rattle.wit_rules.specs.Breaks.{IsKept}
 use Rattle.wit_lookups.specs.Lookups.{LookupsBreak}
 use Rattle.wit_arena.specs.Meaning.{Has}
 use Rattle.wit_arena.proofs.Lists.{has_map, has_none}
-use Rattle.wit_foreign.specs.Items.{interfaces_in}
+use Rattle.wit_foreign.specs.Items.{interfaces_in, worlds_in}
 use Rattle.wit_foreign.proofs.Numbers.{interface_below}
 use Rattle.wit_resolved_scopes.proofs.Orders.{listed}
 use Rattle.wit_interfaces.specs.Listed.{IsListedAt}
@@ -34,7 +34,7 @@ use Rattle.wit_reach.proofs.Holding.{got}
 use Rattle.wit_well_formed.proofs.Lists.{get_drop}
 use Rattle.wit_well_formed.proofs.Sorts.{one_owner}
 use Rattle.wit_well_formed.proofs.Counted.{interface_item}
-use Rattle.wit_well_formed.proofs.Numbers.{interfaces_counted}
+use Rattle.wit_well_formed.proofs.Numbers.{interfaces_counted, worlds_counted}
 use Rattle.wit_well_formed.proofs.Few.{interfaces_few}
 
 owner_is : (o : TypeOwner) (j : ℕ) → interface_of o ≡ Some j → o ≡ belongs.Interface j
@@ -52,6 +52,10 @@ module _ (files : List FileTree) (p : UnresolvedPackage) (r : Resolves files p) 
   -- all interfaces that are asked for are counted
   pub counted : interfaces_in s.items ≤ (asked p).interfaces
   counted = interfaces_counted (files_need s.me files) s.items s.items_are (one_owner s.me (file_uses files) (package_scopes s.me files) looked_up) p.foreign_deps.entries p.foreign_dep_spans.items s.deps_are
+
+  -- and all worlds
+  pub worlds_are_counted : worlds_in s.items ≤ (asked p).worlds
+  worlds_are_counted = worlds_counted (files_need s.me files) s.items s.items_are (one_owner s.me (file_uses files) (package_scopes s.me files) looked_up) p.foreign_deps.entries p.foreign_dep_spans.items s.deps_are
 
   -- types of other packages belong to these
   other : (i j : ℕ) (d : TypeDef) → slice_get s.unknown i ≡ Some d → d.owner ≡ belongs.Interface j → j < interfaces_in s.items

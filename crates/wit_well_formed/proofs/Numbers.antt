@@ -1,4 +1,4 @@
--- Each interface that a package asks for is counted among what it asks of others.
+-- Each interface and each world that a package asks for is counted among what it asks of others.
 use Rattle.std.proofs.Common.{◌≡◌, ℕ, zero, suc, ◌+◌, ◌<◌, ◌≤◌, List, [], ◌∷◌, ◌++◌, inl, inr, length, map, Vec, String, Some, refl, sym, subst, ap, ◌∙◌, arith}
 use Rattle.std.proofs.lemmas.Option.{same_Some, slice_get-map, slice_get_within}
 use Rattle.std.specs.Prelude.{slice_get, flat_map, option_map}
@@ -13,7 +13,7 @@ use Rattle.wit_arena.specs.Tree.{Owner}
 use Rattle.wit_arena.specs.Meaning.{Has}
 use Rattle.wit_arena.proofs.Lists.{get_split, has_left, has_right, has_cases, has_map, has_none}
 use Rattle.wit_foreign.specs.Needs.{NeedTree}
-use Rattle.wit_foreign.specs.Items.{Items, interface_count, interfaces_in, need_owner, AreItemsOf}
+use Rattle.wit_foreign.specs.Items.{Items, interface_count, world_count, interfaces_in, worlds_in, need_owner, AreItemsOf}
 use Rattle.wit_foreign.specs.Groups.{package_key, item_key, IsPart, no_part, of_key, of_another, AreParts}
 use Rattle.wit_foreign.specs.Deps.{ItemEntry, PackageEntry, package_entries, AreEntries, IsItemDep, IsPackageDep, AreDeps}
 use Rattle.wit_resolved_scopes.proofs.Readying.{either}
@@ -23,7 +23,7 @@ use Rattle.wit_finding.specs.Foreign.{with_items, with_deps, counts_of}
 use Rattle.wit_finding.specs.declared.counts.Counts.{Counts}
 use Rattle.wit_reach.proofs.Holding.{got}
 use Rattle.wit_well_formed.proofs.Lists.{got_mapped}
-use Rattle.wit_well_formed.proofs.Counted.{interface_item}
+use Rattle.wit_well_formed.proofs.Counted.{interface_item, world_item}
 use Rattle.wit_well_formed.proofs.Sorts.{AskOfOne}
 
 -- ---- counts
@@ -60,6 +60,11 @@ many (suc n) is has =
 abbrev pub asked_items : List ItemEntry → List AstItem
 asked_items es = map (λ (e : ItemEntry). e.1.0) es
 
+-- what is asked for as the entries have it
+twice : (es : List ItemEntry) → map (λ (x : AstItem × Vec Stability Global). x.0) (map (λ (e : ItemEntry). e.1) es) ≡ asked_items es
+twice [] = refl
+twice (e ∷ es) = ap (λ (is : List AstItem). e.1.0 ∷ is) (twice es)
+
 items_counted : (c : Counts) (xs : List (AstItem × Vec Stability Global)) → (with_items c xs).interfaces ≡ c.interfaces + count (map (λ (x : AstItem × Vec Stability Global). x.0) xs)
 items_counted c [] = omega arith
 items_counted c ((ids.Interface k, v) ∷ xs) = let h = items_counted (record c { interfaces = c.interfaces + 1 }) xs in omega (arith, h)
@@ -74,10 +79,52 @@ deps_counted c (d ∷ ds) =
     let same : count (map (λ (x : AstItem × Vec Stability Global). x.0) xs) ≡ count (asked_items d) = ap count (twice d) in
     let both : count (flat_map asked_items (d ∷ ds)) ≡ count (asked_items d) + count (flat_map asked_items ds) = count_more (asked_items d) (flat_map asked_items ds) in
     omega (arith, rest, one, same, both)
+
+-- and of worlds
+
+abbrev count_worlds : List AstItem → ℕ
+count_worlds [] = 0
+count_worlds (i ∷ is) = world_count i + count_worlds is
+
+worlds_more : (xs ys : List AstItem) → count_worlds (xs ++ ys) ≡ count_worlds xs + count_worlds ys
+worlds_more [] ys = omega arith
+worlds_more (x ∷ xs) ys = let h = worlds_more xs ys in omega (arith, h)
+
+-- a list that has so many different worlds counts as many
+many_worlds : (n : ℕ) (is : List AstItem) → ((j : ℕ) → j < n → Has is (ids.World j)) → n ≤ count_worlds is
+many_worlds zero is has = omega arith
+many_worlds (suc n) is has =
+    let at = has n (omega arith) in
+    let s = get_split is at.0 (ids.World n) at.1 in
+    let left : (j : ℕ) → j < n → Has (s.0 ++ s.1) (ids.World j) = λ j less. other s.0 s.1 j less (subst (λ (xs : List AstItem). Has xs (ids.World j)) s.2 (has j (omega (arith, less)))) in
+    let fewer : n ≤ count_worlds (s.0 ++ s.1) = many_worlds n (s.0 ++ s.1) left in
+    let whole : count_worlds is ≡ count_worlds s.0 + count_worlds (ids.World n ∷ s.1) = ap count_worlds s.2 ∙ worlds_more s.0 (ids.World n ∷ s.1) in
+    let rest : count_worlds (s.0 ++ s.1) ≡ count_worlds s.0 + count_worlds s.1 = worlds_more s.0 s.1 in
+    omega (arith, fewer, whole, rest)
   where
-    twice : (es : List ItemEntry) → map (λ (x : AstItem × Vec Stability Global). x.0) (map (λ (e : ItemEntry). e.1) es) ≡ asked_items es
-    twice [] = refl
-    twice (e ∷ es) = ap (λ (is : List AstItem). e.1.0 ∷ is) (twice es)
+    other : (xs ys : List AstItem) (j : ℕ) → j < n → Has (xs ++ ids.World n ∷ ys) (ids.World j) → Has (xs ++ ys) (ids.World j)
+    other xs ys j less h = elim (either xs (ids.World n ∷ ys) (ids.World j) h) as (λ _. Has (xs ++ ys) (ids.World j)) [
+      | inl in_front ↦ has_left xs ys (ids.World j) in_front
+      | inr behind ↦ elim (has_cases (ids.World n) ys (ids.World j) behind) as (λ _. Has (xs ++ ys) (ids.World j)) [
+        | inl same ↦ (let e : j ≡ n = cc in absurd (omega (arith, e, less)))
+        | inr later ↦ has_right xs ys (ids.World j) later
+      ]
+    ]
+
+worlds_in_items : (c : Counts) (xs : List (AstItem × Vec Stability Global)) → (with_items c xs).worlds ≡ c.worlds + count_worlds (map (λ (x : AstItem × Vec Stability Global). x.0) xs)
+worlds_in_items c [] = omega arith
+worlds_in_items c ((ids.Interface k, v) ∷ xs) = let h = worlds_in_items (record c { interfaces = c.interfaces + 1 }) xs in omega (arith, h)
+worlds_in_items c ((ids.World k, v) ∷ xs) = let h = worlds_in_items (record c { worlds = c.worlds + 1 }) xs in omega (arith, h)
+
+worlds_in_deps : (c : Counts) (ds : List (List ItemEntry)) → (with_deps c ds).worlds ≡ c.worlds + count_worlds (flat_map asked_items ds)
+worlds_in_deps c [] = omega arith
+worlds_in_deps c (d ∷ ds) =
+    let xs = map (λ (e : ItemEntry). e.1) d in
+    let rest : (with_deps (with_items c xs) ds).worlds ≡ (with_items c xs).worlds + count_worlds (flat_map asked_items ds) = worlds_in_deps (with_items c xs) ds in
+    let one : (with_items c xs).worlds ≡ c.worlds + count_worlds (map (λ (x : AstItem × Vec Stability Global). x.0) xs) = worlds_in_items c xs in
+    let same : count_worlds (map (λ (x : AstItem × Vec Stability Global). x.0) xs) ≡ count_worlds (asked_items d) = ap count_worlds (twice d) in
+    let both : count_worlds (flat_map asked_items (d ∷ ds)) ≡ count_worlds (asked_items d) + count_worlds (flat_map asked_items ds) = worlds_more (asked_items d) (flat_map asked_items ds) in
+    omega (arith, rest, one, same, both)
 
 -- ---- parts
 
@@ -159,3 +206,19 @@ module _ (needs : List NeedTree) (items : Items) (are : AreItemsOf needs items) 
           let x = got_mapped (λ (d : PackageName × IndexMap (String Global) (AstItem × Vec Stability Global) S). (d.0, d.1.entries)) es h.1.0 e h.1.1 in
           let at : Has (items_of es) e.1 = (h.1.0, slice_get-map (λ (d : PackageName × IndexMap (String Global) (AstItem × Vec Stability Global) S). d.1.entries) es h.1.0 ∙ ap (option_map (λ (d : PackageName × IndexMap (String Global) (AstItem × Vec Stability Global) S). d.1.entries)) x.1 ∙ ap (λ (z : PackageEntry). Some z.1) x.2) in
           flat_has asked_items (items_of es) e.1 (ids.Interface j) at h.2
+
+  pub worlds_counted : {S : Type 0} (es : List (PackageName × IndexMap (String Global) (AstItem × Vec Stability Global) S)) (spans : List Span) → AreDeps items needs (package_entries es) spans → worlds_in items ≤ (counts_of (items_of es)).worlds
+  worlds_counted {S} es spans deps =
+      let all : worlds_in items ≤ count_worlds (flat_map asked_items (items_of es)) = many_worlds (worlds_in items) (flat_map asked_items (items_of es)) (λ j less. there j less) in
+      let sum : (counts_of (items_of es)).worlds ≡ 0 + count_worlds (flat_map asked_items (items_of es)) = worlds_in_deps (record { interfaces = 0; worlds = 0 }) (items_of es) in
+      omega (arith, all, sum)
+    where
+      there : (j : ℕ) → j < worlds_in items → Has (flat_map asked_items (items_of es)) (ids.World j)
+      there j less =
+          let item = world_item needs items are j less in
+          let need = are.needed item.0 (ids.World j) item.1 in
+          let h = item_asked (package_entries es) spans deps need.0 need.1 (ids.World j) (subst (λ (w : Owner). Has items (w, ids.World j)) (sym need.2) item.1) in
+          let e = h.0 in
+          let x = got_mapped (λ (d : PackageName × IndexMap (String Global) (AstItem × Vec Stability Global) S). (d.0, d.1.entries)) es h.1.0 e h.1.1 in
+          let at : Has (items_of es) e.1 = (h.1.0, slice_get-map (λ (d : PackageName × IndexMap (String Global) (AstItem × Vec Stability Global) S). d.1.entries) es h.1.0 ∙ ap (option_map (λ (d : PackageName × IndexMap (String Global) (AstItem × Vec Stability Global) S). d.1.entries)) x.1 ∙ ap (λ (z : PackageEntry). Some z.1) x.2) in
+          flat_has asked_items (items_of es) e.1 (ids.World j) at h.2

@@ -1,0 +1,267 @@
+-- A graph with a package that came to it has owners of all that it holds.
+use Rattle.std.proofs.Common.{◌≡◌, ◌<◌, ℕ, ◌+◌, suc, Bool, true, List, [], ◌∷◌, ◌++◌, map, length, length-append, drop, Option, Some, None, inl, inr, refl, sym, subst, ap, ◌∙◌, arith}
+use Rattle.std.proofs.lemmas.Option.{slice_get_within}
+use Rattle.std.specs.Prelude.{String, if◌then◌else◌, string_bytes, slice_get}
+use Rattle.std.specs.declared.alloc.Global.{Global}
+use Rattle.wit_order.specs.Order as order
+use Rattle.wit_order.specs.Places.{Rows}
+use Rattle.wit_types.specs.declared.interface.Interface.{Interface}
+use Rattle.wit_types.specs.declared.interface.TypeOwner.{TypeOwner}
+use Rattle.wit_types.specs.declared.interface.TypeOwner.TheVariants as belongs
+use Rattle.wit_types.specs.declared.stability.Stability.{Stability}
+use Rattle.wit_types.specs.declared.«package».Package.{Package}
+use Rattle.wit_types.specs.declared.«package».PackageName.{PackageName}
+use Rattle.wit_types.specs.declared.«package».UnresolvedPackage.{UnresolvedPackage}
+use Rattle.wit_types.specs.declared.world.World.{World}
+use Rattle.wit_features.specs.Features.{FeatureSet}
+use Rattle.wit_moves.specs.Moved.{place_of, to}
+use Rattle.wit_moves.specs.Plan.{OwnerPlaces, is_owner_placed, moved_owner}
+use Rattle.wit_finding.specs.Own.{placed}
+use Rattle.wit_placed.proofs.Finding.{has_or}
+use Rattle.wit_placed.proofs.Holding.{goes_to}
+use Rattle.wit_placed.proofs.Members.{has_get}
+use Rattle.wit_placed.proofs.Own.{interface_from, worlds_take_places_alone}
+use Rattle.wit_plans.specs.Checks.{Standing}
+use Rattle.wit_plans.specs.Moves.{AreMovedInterfaces, no_interfaces, interface_goes, interface_stays, AreMovedWorlds, no_worlds, world_goes, world_stays}
+use Rattle.wit_plans.specs.Plans.{standing}
+use Rattle.wit_plans.specs.declared.moves.MovedWorld.{MovedWorld}
+use Rattle.wit_graph_worlds.specs.Added.{AreAdded, none_added, one_added}
+use Rattle.wit_graph_worlds.specs.Names.{Pair, by_bytes, name_at, interface_names, world_names}
+use Rattle.wit_graph_worlds.specs.Worlds.{State}
+use Rattle.wit_graph_parts.specs.Own.{asked, own_parts}
+use Rattle.wit_graph.specs.Graph.{Graph}
+use Rattle.wit_graph.specs.Push.{IsPushed}
+use Rattle.wit_arena.specs.Tree.{PackageText, Place, in_interface, in_world, Owner}
+use Rattle.wit_arena.specs.Unfold.{Owners, owner_of}
+use Rattle.wit_arena.specs.Meaning.{Has}
+use Rattle.wit_arena.proofs.Lists.{has_none, has_map, get_kept, get_more}
+use Rattle.wit_pushed_trees.specs.Asked.{text_of}
+use Rattle.wit_pushed_trees.specs.Found.{TellsNamesApart, NamesOfGraphStand, IsInterfaceOf, IsWorldOf, AreFoundByName}
+use Rattle.wit_pushed_trees.specs.Owned.{AreOwnersOf, AreOwned, EmptyGraphsAreOwned, PushedGraphsAreOwned}
+use Rattle.wit_pushed_trees.proofs.Finding.{asked_found, same_text}
+use Rattle.wit_pushed_trees.proofs.Owning.{same_drop, kept_owners, owner_there, table_so}
+
+pub empty_owned : EmptyGraphsAreOwned
+empty_owned = record {
+  so_many_interfaces = refl;
+  so_many_worlds = refl;
+  interfaces_are = λ w j is. absurd (has_none is.«package» is.there);
+  worlds_are = λ w j is. absurd (has_none is.«package» is.there);
+}
+
+same_owner : (w : Owner) (t : PackageText) (o : Place) → w.package_text ≡ t → w.place ≡ o → record { package_text = t; place = o } ≡ w
+same_owner w t o e f = subst (λ (x : PackageText). record { package_text = x; place = o } ≡ w) e (subst (λ (x : Place). record { package_text = w.package_text; place = x } ≡ w) f refl)
+
+-- ---- so many
+
+abbrev interface_gate : Interface → Stability
+interface_gate d = d.stability
+
+abbrev world_gate : World → Stability
+world_gate w = w.stability
+
+interfaces_kept : (features : FeatureSet) (s : Standing) (owner : ℕ) (ds es : List Interface) (os : List Owner) → AreMovedInterfaces features s owner ds es → length os ≡ length ds → length (kept_owners features interface_gate ds os) ≡ length es
+interfaces_kept features s owner _ _ os no_interfaces e = refl
+interfaces_kept features s owner _ _ [] (interface_goes d ds es st rest) e = absurd (omega (arith, e))
+interfaces_kept features s owner _ _ (o ∷ os) (interface_goes d ds es st rest) e =
+    ap (λ (b : Bool). length (if b then o ∷ kept_owners features interface_gate ds os else kept_owners features interface_gate ds os)) st ∙ interfaces_kept features s owner ds es os rest (omega (arith, e))
+interfaces_kept features s owner _ _ [] (interface_stays d g ds es st is rest) e = absurd (omega (arith, e))
+interfaces_kept features s owner _ _ (o ∷ os) (interface_stays d g ds es st is rest) e =
+    let r = interfaces_kept features s owner ds es os rest (omega (arith, e)) in
+    ap (λ (b : Bool). length (if b then o ∷ kept_owners features interface_gate ds os else kept_owners features interface_gate ds os)) st ∙ (let q : length (o ∷ kept_owners features interface_gate ds os) ≡ length (g ∷ es) = omega (arith, r) in q)
+
+worlds_kept : (features : FeatureSet) (s : Standing) (ws : List World) (ms : List MovedWorld) (os : List Owner) → AreMovedWorlds features s ws ms → length os ≡ length ws → length (kept_owners features world_gate ws os) ≡ length ms
+worlds_kept features s _ _ os no_worlds e = refl
+worlds_kept features s _ _ [] (world_goes w ws ms st rest) e = absurd (omega (arith, e))
+worlds_kept features s _ _ (o ∷ os) (world_goes w ws ms st rest) e =
+    ap (λ (b : Bool). length (if b then o ∷ kept_owners features world_gate ws os else kept_owners features world_gate ws os)) st ∙ worlds_kept features s ws ms os rest (omega (arith, e))
+worlds_kept features s _ _ [] (world_stays w m ws ms st is rest) e = absurd (omega (arith, e))
+worlds_kept features s _ _ (o ∷ os) (world_stays w m ws ms st is rest) e =
+    let r = worlds_kept features s ws ms os rest (omega (arith, e)) in
+    ap (λ (b : Bool). length (if b then o ∷ kept_owners features world_gate ws os else kept_owners features world_gate ws os)) st ∙ (let q : length (o ∷ kept_owners features world_gate ws os) ≡ length (m ∷ ms) = omega (arith, r) in q)
+
+worlds_added : (interfaces : List Interface) (uses : Rows) (owner : ℕ) (ms : List MovedWorld) (s t : State) → AreAdded interfaces uses owner ms s t → length t.worlds.listed ≡ length s.worlds.listed + length ms
+worlds_added interfaces uses owner _ s _ (none_added _) = omega arith
+worlds_added interfaces uses owner _ s u (one_added ms m _ t _ before a) =
+    let r = worlds_added interfaces uses owner ms s t before in
+    let one : length u.worlds.listed ≡ length t.worlds.listed + 1 = ap length a.listed_are ∙ length-append t.worlds.listed (a.listed ∷ []) in
+    let more : length (ms ++ m ∷ []) ≡ length ms + 1 = length-append ms (m ∷ []) in
+    omega (arith, r, one, more)
+
+-- ---- names of what came
+
+record IsNameOfInterface (first : ℕ) (ds : List Interface) (e : Pair) : Type 0 where
+  place : ℕ
+  one : Interface
+  name : String Global
+  index : e.1 ≡ first + place
+  there : slice_get ds place ≡ Some one
+  named : one.name ≡ Some name
+  text : e.0 ≡ string_bytes name
+
+interface_name : (first : ℕ) (d : Interface) (ds : List Interface) (n : Option (String Global)) → d.name ≡ n → (e : Pair) → order.Has (name_at first n) e → IsNameOfInterface first (d ∷ ds) e
+interface_name first d ds None is e h = absurd h
+interface_name first d ds (Some x) is e (inl here) = record { place = 0; one = d; name = x; index = (let i : e.1 ≡ first = ap (λ (q : Pair). q.1) here in omega (arith, i)); there = refl; named = is; text = ap (λ (q : Pair). q.0) here }
+interface_name first d ds (Some x) is e (inr none) = absurd none
+
+interface_names_are : (first : ℕ) (ds : List Interface) (e : Pair) → order.Has (interface_names first ds) e → IsNameOfInterface first ds e
+interface_names_are first [] e h = absurd h
+interface_names_are first (d ∷ ds) e h = elim (has_or (name_at first d.name) (interface_names (suc first) ds) e h) as (λ _. IsNameOfInterface first (d ∷ ds) e) [
+  | inl here ↦ interface_name first d ds d.name refl e here
+  | inr later ↦
+      let r = interface_names_are (suc first) ds e later in
+      record { place = suc r.place; one = r.one; name = r.name; index = (let i : e.1 ≡ suc first + r.place = r.index in omega (arith, i)); there = r.there; named = r.named; text = r.text }
+]
+
+record IsNameOfWorld (first : ℕ) (ms : List MovedWorld) (e : Pair) : Type 0 where
+  place : ℕ
+  one : MovedWorld
+  index : e.1 ≡ first + place
+  there : slice_get ms place ≡ Some one
+  text : e.0 ≡ string_bytes one.name
+
+world_names_are : (first : ℕ) (ms : List MovedWorld) (e : Pair) → order.Has (world_names first ms) e → IsNameOfWorld first ms e
+world_names_are first [] e h = absurd h
+world_names_are first (m ∷ ms) e h = elim h as (λ _. IsNameOfWorld first (m ∷ ms) e) [
+  | inl here ↦ record { place = 0; one = m; index = (let i : e.1 ≡ first = ap (λ (q : Pair). q.1) here in omega (arith, i)); there = refl; text = ap (λ (q : Pair). q.0) here }
+  | inr later ↦
+      let r = world_names_are (suc first) ms e later in
+      record { place = suc r.place; one = r.one; index = (let i : e.1 ≡ suc first + r.place = r.index in omega (arith, i)); there = r.there; text = r.text }
+]
+
+-- ---- all of it
+
+module _ (package_owners owners : Owners) (eq : PackageName → PackageName → Bool) (features : FeatureSet) (old : Graph) (p : UnresolvedPackage) (new : Graph) (id : ℕ)
+    (tells : TellsNamesApart eq) (stand : NamesOfGraphStand old) (owned : AreOwned owners old.tables) (are : AreOwnersOf package_owners p) (h : IsPushed eq features old p new id)
+  where
+    found : AreFoundByName old.tables.packages package_owners h.foreign.interfaces h.foreign.worlds
+    found = asked_found eq features old.names old.tables.packages package_owners p h.foreign.interfaces h.foreign.worlds tells stand are.asks h.are_places.found
+
+    asked_interfaces : length h.foreign.interfaces ≡ (asked p).interfaces
+    asked_interfaces = h.are_places.found.interfaces_are.all
+
+    asked_worlds : length h.foreign.worlds ≡ (asked p).worlds
+    asked_worlds = h.are_places.found.worlds_are.all
+
+    abbrev all : Owners
+    all = record {
+      interfaces = owners.interfaces ++ kept_owners features interface_gate (own_parts p).interfaces (drop (length h.foreign.interfaces) package_owners.interfaces);
+      worlds = owners.worlds ++ kept_owners features world_gate (own_parts p).worlds (drop (length h.foreign.worlds) package_owners.worlds);
+    }
+
+    own_interfaces : length (drop (length h.foreign.interfaces) package_owners.interfaces) ≡ length (own_parts p).interfaces
+    own_interfaces = same_drop (length h.foreign.interfaces) package_owners.interfaces p.interfaces are.so_many_interfaces ∙ ap (λ (n : ℕ). length (drop n p.interfaces)) asked_interfaces
+
+    own_worlds : length (drop (length h.foreign.worlds) package_owners.worlds) ≡ length (own_parts p).worlds
+    own_worlds = same_drop (length h.foreign.worlds) package_owners.worlds p.worlds are.so_many_worlds ∙ ap (λ (n : ℕ). length (drop n p.worlds)) asked_worlds
+
+    found_interface : (i j : ℕ) → place_of h.foreign.interfaces i ≡ Some j → (w : Owner) × (slice_get owners.interfaces j ≡ Some w) × (slice_get package_owners.interfaces i ≡ Some w)
+    found_interface i j at = (let f = found.interfaces_are i j at in (f.0, owned.interfaces_are f.0 j f.2, f.1))
+
+    found_world : (i j : ℕ) → place_of h.foreign.worlds i ≡ Some j → (w : Owner) × (slice_get owners.worlds j ≡ Some w) × (slice_get package_owners.worlds i ≡ Some w)
+    found_world i j at = (let f = found.worlds_are i j at in (f.0, owned.worlds_are f.0 j f.2, f.1))
+
+    interface_there : (i j : ℕ) → place_of (placed features h.foreign.interfaces (length old.tables.interfaces.all) (map interface_gate (own_parts p).interfaces)) i ≡ Some j → slice_get all.interfaces j ≡ slice_get package_owners.interfaces i
+    interface_there = owner_there features interface_gate h.foreign.interfaces (length old.tables.interfaces.all) (own_parts p).interfaces package_owners.interfaces owners.interfaces owned.so_many_interfaces own_interfaces found_interface
+
+    world_there : (i j : ℕ) → place_of (placed features h.foreign.worlds (length old.tables.worlds.listed) (map world_gate (own_parts p).worlds)) i ≡ Some j → slice_get all.worlds j ≡ slice_get package_owners.worlds i
+    world_there = owner_there features world_gate h.foreign.worlds (length old.tables.worlds.listed) (own_parts p).worlds package_owners.worlds owners.worlds owned.so_many_worlds own_worlds found_world
+
+    -- ---- whose what stands is
+
+    owners_are : (o : TypeOwner) → is_owner_placed h.owners o ≡ true → owner_of all (moved_owner h.owners o) ≡ owner_of package_owners o
+    owners_are (belongs.Interface i) is =
+        let at : place_of h.owners.interfaces i ≡ Some (to h.owners.interfaces i) = goes_to h.owners.interfaces i (to h.owners.interfaces i) is refl in
+        interface_there i (to h.owners.interfaces i) (subst (λ (o : OwnerPlaces). place_of o.interfaces i ≡ Some (to h.owners.interfaces i)) h.are_places.planned.owners_are at)
+    owners_are (belongs.World i) is =
+        let at : place_of h.owners.worlds i ≡ Some (to h.owners.worlds i) = goes_to h.owners.worlds i (to h.owners.worlds i) is refl in
+        world_there i (to h.owners.worlds i) (subst (λ (o : OwnerPlaces). place_of o.worlds i ≡ Some (to h.owners.worlds i)) h.are_places.planned.owners_are at)
+    owners_are belongs.None is = refl
+
+    -- ---- what has names
+
+    text : text_of p.name ≡ text_of h.put.added.q.name
+    text = same_text p.name h.put.same h.put.is_same ∙ ap text_of (sym h.put.added.is_package.name_is)
+
+    interface_is : (e : Pair) → order.Has (interface_names (length old.tables.interfaces.all) h.put.added.parts.own_interfaces.moved) e → slice_get all.interfaces e.1 ≡ Some (record { package_text = text_of p.name; place = in_interface e.0 })
+    interface_is e has =
+        let a = h.put.added.parts.own_interfaces in
+        let n = interface_names_are (length old.tables.interfaces.all) a.moved e has in
+        let from = interface_from features (standing h.owners h.places) (length old.tables.packages) h.foreign.interfaces (length old.tables.interfaces.all) (own_parts p).interfaces a.moved a.are_moved n.place n.one n.there in
+        let own = are.interfaces_are from.place from.old n.name from.was (sym from.moved.name ∙ n.named) in
+        ap (slice_get all.interfaces) n.index ∙ interface_there (length h.foreign.interfaces + from.place) (length old.tables.interfaces.all + n.place) from.stands
+        ∙ ap (λ (m : ℕ). slice_get package_owners.interfaces (m + from.place)) asked_interfaces ∙ own ∙ ap (λ (x : List ℕ). Some (record { package_text = text_of p.name; place = in_interface x })) (sym n.text)
+
+    world_is : (e : Pair) → order.Has (world_names (length old.tables.worlds.listed) h.put.added.parts.own_worlds.moved) e → slice_get all.worlds e.1 ≡ Some (record { package_text = text_of p.name; place = in_world e.0 })
+    world_is e has =
+        let a = h.put.added.parts.own_worlds in
+        let n = world_names_are (length old.tables.worlds.listed) a.moved e has in
+        let from = worlds_take_places_alone features (standing h.owners h.places) h.foreign.worlds (length old.tables.worlds.listed) (own_parts p).worlds a.moved
+        (λ i j at. (let f = found_world i j at in let l : j < length owners.worlds = slice_get_within owners.worlds j f.0 f.1 in let e = owned.so_many_worlds in omega (arith, l, e))) a.are_moved n.place n.one n.there in
+        let own = are.worlds_are from.place from.old from.was in
+        ap (slice_get all.worlds) n.index ∙ world_there (length h.foreign.worlds + from.place) (length old.tables.worlds.listed + n.place) from.stands
+        ∙ ap (λ (m : ℕ). slice_get package_owners.worlds (m + from.place)) asked_worlds ∙ own
+        ∙ ap (λ (x : List ℕ). Some (record { package_text = text_of p.name; place = in_world x })) (sym (n.text ∙ ap string_bytes from.moved.name))
+
+    interface_named : (w : Owner) (j : ℕ) → IsInterfaceOf new.tables.packages w j → slice_get all.interfaces j ≡ Some w
+    interface_named w j is =
+        let q : Package = h.put.added.q in
+        let there : Has (old.tables.packages ++ q ∷ []) is.«package» = subst (λ (ps : List Package). Has ps is.«package») h.put.added.packages_are is.there in
+        elim (get_more old.tables.packages q is.«package» there.0 there.1) as (λ _. slice_get all.interfaces j ≡ Some w) [
+          | inl was ↦
+              get_kept owners.interfaces (kept_owners features interface_gate (own_parts p).interfaces (drop (length h.foreign.interfaces) package_owners.interfaces)) j w
+              (owned.interfaces_are w j record { «package» = is.«package»; there = (there.0, was); text = is.text; name = is.name; listed = is.listed; place_is = is.place_is })
+          | inr last ↦
+              let names : List (String Global × ℕ) = h.put.added.interface_names in
+              let listed : Has names (is.name, j) = subst (λ (es : List (String Global × ℕ)). Has es (is.name, j)) h.put.added.is_package.interfaces_are (subst (λ (r : Package). Has r.interfaces.entries (is.name, j)) last.1 is.listed) in
+              let mapped = has_map by_bytes names (is.name, j) listed in
+              table_so (λ (e : Pair). slice_get all.interfaces e.1 ≡ Some (record { package_text = text_of p.name; place = in_interface e.0 })) (interface_names (length old.tables.interfaces.all) h.put.added.parts.own_interfaces.moved) names
+              h.put.added.parts.own_interfaces.named interface_is (is.name, j) (has_get (map by_bytes names) mapped.0 (by_bytes (is.name, j)) mapped.1)
+              ∙ ap (λ (o : Owner). Some o) (same_owner w (text_of p.name) (in_interface (string_bytes is.name)) (is.text ∙ ap (λ (r : Package). text_of r.name) last.1 ∙ sym text) is.place_is)
+        ]
+
+    world_named : (w : Owner) (j : ℕ) → IsWorldOf new.tables.packages w j → slice_get all.worlds j ≡ Some w
+    world_named w j is =
+        let q : Package = h.put.added.q in
+        let there : Has (old.tables.packages ++ q ∷ []) is.«package» = subst (λ (ps : List Package). Has ps is.«package») h.put.added.packages_are is.there in
+        elim (get_more old.tables.packages q is.«package» there.0 there.1) as (λ _. slice_get all.worlds j ≡ Some w) [
+          | inl was ↦
+              get_kept owners.worlds (kept_owners features world_gate (own_parts p).worlds (drop (length h.foreign.worlds) package_owners.worlds)) j w
+              (owned.worlds_are w j record { «package» = is.«package»; there = (there.0, was); text = is.text; name = is.name; listed = is.listed; place_is = is.place_is })
+          | inr last ↦
+              let names : List (String Global × ℕ) = h.put.added.world_names in
+              let listed : Has names (is.name, j) = subst (λ (es : List (String Global × ℕ)). Has es (is.name, j)) h.put.added.is_package.worlds_are (subst (λ (r : Package). Has r.worlds.entries (is.name, j)) last.1 is.listed) in
+              let mapped = has_map by_bytes names (is.name, j) listed in
+              table_so (λ (e : Pair). slice_get all.worlds e.1 ≡ Some (record { package_text = text_of p.name; place = in_world e.0 })) (world_names (length old.tables.worlds.listed) h.put.added.parts.own_worlds.moved) names
+              h.put.added.parts.own_worlds.named world_is (is.name, j) (has_get (map by_bytes names) mapped.0 (by_bytes (is.name, j)) mapped.1)
+              ∙ ap (λ (o : Owner). Some o) (same_owner w (text_of p.name) (in_world (string_bytes is.name)) (is.text ∙ ap (λ (r : Package). text_of r.name) last.1 ∙ sym text) is.place_is)
+        ]
+
+    all_owned : AreOwned all new.tables
+    all_owned = record {
+      so_many_interfaces =
+          let a = h.put.added.parts.own_interfaces in
+          let front = length-append owners.interfaces (kept_owners features interface_gate (own_parts p).interfaces (drop (length h.foreign.interfaces) package_owners.interfaces)) in
+          let kept = interfaces_kept features (standing h.owners h.places) (length old.tables.packages) (own_parts p).interfaces a.moved (drop (length h.foreign.interfaces) package_owners.interfaces) a.are_moved own_interfaces in
+          let back = length-append old.tables.interfaces.all a.moved in
+          let there : length new.tables.interfaces.all ≡ length (old.tables.interfaces.all ++ a.moved) = ap length a.added.all_are in
+          let was = owned.so_many_interfaces in
+          omega (arith, front, kept, back, there, was);
+      so_many_worlds =
+          let a = h.put.added.parts.own_worlds in
+          let front = length-append owners.worlds (kept_owners features world_gate (own_parts p).worlds (drop (length h.foreign.worlds) package_owners.worlds)) in
+          let kept = worlds_kept features (standing h.owners h.places) (own_parts p).worlds a.moved (drop (length h.foreign.worlds) package_owners.worlds) a.are_moved own_worlds in
+          let there = worlds_added _ _ _ _ _ _ a.added in
+          let was = owned.so_many_worlds in
+          omega (arith, front, kept, there, was);
+      interfaces_are = interface_named;
+      worlds_are = world_named;
+    }
+
+pub pushed_owned : PushedGraphsAreOwned
+pushed_owned package_owners owners eq features old p new id tells stand owned are h = record {
+  all = all package_owners owners eq features old p new id tells stand owned are h;
+  more = record { interfaces = _; interfaces_are = refl; worlds = _; worlds_are = refl };
+  owned = all_owned package_owners owners eq features old p new id tells stand owned are h;
+  owners_are = owners_are package_owners owners eq features old p new id tells stand owned are h;
+}
