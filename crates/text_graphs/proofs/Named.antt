@@ -1,17 +1,11 @@
 -- Graphs that come of texts are named.
-use Rattle.std.proofs.Common.{◌≡◌, ℕ, Bool, List, [], ◌∷◌}
-use Rattle.wit_words.specs.Sources.{SourceText}
-use Rattle.wit_order.specs.Order.{Has}
+use Rattle.std.proofs.Common.{Bool, []}
 use Rattle.wit_types.specs.declared.«package».PackageName.{PackageName}
 use Rattle.wit_types.specs.declared.«package».UnresolvedPackage.{UnresolvedPackage}
-use Rattle.wit_features.specs.Features.{FeatureSet}
-use Rattle.wit_offsets.specs.Offsets.{package_at}
-use Rattle.wit_package.specs.Group.{AreParsed}
 use Rattle.wit_labels.specs.Labels.{AreNamesWithinApart}
 use Rattle.wit_graph_parts.specs.Own.{IsWellFormed}
 use Rattle.wit_graph.specs.Graph as graph
 use Rattle.wit_graph.specs.Graph.{Graph, IsGraph}
-use Rattle.wit_graph.specs.Push.{IsPushed}
 use Rattle.wit_named_graphs.specs.Pushed.{IsNamedGraph, IsNamedPackage, PushedGraphsAreNamed}
 use Rattle.wit_named_packages.specs.Named.{ParsedPackagesAreNamed, MovedPackagesAreNamed}
 use Rattle.wit_new_names.specs.Names.{IsReadName, SeesSameNames}
@@ -22,9 +16,7 @@ use Rattle.wit_labelled_graphs.specs.Named.{AreWorldsNamed, HasNamedWorlds, Empt
 use Rattle.wit_labelled_packages.specs.Texts.{ParsedPackagesHaveNamesApart, ParsedPackagesHaveNamedWorlds, MovedPackagesHaveNamedWorlds}
 use Rattle.wit_well_formed.specs.Law.{ParsedPackagesAreWellFormed, MovedPackagesAreWellFormed}
 use Rattle.wit_well_formed.specs.Within.{MovedPackagesHaveNamesApart}
-use Rattle.wit_resolution.specs.Pushes.{Resolved}
-use Rattle.text_graphs.specs.Coming.{ComeOfTexts}
-use Rattle.text_graphs.specs.Graphs.{IsTextGraph, TextGraphsAreNamed}
+use Rattle.text_graphs.specs.Graphs.{TextGraphsAreNamed}
 use Rattle.text_graphs.proofs.Induction.{OfTexts, Moved, IsKept, of_texts_all}
 
 -- what is so of each package of texts

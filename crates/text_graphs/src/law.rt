@@ -1,6 +1,7 @@
 //! Laws of graphs that come of texts.
 
 ghost use Rattle.text_graphs.specs.Graphs.{NamesTellInterfacesApart, TextGraphsAreNamed};
+ghost use Rattle.text_graphs.specs.Owned.{TextGraphsHaveOwners};
 
 use wit_item_names::law_names_tell_interfaces_apart;
 use wit_labelled_graphs::{
@@ -14,6 +15,12 @@ use wit_labelled_packages::{
 use wit_named_graphs::law_pushed_graphs_are_named;
 use wit_named_packages::{law_moved_packages_are_named, law_parsed_packages_are_named};
 use wit_new_names::{law_empty_graphs_are_known, law_pushed_graphs_are_known};
+use wit_pushed_trees::{
+    law_empty_graphs_are_owned, law_empty_graphs_have_names_stand,
+    law_empty_graphs_have_types_known, law_moved_packages_have_owners, law_moved_types_are_known,
+    law_pushed_graphs_are_owned, law_pushed_graphs_have_names_stand, law_pushed_types_are_known,
+    law_resolved_packages_have_owners, law_resolved_types_are_known,
+};
 use wit_well_formed::{
     law_moved_packages_are_well_formed, law_moved_packages_have_names_apart,
     law_parsed_packages_are_well_formed,
@@ -50,4 +57,21 @@ pub fn law_text_names_tell_interfaces_apart()
 {
     law_names_tell_interfaces_apart();
     law_text_graphs_are_named();
+}
+
+/// In such a graph each name stands for a package of that name, all interfaces and worlds have owners, what a package has under a name being its own under
+/// that, and of each type more than its name is known: no `TypeDefKind::Unknown` is left (WIT, Packages, Package Names, Types).
+pub fn law_text_graphs_have_owners()
+    ensures { TextGraphsHaveOwners }
+{
+    law_resolved_packages_have_owners();
+    law_moved_packages_have_owners();
+    law_empty_graphs_are_owned();
+    law_pushed_graphs_are_owned();
+    law_empty_graphs_have_names_stand();
+    law_pushed_graphs_have_names_stand();
+    law_resolved_types_are_known();
+    law_moved_types_are_known();
+    law_empty_graphs_have_types_known();
+    law_pushed_types_are_known();
 }

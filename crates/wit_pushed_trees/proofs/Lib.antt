@@ -11,3 +11,4 @@ mod Owning
 mod Owned
 mod Resolved
 mod Agreeing
+mod Knowing

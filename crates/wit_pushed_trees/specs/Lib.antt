@@ -6,3 +6,4 @@ pub mod Asked
 pub mod Found
 pub mod Owned
 pub mod Agreed
+pub mod Known

@@ -3,6 +3,7 @@
 ghost use Rattle.wit_pushed_trees.specs.Agreed.{PushedPackagesAreAgreed};
 ghost use Rattle.wit_pushed_trees.specs.Asked.{MovedPackagesAskByName, ResolvedPackagesAskByName};
 ghost use Rattle.wit_pushed_trees.specs.Found.{AskedItemsAreFoundByName, AskedTypesStandForTheSame, EmptyNamesStand, EqualNamesAreTheSame, PushedNamesStand};
+ghost use Rattle.wit_pushed_trees.specs.Known.{EmptyTypesAreKnown, MovedTypesAreKnown, PushedTypesAreKnown, ResolvedTypesAreKnown};
 ghost use Rattle.wit_pushed_trees.specs.Owned.{EmptyGraphsAreOwned, MovedPackagesHaveOwners, PushedGraphsAreOwned, ResolvedPackagesHaveOwners};
 ghost use Rattle.wit_pushed_trees.specs.Packages.{MovedPackagesMeanTheirTexts, ResolvedPackagesMeanTheirTexts};
 ghost use Rattle.wit_pushed_trees.specs.Pushed.{PushedInterfacesMeanTheirTexts, PushedTypesStandForTheSame, PushedWorldsMeanTheirTexts};
@@ -112,4 +113,24 @@ pub fn law_pushed_graphs_are_owned()
 /// other packages, by the owners of what the graph holds then: the interfaces and worlds that came mean what their texts do (WIT, Packages, Use, Types).
 pub fn law_pushed_packages_are_agreed()
     ensures { PushedPackagesAreAgreed }
+{}
+
+/// More than their names is known of a package's own types, if files are resolved to it (WIT, Types, Use).
+pub fn law_resolved_types_are_known()
+    ensures { ResolvedTypesAreKnown }
+{}
+
+/// It is wherever the texts stand among others.
+pub fn law_moved_types_are_known()
+    ensures { MovedTypesAreKnown }
+{}
+
+/// It is of all types of a graph without packages.
+pub fn law_empty_graphs_have_types_known()
+    ensures { EmptyTypesAreKnown }
+{}
+
+/// It is of all types of a graph when `Graph::push` has answered for a package of which it is, if it was (WIT, Types, Use).
+pub fn law_pushed_types_are_known()
+    ensures { PushedTypesAreKnown }
 {}
