@@ -7,7 +7,7 @@ use Rattle.wit_resolution.specs.Own.{IsWellFormed}
 use Rattle.wit_resolution.specs.Law.{ParsedPackagesAreWellFormed}
 use Rattle.wit_resolution.specs.Groups.{packages_of, texts_of}
 use Rattle.wit_types.specs.declared.«package».UnresolvedPackage.{UnresolvedPackage}
-use Rattle.wit_resolution.specs.Pushes.{Resolved, AreGroupsPushed, IsGroupsError, AreGroupsRefused, AreTextsPushed, AreTextsError, AreTextsRefused}
+use Rattle.wit_resolution.specs.Pushes.{Resolved, AreGroupsPushed, IsGroupsError, AreGroupsRefused, AreTextsPushed, AreTextsError, AreTextsRefused, AreGroupTextsKept, AreTextsKept}
 use Rattle.wit_resolution.specs.Texts.{IsGroupOf, AreTextsLeft}
 use Rattle.wit_resolution.specs.declared.error.ResolveErrorKind.{ResolveErrorKind}
 use Rattle.wit_types.specs.declared.«package».PackageName.{PackageName}
@@ -26,6 +26,18 @@ left_of : (k : ℕ) (gs : List UnresolvedPackageGroup) → texts_of (take k gs) 
 left_of zero gs = refl
 left_of (suc k) [] = refl
 left_of (suc k) (g ∷ gs) = ap (λ (ts : List SourceText). g.source_map ++ ts) (left_of k gs)
+
+all_of : (gs : List UnresolvedPackageGroup) → texts_of gs ≡ flat_map (λ (ts : List SourceText). ts) (files_of_groups gs)
+all_of [] = refl
+all_of (g ∷ gs) = ap (λ (ts : List SourceText). g.source_map ++ ts) (all_of gs)
+
+kept_of : (old new : Resolved) (gs : List UnresolvedPackageGroup) (kind : ResolveErrorKind) → AreGroupTextsKept old gs kind new → AreTextsKept old (files_of_groups gs) kind new
+kept_of old new gs kind (AreGroupTextsKept.no_place none) = AreTextsKept.no_place none
+kept_of old new gs kind (AreGroupTextsKept.of_all fault is texts) = AreTextsKept.of_all fault is (texts ∙ ap (λ (ts : List SourceText). old.texts ++ ts) (all_of gs))
+
+pub texts_kept : (old new : Resolved) (gs : List UnresolvedPackageGroup) (r : Result ℕ ResolveErrorKind) → IfErr r (λ kind. AreGroupTextsKept old gs kind new) → IfErr r (λ kind. AreTextsKept old (files_of_groups gs) kind new)
+texts_kept old new gs (Ok id) h = h
+texts_kept old new gs (Err kind) h = kept_of old new gs kind h
 
 module _ (eq : PackageName → PackageName → Bool) (old new : Resolved) (gs : List UnresolvedPackageGroup) (all : AreRead gs) where
   pub pushed : (r : Result ℕ ResolveErrorKind) → IfOk r (AreGroupsPushed eq old gs new) → IfOk r (AreTextsPushed eq old (files_of_groups gs) new)

@@ -166,7 +166,8 @@ impl<'a> Session<'a> {
     /// Adds the packages of texts: of the texts that are the files of a package, and of each of the others, with those that are nested in
     /// them, each behind all on which it depends. Answers the id of the first. Refuses a text that isn't read (S1 to S8), files that break
     /// a rule (P1 to P11), and packages that don't come together (G1 to G7, G10), each with its place. A refused call leaves the packages
-    /// as they were; texts may be there (WIT, Packages).
+    /// as they were; texts are there, those of the package that isn't read, as far as they were, or all, but where it is refused for S8 or
+    /// want of memory: then maybe some (WIT, Packages).
     pub fn push_texts(
         &mut self,
         main: &[(&str, &str)],
@@ -175,6 +176,7 @@ impl<'a> Session<'a> {
         ensures ok { IfOk result (pushes.AreTextsPushed ⟦<PackageName as PartialEq>⟧.eq self.old.resolved (files_of (texts main.now) (texts deps.now)) self.new.resolved) }
         ensures cause { IfErr result (pushes.AreTextsError ⟦<PackageName as PartialEq>⟧.eq self.old.resolved (files_of (texts main.now) (texts deps.now))) }
         ensures err { OnErr result (pushes.AreTextsRefused ⟦<PackageName as PartialEq>⟧.eq self.old.resolved (files_of (texts main.now) (texts deps.now)) self.new.resolved) }
+        ensures texts { IfErr result (λ kind. pushes.AreTextsKept self.old.resolved (files_of (texts main.now) (texts deps.now)) kind self.new.resolved) }
         ensures rest { self.new ≡ record self.old { resolved = self.new.resolved } }
     {
         self.resolve.push_texts(main, deps)
@@ -185,6 +187,7 @@ impl<'a> Session<'a> {
         ensures ok { IfOk result (pushes.AreTextsPushed ⟦<PackageName as PartialEq>⟧.eq self.old.resolved (files_of (record { path = path.now; contents = contents.now } ∷ []) []) self.new.resolved) }
         ensures cause { IfErr result (pushes.AreTextsError ⟦<PackageName as PartialEq>⟧.eq self.old.resolved (files_of (record { path = path.now; contents = contents.now } ∷ []) [])) }
         ensures err { OnErr result (pushes.AreTextsRefused ⟦<PackageName as PartialEq>⟧.eq self.old.resolved (files_of (record { path = path.now; contents = contents.now } ∷ []) []) self.new.resolved) }
+        ensures texts { IfErr result (λ kind. pushes.AreTextsKept self.old.resolved (files_of (record { path = path.now; contents = contents.now } ∷ []) []) kind self.new.resolved) }
         ensures rest { self.new ≡ record self.old { resolved = self.new.resolved } }
     {
         self.push_texts([(path, contents)].as_slice(), [].as_slice())
@@ -201,6 +204,7 @@ impl<'a> Session<'a> {
         ensures ok { IfOk result (pushes.AreTextsPushed ⟦<PackageName as PartialEq>⟧.eq self.old.resolved (files_of_groups (main ∷ deps.items)) self.new.resolved) }
         ensures cause { IfErr result (pushes.AreTextsError ⟦<PackageName as PartialEq>⟧.eq self.old.resolved (files_of_groups (main ∷ deps.items))) }
         ensures err { OnErr result (pushes.AreTextsRefused ⟦<PackageName as PartialEq>⟧.eq self.old.resolved (files_of_groups (main ∷ deps.items)) self.new.resolved) }
+        ensures texts { IfErr result (λ kind. pushes.AreTextsKept self.old.resolved (files_of_groups (main ∷ deps.items)) kind self.new.resolved) }
         ensures rest { self.new ≡ record self.old { resolved = self.new.resolved } }
     {
         law_parsed_packages_are_well_formed();
@@ -213,6 +217,7 @@ impl<'a> Session<'a> {
         ensures ok { IfOk result (pushes.AreTextsPushed ⟦<PackageName as PartialEq>⟧.eq self.old.resolved (group.source_map ∷ []) self.new.resolved) }
         ensures cause { IfErr result (pushes.AreTextsError ⟦<PackageName as PartialEq>⟧.eq self.old.resolved (group.source_map ∷ [])) }
         ensures err { OnErr result (pushes.AreTextsRefused ⟦<PackageName as PartialEq>⟧.eq self.old.resolved (group.source_map ∷ []) self.new.resolved) }
+        ensures texts { IfErr result (λ kind. pushes.AreTextsKept self.old.resolved (group.source_map ∷ []) kind self.new.resolved) }
         ensures rest { self.new ≡ record self.old { resolved = self.new.resolved } }
     {
         self.push_groups(group, Vec::new(self.alloc))

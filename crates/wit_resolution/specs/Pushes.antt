@@ -1,5 +1,5 @@
 -- Packages that are pushed (WIT, Packages).
-use Rattle.std.specs.Prelude.{◌≡◌, ℕ, ◌+◌, ◌^◌, ◌≤◌, Bool, false, List, [], ◌++◌}
+use Rattle.std.specs.Prelude.{◌≡◌, ℕ, ◌+◌, ◌^◌, ◌≤◌, ◌⊎◌, Bool, false, List, [], ◌++◌, flat_map}
 use Rattle.std.specs.List.{AllZip}
 use Rattle.wit_words.specs.Sources.{SourceText, total}
 use Rattle.wit_order.specs.Order.{Has}
@@ -16,7 +16,7 @@ use Rattle.wit_graph_parts.specs.declared.fault.PushFault.{PushFault}
 use Rattle.wit_groups.specs.Pushed.{AreTogether, IsTogetherCause}
 use Rattle.wit_groups.specs.declared.fault.GroupFault.{GroupFault}
 use Rattle.wit_resolution.specs.Errors.{of_push, of_group, IsOfTexts}
-use Rattle.wit_resolution.specs.Texts.{IsGroupOf, AreTextsLeft}
+use Rattle.wit_resolution.specs.Texts.{IsGroupOf, IsUnread, AreTextsLeft}
 use Rattle.wit_resolution.specs.Groups.{packages_behind, texts_of, AllFit, SomePass, BeginBehind}
 use Rattle.wit_resolution.specs.declared.error.ResolveErrorKind.{ResolveErrorKind}
 use Rattle.wit_resolution.specs.declared.error.ResolveErrorKind.TheVariants.{TooLarge, OutOfMemory}
@@ -34,6 +34,21 @@ nothing_resolved = record { features = record { all = false; names = [] }; texts
 pub record IsKept (old new : Resolved) : Type 0 where
   pub features : new.features ≡ old.features
   pub graph : new.graph ≡ old.graph
+
+-- it has no place in texts
+abbrev pub HasNoPlace : ResolveErrorKind → Type 0
+HasNoPlace kind = (kind ≡ OutOfMemory) ⊎ (kind ≡ TooLarge)
+
+-- which texts are there when groups were refused: all, but where a refusal has no place
+pub data AreGroupTextsKept (old : Resolved) (gs : List UnresolvedPackageGroup) (kind : ResolveErrorKind) (new : Resolved) : Type 0 where
+  no_place : HasNoPlace kind → AreGroupTextsKept old gs kind new
+  of_all : (fault : GroupFault) → kind ≡ of_group fault → new.texts ≡ old.texts ++ texts_of gs → AreGroupTextsKept old gs kind new
+
+-- and when texts were: those of a package as far as they were read, or all
+pub data AreTextsKept (old : Resolved) (files : List (List SourceText)) (kind : ResolveErrorKind) (new : Resolved) : Type 0 where
+  no_place : HasNoPlace kind → AreTextsKept old files kind new
+  as_read : (texts read : List SourceText) (fault : PackageFault) → Has files texts → IsUnread texts read fault → IsOfTexts (total old.texts) fault kind → new.texts ≡ old.texts ++ read → AreTextsKept old files kind new
+  of_all : (fault : GroupFault) → kind ≡ of_group fault → new.texts ≡ old.texts ++ flat_map (λ (texts : List SourceText). texts) files → AreTextsKept old files kind new
 
 module _ (eq : PackageName → PackageName → Bool) (old : Resolved) where
   -- ---- a package, whose texts begin there

@@ -195,7 +195,8 @@ impl Resolve {
     /// Adds the packages of groups together, each behind all on which it depends, with all of them that stays; of all such orders it is the
     /// least, by their positions: the first group's package, those that are nested in its texts, and so on. The texts come behind the
     /// others. Answers the id of the first group's package. Refuses them for G1 to G7 and G10, each with its place, and for S8. A refused
-    /// call leaves the graph as it was; texts of theirs may be there (WIT, Packages).
+    /// call leaves the graph as it was; their texts are there, but where it is refused for S8 or want of memory: then maybe some
+    /// (WIT, Packages).
     fn push_all(&mut self, groups: Vec<UnresolvedPackageGroup>) -> Result<PackageId, ResolveError>
         requires some { 0 < length groups.items }
         requires whole { (g : UnresolvedPackageGroup) → Has groups.items g → (p : UnresolvedPackage) → Has (packages_of g) p → IsWellFormed p }
@@ -203,6 +204,7 @@ impl Resolve {
         ensures more { OnOk result (HasMorePackages self.old.graph self.new.graph) }
         ensures cause { IfErr result (spec.IsGroupsError ⟦<PackageName as PartialEq>⟧.eq self.old groups.items) }
         ensures err { OnErr result (spec.AreGroupsRefused ⟦<PackageName as PartialEq>⟧.eq self.old groups.items self.new) }
+        ensures texts { IfErr result (λ kind. spec.AreGroupTextsKept self.old groups.items kind self.new) }
     {
         law_moved_packages_are_well_formed();
         let packages = packages_of_groups(self.alloc, &mut self.source_map, groups)?;
@@ -212,7 +214,8 @@ impl Resolve {
     /// Adds the packages of a group together with those of others, each behind all on which it depends, with all of them that stays; of all
     /// such orders it is the least, by their positions: the group's package, those that are nested in its texts, and so on for the others.
     /// The texts come behind those that are there. Answers the id of the group's package. Refuses them for G1 to G7 and G10, each with its
-    /// place, and for S8. A refused call leaves the graph as it was; texts of theirs may be there (WIT, Packages).
+    /// place, and for S8. A refused call leaves the graph as it was; their texts are there, but where it is refused for S8 or want of
+    /// memory: then maybe some (WIT, Packages).
     pub fn push_groups(
         &mut self,
         main: UnresolvedPackageGroup,
@@ -224,6 +227,7 @@ impl Resolve {
         ensures more { OnOk result (HasMorePackages self.old.graph self.new.graph) }
         ensures cause { IfErr result (spec.IsGroupsError ⟦<PackageName as PartialEq>⟧.eq self.old (main ∷ deps.items)) }
         ensures err { OnErr result (spec.AreGroupsRefused ⟦<PackageName as PartialEq>⟧.eq self.old (main ∷ deps.items) self.new) }
+        ensures texts { IfErr result (λ kind. spec.AreGroupTextsKept self.old (main ∷ deps.items) kind self.new) }
     {
         let mut deps = deps;
         let mut groups = Vec::new(self.alloc);
@@ -239,14 +243,14 @@ impl Resolve {
         ensures more { OnOk result (HasMorePackages self.old.graph self.new.graph) }
         ensures cause { IfErr result (spec.IsGroupsError ⟦<PackageName as PartialEq>⟧.eq self.old (group ∷ [])) }
         ensures err { OnErr result (spec.AreGroupsRefused ⟦<PackageName as PartialEq>⟧.eq self.old (group ∷ []) self.new) }
+        ensures texts { IfErr result (λ kind. spec.AreGroupTextsKept self.old (group ∷ []) kind self.new) }
     {
         self.push_groups(group, Vec::new(self.alloc))
     }
 
-    /// Adds texts that aren't taken, and answers why they aren't.
+    /// Adds texts that aren't taken, and answers why they aren't; or none, where they can't be added, and why.
     fn refused(&mut self, texts: SourceMap, fault: PackageFault) -> ResolveError
-        ensures cause { IsOfTexts (total self.old.texts) fault result ⊎ IsSizeError (2 ^ 32 ≤ total self.old.texts + total texts) result }
-        ensures kept { (self.new ≡ self.old) ⊎ (self.new ≡ record self.old { texts = self.old.texts ++ texts }) }
+        ensures { (IsOfTexts (total self.old.texts) fault result × (self.new ≡ record self.old { texts = self.old.texts ++ texts })) ⊎ (IsSizeError (2 ^ 32 ≤ total self.old.texts + total texts) result × (self.new ≡ self.old)) }
     {
         match self.source_map.append(texts) {
             Ok(offset) => ResolveError::of_texts(fault, offset),
@@ -256,7 +260,8 @@ impl Resolve {
 
     /// Adds the packages of texts, which come behind the others: of the texts that are the files of a package, and of each of the others,
     /// with those that are nested in them, as `push_groups` does. Answers the id of the first. Refuses a text that isn't read (S1 to S8),
-    /// files that break a rule (P1 to P11), and what `push_groups` refuses. A refused call leaves the graph as it was; texts may be there
+    /// files that break a rule (P1 to P11), and what `push_groups` refuses. A refused call leaves the graph as it was; texts are there:
+    /// those of the package that isn't read, as far as they were, or all. Where it is refused for S8 or want of memory, maybe some are
     /// (WIT, Packages).
     pub fn push_texts(
         &mut self,
@@ -267,6 +272,7 @@ impl Resolve {
         ensures more { OnOk result (HasMorePackages self.old.graph self.new.graph) }
         ensures cause { IfErr result (spec.AreTextsError ⟦<PackageName as PartialEq>⟧.eq self.old (files_of (texts main.now) (texts deps.now))) }
         ensures err { OnErr result (spec.AreTextsRefused ⟦<PackageName as PartialEq>⟧.eq self.old (files_of (texts main.now) (texts deps.now)) self.new) }
+        ensures texts { IfErr result (λ kind. spec.AreTextsKept self.old (files_of (texts main.now) (texts deps.now)) kind self.new) }
     {
         law_parsed_packages_are_well_formed();
         match groups_of_texts(self.alloc, main, deps) {
@@ -281,6 +287,7 @@ impl Resolve {
         ensures more { OnOk result (HasMorePackages self.old.graph self.new.graph) }
         ensures cause { IfErr result (spec.AreTextsError ⟦<PackageName as PartialEq>⟧.eq self.old (files_of (record { path = path.now; contents = contents.now } ∷ []) [])) }
         ensures err { OnErr result (spec.AreTextsRefused ⟦<PackageName as PartialEq>⟧.eq self.old (files_of (record { path = path.now; contents = contents.now } ∷ []) []) self.new) }
+        ensures texts { IfErr result (λ kind. spec.AreTextsKept self.old (files_of (record { path = path.now; contents = contents.now } ∷ []) []) kind self.new) }
     {
         self.push_texts([(path, contents)].as_slice(), [].as_slice())
     }

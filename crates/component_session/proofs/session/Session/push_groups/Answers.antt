@@ -1,7 +1,7 @@
 use Rattle.std.proofs.Common.{◌∷◌, inl, inr, refl}
 use Rattle.wit_types.specs.contracts.«package».PackageNamePartialEq.TheImpl.{eq-value as package_eq}
 use Rattle.component_session.specs.Coming.{files_of_groups}
-use Rattle.component_session.proofs.Grouped.{each_read, each_well_formed, pushed, cause, refused}
+use Rattle.component_session.proofs.Grouped.{each_read, each_well_formed, pushed, cause, refused, texts_kept}
 use Rattle.component_session.proofs.Keeping.{kept_after}
 use Rattle.component_session.proofs.session.Session.push_groups.Goals as goal
 
@@ -36,3 +36,6 @@ pub returns-clause-err : goal.returns-clause-err
 returns-clause-err c =
     rw (← c.self.view_is)
     (refused package_eq.it _ _ (c.args.main ∷ c.args.deps.items) (each_read c.args.main c.args.deps.items c.requires.main c.requires.deps) c.push_groups.result c.push_groups.ensures.err)
+
+pub returns-clause-texts : goal.returns-clause-texts
+returns-clause-texts c = rw (← c.self.view_is) (texts_kept _ _ (c.args.main ∷ c.args.deps.items) c.push_groups.result c.push_groups.ensures.texts)

@@ -6,10 +6,10 @@ use Rattle.wit_scopes.proofs.Outcomes.{if_err}
 use Rattle.wit_groups.specs.Pushed.{IsTogetherCause}
 use Rattle.wit_groups.specs.declared.fault.GroupFault.{GroupFault}
 use Rattle.wit_resolution.specs.Errors.{of_group}
-use Rattle.wit_resolution.specs.Pushes.{Resolved, IsGroupsError}
+use Rattle.wit_resolution.specs.Pushes.{Resolved, IsGroupsError, AreGroupTextsKept}
 use Rattle.wit_resolution.specs.declared.error.ResolveErrorKind.{ResolveErrorKind}
 use Rattle.wit_resolution.proofs.Moved.{behind_well_formed, some_behind}
-use Rattle.wit_resolution.proofs.Refusing.{together_error}
+use Rattle.wit_resolution.proofs.Refusing.{together_error, groups_kept}
 use Rattle.wit_resolution.proofs.resolve.Resolve.push_all.Goals as goal
 
 pub push_packages-requires-clause-some : goal.push_packages-requires-clause-some
@@ -26,3 +26,11 @@ returns-clause-cause c =
     rw (← c.self.view_is)
     (if_err c.push_packages.result (λ (kind : ResolveErrorKind). (fault : GroupFault) × IsTogetherCause package_eq.it old.features old.graph packages fault × (kind ≡ of_group fault))
     (IsGroupsError package_eq.it old c.args.groups.items) (λ kind h. together_error package_eq.it old c.args.groups.items packages kind c.in_ok-packages.ensures.ok h) c.push_packages.ensures.cause)
+
+pub returns-clause-texts : goal.returns-clause-texts
+returns-clause-texts c =
+    let old : Resolved = record { features = c.self.inside.features; texts = c.self.inside.source_map; graph = c.self.inside.graph } in
+    let packages = c.in_ok-packages.packages.items in
+    rw (← c.self.view_is)
+    (if_err c.push_packages.result (λ (kind : ResolveErrorKind). (fault : GroupFault) × IsTogetherCause package_eq.it old.features old.graph packages fault × (kind ≡ of_group fault))
+    (λ (kind : ResolveErrorKind). AreGroupTextsKept old c.args.groups.items kind _) (λ kind h. groups_kept package_eq.it old c.args.groups.items packages kind _ c.in_ok-packages.ensures.texts h) c.push_packages.ensures.cause)
