@@ -9,8 +9,7 @@ use Rattle.wit_pushed_trees.specs.Known.{AreTypesKnown}
 use Rattle.wit_pushed_trees.specs.Owned.{AreOwned}
 use Rattle.text_graphs.specs.Coming.{ComeOfTexts}
 
--- names stand for packages of that name; what packages have under names is theirs under those; and of no type its name alone is known: what was
--- asked of other packages was found
+-- names stand for packages of that name; what packages have under names is theirs under those; and of no type its name alone is known
 pub record HasOwners (g : Graph) : Type 0 where
   pub names_stand : NamesOfGraphStand g
   pub owners : Owners
