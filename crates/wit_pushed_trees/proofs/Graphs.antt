@@ -103,6 +103,7 @@ module _ (names_stand : MovedNamesStandForTheSame) (functions_stand : MovedFunct
 
     interface_goes : IsInterfaceMeant given c graph_owners b t new
     interface_goes = record {
+      placed = λ x named. is.placed x (sym moved.name ∙ named);
       names = name_goes;
       functions = λ x g has.
           let was = kept_was (function_stays features places) (IsMovedFunction (to places)) old.functions.entries new.functions.entries moved.functions x g has in

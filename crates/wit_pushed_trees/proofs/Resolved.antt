@@ -44,7 +44,7 @@ member_name w (scope.listed l) t has = listed_name w l l.kind t has
 member_name w (scope.included i) t has = absurd (has_none t has)
 
 -- one that has a name stands under it
-named_place : (sorted : List ItemScope) (k : ℕ) (t : InterfaceText) (x : Name) → slice_get (interface_texts sorted) k ≡ Some t → t.name ≡ Some x → t.place ≡ in_interface x
+pub named_place : (sorted : List ItemScope) (k : ℕ) (t : InterfaceText) (x : Name) → slice_get (interface_texts sorted) k ≡ Some t → t.name ≡ Some x → t.place ≡ in_interface x
 named_place sorted k t x at named = elim (get_either (map interface_text (interfaces_of sorted)) (flat_map labelled_texts (worlds_of sorted)) k t at) as (λ _. t.place ≡ in_interface x) [
   | inl own ↦
       let i = map_has interface_text (interfaces_of sorted) t (k, own) in
@@ -58,7 +58,7 @@ named_place sorted k t x at named = elim (get_either (map interface_text (interf
 
 -- ---- a package
 
-name_in : (d : Interface) (x : String Global) (n : Option Name) → option_map string_bytes d.name ≡ n → d.name ≡ Some x → n ≡ Some (string_bytes x)
+pub name_in : (d : Interface) (x : String Global) (n : Option Name) → option_map string_bytes d.name ≡ n → d.name ≡ Some x → n ≡ Some (string_bytes x)
 name_in d x n e is = sym e ∙ ap (option_map string_bytes) is
 
 module _ (files : List FileTree) (p : UnresolvedPackage) (r : Resolves files p) where

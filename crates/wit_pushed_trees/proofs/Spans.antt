@@ -151,6 +151,7 @@ module _ (f : Span → Span) where
 
     interface_same : (c : Context) (ds : List TypeDef) (t : InterfaceText) (d : Interface) → IsInterfaceMeant given c owners ds t d → IsInterfaceMeant given c owners (map (type_def_by f) ds) t (interface_by f d)
     interface_same c ds t d is = record {
+      placed = is.placed;
       names = λ x i has. stands_same c ds t.place (string_bytes x) i (is.names x i has);
       functions = λ x g has.
           let e = map_has (λ (e : String Global × Function). (e.0, function_by f e.1)) d.functions.entries (x, g) has in

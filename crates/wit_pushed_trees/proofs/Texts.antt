@@ -18,7 +18,7 @@ use Rattle.wit_scopes.specs.declared.worlds.Side.TheVariants.{Import, Export}
 use Rattle.wit_scopes.specs.Members.{MemberTree}
 use Rattle.wit_scopes.specs.Scopes as scope
 use Rattle.wit_scopes.specs.Scopes.{WorldScope, WorldMemberTree, ListedTree, ExternKind}
-use Rattle.wit_arena.specs.Tree.{Name, Place, in_world, Owner, Tree}
+use Rattle.wit_arena.specs.Tree.{Name, Place, in_world, Owner, Tree, in_interface}
 use Rattle.wit_arena.specs.Table.{Entries}
 use Rattle.wit_arena.specs.Standing.{Stands}
 use Rattle.wit_arena.specs.Meaning.{Has}
@@ -41,6 +41,7 @@ use Rattle.wit_well_formed.proofs.Belonging.{counted}
 use Rattle.wit_well_formed.proofs.Counted.{world_item}
 use Rattle.wit_well_formed.proofs.Lists.{get_drop}
 use Rattle.wit_graph_parts.specs.Own.{asked, own_parts}
+use Rattle.wit_pushed_trees.proofs.Resolved.{name_in, named_place}
 use Rattle.wit_pushed_trees.specs.Meaning.{IsFunctionMeant, IsInterfaceMeant, IsOfText}
 use Rattle.wit_pushed_trees.specs.Worlds.{IsTextOf, IsTypeMeant, IsOwnFunctionMeant, IsWorldMeant}
 use Rattle.wit_pushed_trees.specs.Packages.{ResolvedPackagesMeanTheirTexts}
@@ -61,8 +62,9 @@ in_scope given c a o ms table m f written is = record { member = m; written = wr
 
 -- ---- interfaces
 
-interface_meant : (given : Owner → Name → Tree) (c : Context) (a : List TypeDef) (t : InterfaceText) (id : ℕ) (d : Interface) → IsInterfaceIn c a t id d → IsInterfaceMeant given c c.owners a t d
-interface_meant given c a t id d is = record {
+interface_meant : (given : Owner → Name → Tree) (c : Context) (a : List TypeDef) (t : InterfaceText) (id : ℕ) (d : Interface) → IsInterfaceIn c a t id d → ((x : Name) → t.name ≡ Some x → t.place ≡ in_interface x) → IsInterfaceMeant given c c.owners a t d
+interface_meant given c a t id d is at_name = record {
+  placed = λ x named. at_name (string_bytes x) (name_in d x t.name is.is.name named);
   names = λ x i has.
       let listed : Has is.table (string_bytes x, i) = subst (λ es. Has es (string_bytes x, i)) is.is.types (has_map (λ (e : String Global × ℕ). (string_bytes e.0, e.1)) d.types.entries (x, i) has) in
       let m = each_right (IsTypeIn c t.place (belongs.Interface id) a) is.scope.sorted is.table is.scope.types_are listed.0 (string_bytes x, i) listed.1 in
@@ -220,7 +222,7 @@ module _ (files : List FileTree) (p : UnresolvedPackage) (r : Resolves files p) 
             let within : o.0 < length s.own_interfaces = slice_get_within s.own_interfaces o.0 d o.2 in
             let size = s.own_interfaces_are.so_many in
             let t = got (interface_texts s.sorted) o.0 (omega (arith, within, size)) in
-            (t.0, (o.0, t.1), interface_meant given c p.types t.0 (length s.foreign_interfaces + o.0) d (s.own_interfaces_are.each o.0 t.0 d t.1 o.2))
+            (t.0, (o.0, t.1), interface_meant given c p.types t.0 (length s.foreign_interfaces + o.0) d (s.own_interfaces_are.each o.0 t.0 d t.1 o.2) (λ x named. named_place s.sorted o.0 t.0 x t.1 named))
       ]
 
   own_world : (given : Owner → Name → Tree) (i : ℕ) (w : World) → slice_get (own_parts p).worlds i ≡ Some w → IsWorldMeant given c c.owners p.types (worlds_of s.sorted) w.name w.imports.entries w.exports.entries

@@ -1,12 +1,12 @@
 -- Interfaces that mean what their texts do (WIT, Item: `interface`, Use, Types).
-use Rattle.std.specs.Prelude.{◌≡◌, ℕ, List, String, string_bytes}
+use Rattle.std.specs.Prelude.{◌≡◌, ℕ, List, Some, String, string_bytes}
 use Rattle.std.specs.declared.alloc.Global.{Global}
 use Rattle.wit_types.specs.declared.function.Function.{Function}
 use Rattle.wit_types.specs.declared.interface.Interface.{Interface}
 use Rattle.wit_types.specs.declared.interface.TypeDef.{TypeDef}
 use Rattle.wit_scopes.specs.Members.{MemberTree}
 use Rattle.wit_rules.specs.Labels.{full_name}
-use Rattle.wit_arena.specs.Tree.{Name, Place, Owner, Tree}
+use Rattle.wit_arena.specs.Tree.{Name, Place, in_interface, Owner, Tree}
 use Rattle.wit_arena.specs.Unfold.{Owners}
 use Rattle.wit_arena.specs.Standing.{Stands}
 use Rattle.wit_arena.specs.Meaning.{Has}
@@ -22,8 +22,10 @@ pub record IsFunctionMeant (given : Owner → Name → Tree) (c : Context) (owne
   pub named : string_bytes f.name ≡ full_name member.kind member.name
   pub means : StandsForFunction c.me c.scopes given owners o types member f
 
--- each name of an interface stands for what it means at the place of its text, and each function for what is written of it
+-- an interface with a name is that of the text of that name; each of its names stands for what it means at the place of the text, and each function for
+-- what is written of it
 pub record IsInterfaceMeant (given : Owner → Name → Tree) (c : Context) (owners : Owners) (types : List TypeDef) (t : InterfaceText) (d : Interface) : Type 0 where
+  pub placed : (x : String Global) → d.name ≡ Some x → t.place ≡ in_interface (string_bytes x)
   pub names : (x : String Global) (i : ℕ) → Has d.types.entries (x, i) → Stands c.me c.scopes given owners types t.place (string_bytes x) i
   pub functions : (x : String Global) (f : Function) → Has d.functions.entries (x, f) → IsFunctionMeant given c owners types t.place t.members f
 
