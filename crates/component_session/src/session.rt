@@ -166,8 +166,8 @@ impl<'a> Session<'a> {
     /// Adds the packages of texts: of the texts that are the files of a package, and of each of the others, with those that are nested in
     /// them, each behind all on which it depends. Answers the id of the first. Refuses a text that isn't read (S1 to S8), files that break
     /// a rule (P1 to P11), and packages that don't come together (G1 to G7, G10), each with its place. A refused call leaves the packages
-    /// as they were; texts are there, a beginning of those of the package that isn't read, or all, but where it is refused for S8 or
-    /// want of memory: then maybe some (WIT, Packages).
+    /// as they were; texts are there: those of the package up to the text that isn't read, all of the package that breaks a rule, or
+    /// all, but where it is refused for S8 or want of memory: then maybe some (WIT, Packages).
     pub fn push_texts(
         &mut self,
         main: &[(&str, &str)],

@@ -20,7 +20,7 @@ use Rattle.wit_package_order.proofs.Rows.{has_there}
 use Rattle.wit_resolution.specs.Groups.{packages_of, packages_behind}
 use Rattle.wit_resolution.specs.Texts.{IsGroupOf}
 use Rattle.wit_resolution.specs.Pushes.{Resolved, AreTextsPushed}
-use Rattle.text_graphs.specs.Coming.{IsCall, features, pushed, refused, ComeOfTexts, nothing, after}
+use Rattle.text_graphs.specs.Coming.{IsCall, features, pushed, refused, ComeOfTexts, nothing, after, pushed_by, pushes}
 
 -- ---- packages
 
@@ -37,60 +37,82 @@ sorted_has ps (i ∷ order) (q ∷ sorted) p are h =
       | inr rest ↦ sorted_has ps order sorted p later rest
     ]
 
-module _ (Q : UnresolvedPackage → Type 0) where
-  abbrev pub Each : List UnresolvedPackage → Type 0
-  Each ps = (p : UnresolvedPackage) → Has ps p → Q p
+pub has_front : {X : Type 0} (xs ys : List X) (x : X) → Has xs x → Has (xs ++ ys) x
+has_front [] ys x h = absurd h
+has_front (z ∷ xs) ys x h = elim h as (λ _. Has ((z ∷ xs) ++ ys) x) [ inl here ↦ inl here | inr later ↦ inr (has_front xs ys x later) ]
 
+has_back : {X : Type 0} (xs ys : List X) (x : X) → Has ys x → Has (xs ++ ys) x
+has_back [] ys x h = h
+has_back (z ∷ xs) ys x h = inr (has_back xs ys x h)
+
+abbrev pub Each : (UnresolvedPackage → Type 0) → List UnresolvedPackage → Type 0
+Each Q ps = (p : UnresolvedPackage) → Has ps p → Q p
+
+-- what is so of a package and its texts
+module _ (Q : List SourceText → UnresolvedPackage → Type 0) where
   abbrev pub OfTexts : Type 0
-  OfTexts = (files : List SourceText) (main : UnresolvedPackage) (nested : List UnresolvedPackage) → AreParsed files main nested → Each (main ∷ nested)
+  OfTexts = (source : List SourceText) (main : UnresolvedPackage) (nested : List UnresolvedPackage) → AreParsed source main nested → Each (Q source) (main ∷ nested)
 
   abbrev pub Moved : Type 0
-  Moved = (p : UnresolvedPackage) (n : ℕ) → Q p → Q (package_at n p)
+  Moved = (source : List SourceText) (p : UnresolvedPackage) (n : ℕ) → Q source p → Q source (package_at n p)
 
-  moved_each : Moved → (n : ℕ) (ps : List UnresolvedPackage) → Each ps → Each (map (package_at n) ps)
-  moved_each law n [] own p has = absurd has
-  moved_each law n (q ∷ qs) own p has = elim has as (λ _. Q p) [
-    | inl here ↦ subst Q (sym here) (law q n (own q (inl refl)))
-    | inr later ↦ moved_each law n qs (λ x h. own x (inr h)) p later
+  -- it is of one of these texts
+  abbrev pub IsAmong : List (List SourceText) → UnresolvedPackage → Type 0
+  IsAmong files p = (source : List SourceText) × Has files source × Q source p
+
+  moved_each : Moved → (source : List SourceText) (n : ℕ) (ps : List UnresolvedPackage) → Each (Q source) ps → Each (Q source) (map (package_at n) ps)
+  moved_each law source n [] own p has = absurd has
+  moved_each law source n (q ∷ qs) own p has = elim has as (λ _. Q source p) [
+    | inl here ↦ subst (Q source) (sym here) (law source q n (own q (inl refl)))
+    | inr later ↦ moved_each law source n qs (λ x h. own x (inr h)) p later
   ]
 
-  joined : (xs ys : List UnresolvedPackage) → Each xs → Each ys → Each (xs ++ ys)
-  joined [] ys one other p has = other p has
-  joined (x ∷ xs) ys one other p has = elim has as (λ _. Q p) [
+  joined : (files : List (List SourceText)) (xs ys : List UnresolvedPackage) → Each (IsAmong files) xs → Each (IsAmong files) ys → Each (IsAmong files) (xs ++ ys)
+  joined files [] ys one other p has = other p has
+  joined files (x ∷ xs) ys one other p has = elim has as (λ _. IsAmong files p) [
     | inl here ↦ one p (inl here)
-    | inr later ↦ joined xs ys (λ q h. one q (inr h)) other p later
+    | inr later ↦ joined files xs ys (λ q h. one q (inr h)) other p later
   ]
 
-  pub behind_each : OfTexts → Moved → (texts : List SourceText) (files : List (List SourceText)) (gs : List UnresolvedPackageGroup) → AllZip IsGroupOf files gs → Each (packages_behind texts gs)
+  behind_each : OfTexts → Moved → (texts : List SourceText) (files : List (List SourceText)) (gs : List UnresolvedPackageGroup) → AllZip IsGroupOf files gs → Each (IsAmong files) (packages_behind texts gs)
   behind_each of_texts moved texts [] [] zip p has = absurd has
   behind_each of_texts moved texts [] (g ∷ gs) zip p has = absurd zip
   behind_each of_texts moved texts (f ∷ fs) [] zip p has = absurd zip
   behind_each of_texts moved texts (f ∷ fs) (g ∷ gs) zip p has =
-      joined (map (package_at (total texts)) (packages_of g)) (packages_behind (texts ++ g.source_map) gs) (moved_each moved (total texts) (packages_of g) (of_texts f g.main g.nested.items zip.0.parsed)) (behind_each of_texts moved (texts ++ g.source_map) fs gs zip.1) p has
+      let own = moved_each moved f (total texts) (packages_of g) (of_texts f g.main g.nested.items zip.0.parsed) in
+      let rest = behind_each of_texts moved (texts ++ g.source_map) fs gs zip.1 in
+      joined (f ∷ fs) (map (package_at (total texts)) (packages_of g)) (packages_behind (texts ++ g.source_map) gs) (λ q h. (f, inl refl, own q h)) (λ q h. (let r = rest q h in (r.0, inr r.1, r.2))) p has
 
 -- ---- graphs
 
-module _ (eq : PackageName → PackageName → Bool) (P : Graph → Type 0) (Q : UnresolvedPackage → Type 0) where
-  -- a package keeps it
+-- what is so of a graph and the texts that were pushed
+module _ (eq : PackageName → PackageName → Bool) (P : List (List SourceText) → Graph → Type 0) (Q : List SourceText → UnresolvedPackage → Type 0) where
+  -- a package of one of the texts keeps it
   abbrev pub IsKept : Type 0
-  IsKept = (set : FeatureSet) (old : Graph) (p : UnresolvedPackage) (new : Graph) (id : ℕ) → IsGraph old → IsGraph new → Q p → IsPushed eq set old p new id → P old → P new
+  IsKept = (files : List (List SourceText)) (set : FeatureSet) (old : Graph) (p : UnresolvedPackage) (new : Graph) (id : ℕ) → IsGraph old → IsGraph new → IsAmong Q files p → IsPushed eq set old p new id → P files old → P files new
 
-  pushed_each : IsKept → (set : FeatureSet) (old : Graph) (ps : List UnresolvedPackage) (new : Graph) → Each Q ps → ArePushed eq set old ps new → IsGraph old → P old → IsGraph new × P new
-  pushed_each kept set old [] new own same whole so = (subst IsGraph (sym same) whole, subst P (sym same) so)
-  pushed_each kept set old (p ∷ ps) new own (next, next_whole, is, more) whole so = pushed_each kept set next ps new (λ q h. own q (inr h)) more next_whole (kept set old p next _ whole next_whole (own p (inl refl)) is so)
+  -- and so do more texts
+  abbrev pub IsKeptBehind : Type 0
+  IsKeptBehind = (files more : List (List SourceText)) (g : Graph) → P files g → P (files ++ more) g
 
-  module _ (of_texts : OfTexts Q) (moved : Moved Q) (kept : IsKept) where
-    of_pushed : (old new : Resolved) (files : List (List SourceText)) (id : ℕ) → AreTextsPushed eq old files new id → IsGraph old.graph → P old.graph → IsGraph new.graph × P new.graph
-    of_pushed old new files id h whole so =
+  pushed_each : IsKept → (files : List (List SourceText)) (set : FeatureSet) (old : Graph) (ps : List UnresolvedPackage) (new : Graph) → Each (IsAmong Q files) ps → ArePushed eq set old ps new → IsGraph old → P files old → IsGraph new × P files new
+  pushed_each kept files set old [] new own same whole so = (subst IsGraph (sym same) whole, subst (P files) (sym same) so)
+  pushed_each kept files set old (p ∷ ps) new own (next, next_whole, is, more) whole so =
+      pushed_each kept files set next ps new (λ q h. own q (inr h)) more next_whole (kept files set old p next _ whole next_whole (own p (inl refl)) is so)
+
+  module _ (of_texts : OfTexts Q) (moved : Moved Q) (kept : IsKept) (behind : IsKeptBehind) where
+    of_pushed : (before : List (List SourceText)) (old new : Resolved) (files : List (List SourceText)) (id : ℕ) → AreTextsPushed eq old files new id → IsGraph old.graph → P before old.graph → IsGraph new.graph × P (before ++ files) new.graph
+    of_pushed before old new files id h whole so =
         let t = h.pushed.pushed in
-        let each : Each Q (packages_behind old.texts h.groups) = behind_each Q of_texts moved old.texts files h.groups h.are_groups in
-        pushed_each kept old.features old.graph t.sorted new.graph (λ p has. each p (sorted_has (packages_behind old.texts h.groups) t.order t.sorted p t.are_sorted has)) t.pushed whole so
+        let each = behind_each Q of_texts moved old.texts files h.groups h.are_groups in
+        let all : Each (IsAmong Q (before ++ files)) (packages_behind old.texts h.groups) = λ p has. (let e = each p has in (e.0, has_back before files e.0 e.1, e.2)) in
+        pushed_each kept (before ++ files) old.features old.graph t.sorted new.graph (λ p has. all p (sorted_has (packages_behind old.texts h.groups) t.order t.sorted p t.are_sorted has)) t.pushed whole (behind before files old.graph so)
 
-    of_call : (old new : Resolved) → IsCall eq old new → IsGraph old.graph → P old.graph → IsGraph new.graph × P new.graph
-    of_call old new (features set is) whole so = (let same : new.graph ≡ old.graph = ap (λ (r : Resolved). r.graph) is in (subst IsGraph (sym same) whole, subst P (sym same) so))
-    of_call old new (pushed files id is) whole so = of_pushed old new files id is whole so
-    of_call old new (refused files is) whole so = (subst IsGraph (sym is.kept.graph) whole, subst P (sym is.kept.graph) so)
+    of_call : (before : List (List SourceText)) (old new : Resolved) (call : IsCall eq old new) → IsGraph old.graph → P before old.graph → IsGraph new.graph × P (before ++ pushed_by eq old new call) new.graph
+    of_call before old new (features set is) whole so = (let same : new.graph ≡ old.graph = ap (λ (r : Resolved). r.graph) is in (subst IsGraph (sym same) whole, subst (P (before ++ [])) (sym same) (behind before [] old.graph so)))
+    of_call before old new (pushed files id is) whole so = of_pushed before old new files id is whole so
+    of_call before old new (refused files is) whole so = (subst IsGraph (sym is.kept.graph) whole, subst (P (before ++ [])) (sym is.kept.graph) (behind before [] old.graph so))
 
-    pub of_texts_all : P (record { tables = graph.nothing; names = [] }) → (r : Resolved) → ComeOfTexts eq r → IsGraph r.graph × P r.graph
+    pub of_texts_all : P [] (record { tables = graph.nothing; names = [] }) → (r : Resolved) (come : ComeOfTexts eq r) → IsGraph r.graph × P (pushes eq r come) r.graph
     of_texts_all first r nothing = (nothing_is_graph graph.nothing [] refl refl, first)
-    of_texts_all first r (after old new come call) = (let was = of_texts_all first old come in of_call old new call was.0 was.1)
+    of_texts_all first r (after old new come call) = (let was = of_texts_all first old come in of_call (pushes eq old come) old new call was.0 was.1)

@@ -1,3 +1,3 @@
 pub mod Induction
 pub mod Named
-pub mod Owned
+pub mod Meant

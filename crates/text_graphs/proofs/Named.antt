@@ -71,7 +71,7 @@ empty_named = record {
 }
 
 module _ (laws : Laws) where
-  of_texts : OfTexts IsTextPackage
+  of_texts : OfTexts (λ source. IsTextPackage)
   of_texts files main nested parsed p has = record {
     well = laws.parsed_well files main nested parsed p has;
     named = laws.parsed_named files main nested parsed p has;
@@ -80,8 +80,8 @@ module _ (laws : Laws) where
     worlds = laws.parsed_worlds files main nested parsed p has;
   }
 
-  moved : Moved IsTextPackage
-  moved p n own = record {
+  moved : Moved (λ source. IsTextPackage)
+  moved source p n own = record {
     well = laws.moved_well p n own.well;
     named = laws.moved_named p n own.named;
     read = laws.moved_read p n own.read;
@@ -89,8 +89,9 @@ module _ (laws : Laws) where
     worlds = laws.moved_worlds p n own.worlds;
   }
 
-  kept : (eq : PackageName → PackageName → Bool) → SeesSameNames eq → IsKept eq IsNamed IsTextPackage
-  kept eq sees set old p new id whole new_whole own is so =
+  kept : (eq : PackageName → PackageName → Bool) → SeesSameNames eq → IsKept eq (λ files. IsNamed) (λ source. IsTextPackage)
+  kept eq sees files set old p new id whole new_whole among is so =
+      let own = among.2 in
       let known = laws.pushed_known eq set old p new id sees so.known own.read is in
       record {
         named = laws.pushed_named eq set old p new id whole.whole own.well is known.0 so.named own.named;
@@ -102,5 +103,5 @@ module _ (laws : Laws) where
   pub text_graphs_named : TextGraphsAreNamed
   text_graphs_named eq r sees come =
       let first : IsNamed (record { tables = graph.nothing; names = [] }) = record { named = empty_named; known = laws.empty_known; labelled = laws.empty_labelled; worlds = laws.empty_worlds } in
-      let all = of_texts_all eq IsNamed IsTextPackage of_texts moved (kept eq sees) first r come in
+      let all = of_texts_all eq (λ files. IsNamed) (λ source. IsTextPackage) of_texts moved (kept eq sees) (λ files more g so. so) first r come in
       record { whole = all.0; named = all.1.named; known = all.1.known; labelled = all.1.labelled; worlds = all.1.worlds }

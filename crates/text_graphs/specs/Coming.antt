@@ -1,5 +1,5 @@
 -- Packages that are resolved come of texts alone (WIT, Packages).
-use Rattle.std.specs.Prelude.{◌≡◌, ℕ, Bool, List}
+use Rattle.std.specs.Prelude.{◌≡◌, ◌++◌, [], ℕ, Bool, List}
 use Rattle.wit_features.specs.Features.{FeatureSet}
 use Rattle.wit_resolution.specs.Pushes.{Resolved, nothing_resolved, AreTextsPushed, AreTextsRefused}
 use Rattle.wit_types.specs.declared.«package».PackageName.{PackageName}
@@ -16,3 +16,13 @@ module _ (eq : PackageName → PackageName → Bool) where
   pub data ComeOfTexts : Resolved → Type 0 where
     nothing : ComeOfTexts nothing_resolved
     after : (old new : Resolved) → ComeOfTexts old → IsCall old new → ComeOfTexts new
+
+  -- the texts that calls pushed, those of each package together
+  abbrev pub pushed_by : (old new : Resolved) → IsCall old new → List (List SourceText)
+  pushed_by old new (features set is) = []
+  pushed_by old new (pushed files id is) = files
+  pushed_by old new (refused files is) = []
+
+  abbrev pub pushes : (r : Resolved) → ComeOfTexts r → List (List SourceText)
+  pushes _ nothing = []
+  pushes _ (after old new come call) = pushes old come ++ pushed_by old new call

@@ -1,3 +1,4 @@
 pub mod Coming
 pub mod Graphs
 pub mod Owned
+pub mod Meant

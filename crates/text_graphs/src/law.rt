@@ -1,6 +1,7 @@
 //! Laws of graphs that come of texts.
 
 ghost use Rattle.text_graphs.specs.Graphs.{NamesTellInterfacesApart, TextGraphsAreNamed};
+ghost use Rattle.text_graphs.specs.Meant.{TextGraphsMeanTheirTexts};
 ghost use Rattle.text_graphs.specs.Owned.{TextGraphsHaveOwners};
 
 use wit_item_names::law_names_tell_interfaces_apart;
@@ -16,10 +17,16 @@ use wit_named_graphs::law_pushed_graphs_are_named;
 use wit_named_packages::{law_moved_packages_are_named, law_parsed_packages_are_named};
 use wit_new_names::{law_empty_graphs_are_known, law_pushed_graphs_are_known};
 use wit_pushed_trees::{
-    law_empty_graphs_are_owned, law_empty_graphs_have_names_stand,
-    law_empty_graphs_have_types_known, law_moved_packages_have_owners, law_moved_types_are_known,
-    law_pushed_graphs_are_owned, law_pushed_graphs_have_names_stand, law_pushed_types_are_known,
+    law_empty_graphs_are_meant, law_empty_graphs_are_owned, law_empty_graphs_have_names_stand,
+    law_empty_graphs_have_types_known, law_empty_worlds_are_meant, law_empty_worlds_are_said,
+    law_graphs_give_their_names, law_moved_packages_have_owners,
+    law_moved_packages_mean_their_texts, law_moved_types_are_known,
+    law_moved_worlds_are_named_apart, law_pushed_graphs_are_owned,
+    law_pushed_graphs_have_names_stand, law_pushed_graphs_have_trees,
+    law_pushed_graphs_mean_their_texts, law_pushed_types_are_known, law_pushed_worlds_are_meant,
+    law_pushed_worlds_are_said, law_resolved_packages_are_of_texts,
     law_resolved_packages_have_owners, law_resolved_types_are_known,
+    law_resolved_worlds_are_named_apart,
 };
 use wit_well_formed::{
     law_moved_packages_are_well_formed, law_moved_packages_have_names_apart,
@@ -59,19 +66,46 @@ pub fn law_text_names_tell_interfaces_apart()
     law_text_graphs_are_named();
 }
 
-/// In such a graph each name stands for a package of that name, all interfaces and worlds have owners, what a package has under a name being its own under
-/// that, and of each type more than its name is known: no `TypeDefKind::Unknown` is left (WIT, Packages, Package Names, Types).
-pub fn law_text_graphs_have_owners()
-    ensures { TextGraphsHaveOwners }
+/// In such a graph every name means what scope gives it over all texts. Each interface and each world is of the package of one of the texts that were pushed and
+/// means what one of these does: each name stands for what it means there by lexical scope, and each that it takes of another package for what stands in the graph
+/// under that, by the names of the package and of the interface; a world includes the worlds to which its text's paths lead, and has besides its own what these bring
+/// alone: each function and interface that it imports or exports is one that its text says or the text of a world that it includes, and so on, under names that
+/// change. All interfaces and worlds have owners, and each type has a tree (WIT, Packages, Package Names, Items, Use, Types).
+pub fn law_text_graphs_mean_their_texts()
+    ensures { TextGraphsMeanTheirTexts }
 {
+    law_resolved_packages_are_of_texts();
+    law_moved_packages_mean_their_texts();
+    law_empty_graphs_are_meant();
+    law_pushed_graphs_mean_their_texts();
+    law_empty_worlds_are_meant();
+    law_pushed_worlds_are_meant();
+    law_empty_worlds_are_said();
+    law_pushed_worlds_are_said();
     law_resolved_packages_have_owners();
     law_moved_packages_have_owners();
+    law_resolved_worlds_are_named_apart();
+    law_moved_worlds_are_named_apart();
     law_empty_graphs_are_owned();
     law_pushed_graphs_are_owned();
+    law_pushed_graphs_have_trees();
+    law_graphs_give_their_names();
     law_empty_graphs_have_names_stand();
     law_pushed_graphs_have_names_stand();
     law_resolved_types_are_known();
     law_moved_types_are_known();
     law_empty_graphs_have_types_known();
     law_pushed_types_are_known();
+    law_parsed_names_read_back();
+    law_moved_names_read_back();
+    law_empty_graphs_are_known();
+    law_pushed_graphs_are_known();
+}
+
+/// In such a graph each name stands for a package of that name, all interfaces and worlds have owners, what a package has under a name being its own under
+/// that, no two worlds are one, and of each type more than its name is known: no `TypeDefKind::Unknown` is left (WIT, Packages, Package Names, Types).
+pub fn law_text_graphs_have_owners()
+    ensures { TextGraphsHaveOwners }
+{
+    law_text_graphs_mean_their_texts();
 }

@@ -1,14 +1,19 @@
 -- Tables by name.
-use Rattle.std.proofs.Common.{◌≡◌, ℕ, Bool, true, false, cond, List, [], ◌∷◌, ◌++◌, ◌⊎◌, inl, inr, Some, None, refl, sym, subst, ap, ◌∙◌, Bor}
-use Rattle.std.proofs.lemmas.Option.{same_Some}
+use Rattle.std.proofs.Common.{◌≡◌, ℕ, Option, is_some, Bool, true, false, cond, List, [], ◌∷◌, ◌++◌, ◌⊎◌, inl, inr, Some, None, refl, sym, subst, ap, ◌∙◌, Bor}
+use Rattle.std.proofs.lemmas.Option.{same_Some, slice_get-map}
+use Rattle.std.proofs.lemmas.Map.Keys.{any_passes_from_place}
 use Rattle.std.proofs.lemmas.Slice.Eq.{bytes_eq-Decides}
 use Rattle.std.proofs.lemmas.List.{map_push}
-use Rattle.std.specs.Prelude.{bytes_eq, map}
+use Rattle.std.specs.Prelude.{bytes_eq, map, slice_get, option_map}
+use Rattle.std.specs.List.{list_any}
 use Rattle.std.specs.Bool.{Decides}
 use Rattle.std.specs.Map.{lookup}
 use Rattle.wit_arena.specs.Tree.{Name}
 use Rattle.wit_arena.specs.Meaning.{Has}
-use Rattle.wit_arena.specs.Table.{entries_of}
+use Rattle.name_places.specs.FirstPlaces.{place_of}
+use Rattle.name_places.proofs.Places.{place_names, place-is_some}
+use Rattle.wit_arena.specs.declared.table.Entry.{Entry}
+use Rattle.wit_arena.specs.Table.{Entries, entries_of, names_of}
 use Rattle.wit_arena.proofs.Lists.{has_none, has_here, has_later, has_cases, has_map, map_has}
 
 bool_cases : (b : Bool) → (b ≡ true) ⊎ (b ≡ false)
@@ -62,20 +67,21 @@ module _ {K N : Type 0} (view : K → N) (n : N) (test : K → Bool) (decides : 
       none_lookup test es (λ e has t. fresh e.1 (subst (λ (ns : List (N × ℕ)). Has ns (n, e.1)) is
       (subst (λ (m : N). Has (viewed es) (m, e.1)) (sym ((decides e.0).0 t)) (has_map (λ (e : K × ℕ). (view e.0, e.1)) es e has))))
 
-abbrev at_name : Name → Bor (List ℕ) → Bool
-at_name name k = bytes_eq name k.now
+-- a name stands in the entries with what is at its place
+pub placed_has : (es : Entries) (name : Name) (p : ℕ) (e : Name × ℕ) → place_of name (names_of es) ≡ Some p → slice_get es p ≡ Some e → Has es (name, e.1)
+placed_has es name p e at there =
+    let named : Some e.0 ≡ Some name = sym (slice_get-map (λ (e : Name × ℕ). e.0) es p ∙ ap (option_map (λ (e : Name × ℕ). e.0)) there) ∙ place_names name (names_of es) p at in
+    subst (λ (n : Name). Has es (n, e.1)) (same_Some e.0 name named) (p, there)
 
-pub entry_found : (table : List (Name × ℕ)) (es : List (Bor (List ℕ) × ℕ)) (name : Name) (v : ℕ) → entries_of es ≡ table
-    → lookup (λ k. bytes_eq name k.now) es ≡ Some v → Has table (name, v)
-entry_found table es name v is h = keyed_found (λ (k : Bor (List ℕ)). k.now) name (at_name name) (λ k. bytes_eq-Decides name k.now) table es v is h
+-- a name that has no place has nothing
+pub unplaced : (es : Entries) (name : Name) → place_of name (names_of es) ≡ None → (i : ℕ) → Has es (name, i) → ⊥
+unplaced es name none i has =
+    let named : slice_get (names_of es) has.0 ≡ Some name = slice_get-map (λ (e : Name × ℕ). e.0) es has.0 ∙ ap (option_map (λ (e : Name × ℕ). e.0)) has.1 in
+    let any : list_any (bytes_eq name) (names_of es) ≡ true = any_passes_from_place (bytes_eq name) (names_of es) has.0 name named ((bytes_eq-Decides name name).1 refl) in
+    absurd (let f : false ≡ true = ap (λ (o : Option ℕ). is_some o) (sym none) ∙ place-is_some name (names_of es) ∙ any in cc)
 
-pub entry_none : (table : List (Name × ℕ)) (es : List (Bor (List ℕ) × ℕ)) (name : Name) (v : ℕ) → entries_of es ≡ table
-    → lookup (λ k. bytes_eq name k.now) es ≡ None → Has table (name, v) → ⊥
-entry_none table es name v is none has = keyed_none (λ (k : Bor (List ℕ)). k.now) name (at_name name) (λ k. bytes_eq-Decides name k.now) table es v is none has
+pub entries_push : (es : List Entry) (e : Entry) → entries_of (es ++ e ∷ []) ≡ entries_of es ++ (e.name.now, e.index) ∷ []
+entries_push es e = map_push (λ (e : Entry). (e.name.now, e.index)) es e
 
-pub entry_absent : (table : List (Name × ℕ)) (es : List (Bor (List ℕ) × ℕ)) (name : Name) → entries_of es ≡ table
-    → ((v : ℕ) → Has table (name, v) → ⊥) → lookup (λ k. bytes_eq name k.now) es ≡ None
-entry_absent table es name is fresh = keyed_absent (λ (k : Bor (List ℕ)). k.now) name (at_name name) (λ k. bytes_eq-Decides name k.now) table es is fresh
-
-pub entries_push : (es : List (Bor (List ℕ) × ℕ)) (e : Bor (List ℕ) × ℕ) → entries_of (es ++ e ∷ []) ≡ entries_of es ++ (e.0.now, e.1) ∷ []
-entries_push es e = map_push (λ (e : Bor (List ℕ) × ℕ). (e.0.now, e.1)) es e
+pub names_push : (es : Entries) (e : Name × ℕ) → names_of (es ++ e ∷ []) ≡ names_of es ++ e.0 ∷ []
+names_push es e = map_push (λ (e : Name × ℕ). e.0) es e

@@ -3,24 +3,34 @@
 ghost use Rattle.std.specs.Prelude.{◌≡◌, ℕ, ◌<◌, ◌∷◌, ◌++◌, [], Some, length, slice_get, OnErr, OnOk, IfSome, IfNone};
 ghost use Rattle.wit_arena.specs.Meaning.{Has};
 
-use indexmap::IndexMap;
+use name_places::FirstPlaces;
 use std::alloc::{AllocError, Global};
 use std::marker::Model;
 use wit_types::TypeId;
 
+/// A type under its name.
+#[derive(Drop)]
+struct Entry<'a> {
+    name: &'a str,
+    index: usize,
+}
+
 /// Types under the names of a scope, in the order in which they came.
 #[derive(Drop)]
 pub struct Table<'a> {
-    inner: IndexMap<&'a str, usize>,
+    names: FirstPlaces<'a>,
+    entries: Vec<Entry<'a>>,
 }
 
 impl<'a> Model for Table<'a> {
-    ghost use Rattle.std.specs.Prelude.{List, ℕ};
-    ghost use Rattle.wit_arena.specs.Table.{entries_of};
+    ghost use Rattle.std.specs.Prelude.{◌≡◌, List, ℕ};
+    ghost use Rattle.wit_arena.specs.Table.{entries_of, names_of};
 
     ghost Value = { List (List ℕ × ℕ) };
 
-    ghost view = { λ t. entries_of t.inner.entries };
+    ghost view = { λ t. entries_of t.entries.items };
+
+    ghost invariant = { λ t. t.names ≡ names_of (entries_of t.entries.items) };
 }
 
 impl<'a> Table<'a> {
@@ -29,7 +39,8 @@ impl<'a> Table<'a> {
         ensures { result ≡ [] }
     {
         Table {
-            inner: IndexMap::new(alloc),
+            names: FirstPlaces::new(alloc),
+            entries: Vec::new(alloc),
         }
     }
 
@@ -38,8 +49,8 @@ impl<'a> Table<'a> {
         ensures some { IfSome result (λ i. Has self.now (name.now, i)) }
         ensures none { IfNone result ((i : ℕ) → Has self.now (name.now, i) → ⊥) }
     {
-        let index = self.inner.get(name).copied()?;
-        Some(TypeId::from_index(index))
+        let place = self.names.first(name)?;
+        Some(TypeId::from_index(self.entries[place].index))
     }
 
     /// Puts a type under a name that isn't there; it goes last. Where memory is wanting nothing changes.
@@ -48,8 +59,14 @@ impl<'a> Table<'a> {
         ensures ok { OnOk result (self.new ≡ self.old ++ (name.entry.now, id) ∷ []) }
         ensures err { OnErr result (self.new ≡ self.old) }
     {
-        self.inner.reserve(1)?;
-        self.inner.insert(name, id.index()).unwrap();
+        self.entries.reserve(1)?;
+        self.names.push(name)?;
+        self.entries
+            .push(Entry {
+                name,
+                index: id.index(),
+            })
+            .unwrap();
         Ok(())
     }
 
@@ -57,7 +74,7 @@ impl<'a> Table<'a> {
     pub fn len(&self) -> usize
         ensures { result ≡ length self.now }
     {
-        self.inner.len()
+        self.entries.len()
     }
 
     /// The name at a place below that number, and what stands under it.
@@ -65,9 +82,7 @@ impl<'a> Table<'a> {
         requires { place < length self.now }
         ensures { slice_get self.now place ≡ Some (result.0.now, result.1) }
     {
-        match self.inner.get_index(place) {
-            Some((name, index)) => (*name, TypeId::from_index(*index)),
-            None => unreachable!(),
-        }
+        let Entry { name, index } = &self.entries[place];
+        (*name, TypeId::from_index(*index))
     }
 }

@@ -36,13 +36,16 @@ module _ {K V : Type 0} (eq : K → K → Bool) where
 
 -- ---- under names
 
--- types whose names are apart
-pub types_apart : (es : List (String Global × ℕ)) (table : Entries) → named_types es ≡ table → AreApartBy (λ e. e.0) table
-    → (i j : ℕ) (p q : String Global × ℕ) → slice_get es i ≡ Some p → slice_get es j ≡ Some q → string_eq p.0 q.0 ≡ true → i ≡ j
-types_apart es table are apart i j p q at_i at_j same =
+-- a type's name is none of those in front of it
+pub type_new : (es : List (String Global × ℕ)) (table : Entries) (n : ℕ) → named_types es ≡ take n table → AreApartBy (λ e. e.0) table
+    → (k : String Global) (e : Name × ℕ) → slice_get table n ≡ Some e → string_bytes k ≡ e.0 → lookup (string_eq k) es ≡ None
+type_new es table n are apart k e there named =
     let entry : String Global × ℕ → Name × ℕ = λ e. (string_bytes e.0, e.1) in
-    apart i j (entry p) (entry q) (ap (λ (t : Entries). slice_get t i) (sym are) ∙ slice_get-map entry es i ∙ ap (option_map entry) at_i) (ap (λ (t : Entries). slice_get t j) (sym are) ∙ slice_get-map entry es j ∙ ap (option_map entry) at_j)
-    ((bytes_eq-Decides (string_bytes p.0) (string_bytes q.0)).0 same)
+    not_looked_up string_eq k es (λ i q at t.
+    let w = at_taken table i n (entry q) (ap (λ (t : Entries). slice_get t i) (sym are) ∙ slice_get-map entry es i ∙ ap (option_map entry) at) in
+    let same : n ≡ i = apart n i e (entry q) there w.1 (sym named ∙ (bytes_eq-Decides (string_bytes k) (string_bytes q.0)).0 t) in
+    let less : i < n = w.0 in
+    omega (arith, same, less))
 
 -- functions whose names are
 pub functions_apart : (es : List (String Global × Function)) (fs : List Function) → functions_in es ≡ fs → AreNamed es → AreApartBy (λ f. string_bytes f.name) fs

@@ -36,19 +36,6 @@ pub struct Made<'a> {
     pub table: Table<'a>,
 }
 
-/// The types of a scope under names of their own.
-fn type_pairs(alloc: Global, table: &Table<'_>) -> Result<Vec<(String, TypeId)>, AllocError>
-    ensures { IfOk result (λ v. spec.named_types v.items ≡ table.now) }
-{
-    let mut pairs = Vec::new(alloc);
-    for place in 0..table.len() {
-        let (name, id) = table.entry(place);
-        let name = String::from_str(alloc, name)?;
-        pairs.push((name, id))?;
-    }
-    Ok(pairs)
-}
-
 /// Functions under their names.
 fn function_pairs(
     alloc: Global,
@@ -69,8 +56,12 @@ pub fn named_types(alloc: Global, table: &Table<'_>) -> Result<IndexMap<String, 
     requires { AreApartBy (λ e. e.0) table.now }
     ensures { IfOk result (λ m. spec.named_types m.entries ≡ table.now) }
 {
-    let pairs = type_pairs(alloc, table)?;
-    keyed(alloc, pairs)
+    let mut types = IndexMap::new(alloc);
+    for place in 0..table.len() {
+        let (name, id) = table.entry(place);
+        types.insert(String::from_str(alloc, name)?, id)?;
+    }
+    Ok(types)
 }
 
 /// Functions by name, in the same order.

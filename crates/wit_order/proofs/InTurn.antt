@@ -4,7 +4,7 @@ use Rattle.std.specs.List.{range_with_len}
 use Rattle.std.proofs.lemmas.List.{map-id}
 use Rattle.std.proofs.lemmas.List.FromFn.{map-range_with_len_more}
 use Rattle.std.proofs.lemmas.Bool.{cases_lt, cases_eq}
-use Rattle.wit_order.specs.Order.{Has, Leads, IsReady, AreNext}
+use Rattle.wit_order.specs.Order.{Has, Leads, IsReady, AreNext, IsLeastOrder, IsOnCircle}
 use Rattle.wit_order.specs.Places.{Rows, Needs, NeedEarlier, IsSorted}
 use Rattle.wit_order.proofs.Orders.{next_least}
 
@@ -19,33 +19,38 @@ has_range k (suc m) i low high = elim (cases_eq i k) as (λ _. Has (range_with_l
   | inr not_here ↦ inr (has_range (k + 1) m i (let apart : i ≡ k → ⊥ = not_here in omega arith) (omega arith))
 ]
 
--- what a place leads to is earlier
-leads_down : (g : Rows) → NeedEarlier g → (a : ℕ) (via : List ℕ) (b : ℕ) → Leads (length g) (Needs g) a via b → b < a
-leads_down g earlier a [] b path = earlier a b path
-leads_down g earlier a (c ∷ via) b path =
-    let first : c < a = earlier a c path.0 in
-    let rest : b < c = leads_down g earlier c via b path.1 in
-    omega arith
+module _ (n : ℕ) (needs : ℕ → ℕ → Type 0) (earlier : (i j : ℕ) → needs i j → j < i) where
+  -- what a place leads to is earlier
+  leads_down : (a : ℕ) (via : List ℕ) (b : ℕ) → Leads n needs a via b → b < a
+  leads_down a [] b path = earlier a b path
+  leads_down a (c ∷ via) b path =
+      let first : c < a = earlier a c path.0 in
+      let rest : b < c = leads_down c via b path.1 in
+      omega arith
 
-in_turn_next : (g : Rows) → NeedEarlier g → (k m : ℕ) → k + m ≡ length g → (before : List ℕ) → ((i : ℕ) → i < k → Has before i) → ((i : ℕ) → Has before i → i < k) → AreNext (length g) (Needs g) before (range_with_len k m)
-in_turn_next g earlier k zero all before there only = tt
-in_turn_next g earlier k (suc m) all before there only =
-    let ready : IsReady (length g) (Needs g) before k = record {
-      place = omega arith;
-      new = λ h. let l : k < k = only k h in absurd (omega arith);
-      needed = λ j need. there j (earlier k j need);
-    } in
-    let least : (i : ℕ) → IsReady (length g) (Needs g) before i → k ≤ i =
-    λ i r. elim (cases_lt i k) as (λ _. k ≤ i) [ inl less ↦ absurd (r.new (there i less)) | inr more ↦ more ] in
-    let there_more : (i : ℕ) → i < k + 1 → Has (k ∷ before) i =
-    λ i l. elim (cases_eq i k) as (λ _. Has (k ∷ before) i) [ inl here ↦ inl here | inr other ↦ inr (there i (let apart : i ≡ k → ⊥ = other in omega arith)) ] in
-    let only_more : (i : ℕ) → Has (k ∷ before) i → i < k + 1 =
-    λ i h. elim h as (λ _. i < k + 1) [ inl here ↦ omega (arith, here) | inr was ↦ let l : i < k = only i was in omega arith ] in
-    (record { ready = ready; least = least }, in_turn_next g earlier (k + 1) m (omega arith) (k ∷ before) there_more only_more)
+  in_turn_next : (k m : ℕ) → k + m ≡ n → (before : List ℕ) → ((i : ℕ) → i < k → Has before i) → ((i : ℕ) → Has before i → i < k) → AreNext n needs before (range_with_len k m)
+  in_turn_next k zero all before there only = tt
+  in_turn_next k (suc m) all before there only =
+      let ready : IsReady n needs before k = record {
+        place = omega arith;
+        new = λ h. let l : k < k = only k h in absurd (omega arith);
+        needed = λ j need. there j (earlier k j need);
+      } in
+      let least : (i : ℕ) → IsReady n needs before i → k ≤ i =
+      λ i r. elim (cases_lt i k) as (λ _. k ≤ i) [ inl less ↦ absurd (r.new (there i less)) | inr more ↦ more ] in
+      let there_more : (i : ℕ) → i < k + 1 → Has (k ∷ before) i =
+      λ i l. elim (cases_eq i k) as (λ _. Has (k ∷ before) i) [ inl here ↦ inl here | inr other ↦ inr (there i (let apart : i ≡ k → ⊥ = other in omega arith)) ] in
+      let only_more : (i : ℕ) → Has (k ∷ before) i → i < k + 1 =
+      λ i h. elim h as (λ _. i < k + 1) [ inl here ↦ omega (arith, here) | inr was ↦ let l : i < k = only i was in omega arith ] in
+      (record { ready = ready; least = least }, in_turn_next (k + 1) m (omega arith) (k ∷ before) there_more only_more)
 
--- the places in turn are the least order
+  -- the places in turn are the least order
+  pub in_turn_least : IsLeastOrder n needs (range_with_len 0 n)
+  in_turn_least = next_least n needs (range_with_len 0 n) (in_turn_next 0 n (omega arith) [] (λ i l. absurd (omega arith)) (λ i h. absurd h)) (λ i l. has_range 0 n i (omega arith) (omega (arith, l)))
+
+  -- and none leads back to itself
+  pub no_way_back : (i : ℕ) → IsOnCircle n needs i → ⊥
+  no_way_back i circle = let l : i < i = leads_down i circle.0 i circle.1 in omega arith
+
 pub in_turn_sorted : (g : Rows) → NeedEarlier g → IsSorted g (range_with_len 0 (length g))
-in_turn_sorted g earlier = record {
-  least = next_least (length g) (Needs g) (range_with_len 0 (length g)) (in_turn_next g earlier 0 (length g) (omega arith) [] (λ i l. absurd (omega arith)) (λ i h. absurd h)) (λ i l. has_range 0 (length g) i (omega arith) (omega (arith, l)));
-  no_circle = λ i circle. let l : i < i = leads_down g earlier i circle.0 i circle.1 in omega arith;
-}
+in_turn_sorted g earlier = record { least = in_turn_least (length g) (Needs g) earlier; no_circle = no_way_back (length g) (Needs g) earlier }

@@ -1,10 +1,11 @@
 //! The types of scopes, and their orders.
 
-ghost use Rattle.std.specs.Prelude.{◌≡◌, ◌<◌, ℕ, ◌++◌, Some, map, length, slice_get, IfOk, OnOk, IfErr};
+ghost use Rattle.std.specs.Prelude.{◌≡◌, ◌<◌, ℕ, ◌++◌, true, false, Some, map, length, slice_get, IfOk, OnOk, IfErr};
 ghost use Rattle.wit_order.specs.Order.{Has};
 ghost use Rattle.wit_scopes.specs.View as scope_view;
 ghost use Rattle.wit_rules.specs.Breaks.{IsKept, IsFaultOf};
 ghost use Rattle.wit_orders.specs.Needs as spec;
+ghost use Rattle.wit_orders.specs.Rows.{AreWithoutNeeds};
 ghost use Rattle.wit_orders.specs.View as seen;
 
 use crate::order::{Entry, order_of};
@@ -75,6 +76,22 @@ fn type_entries<'a>(alloc: Global, types: &[Member<'a>]) -> Result<Vec<Entry<'a>
         })?;
     }
     Ok(found)
+}
+
+/// Whether the definitions of none of the types name a type: then each stands behind all that it needs.
+pub fn name_nothing<'a>(alloc: Global, types: &[Member<'a>]) -> Result<bool, AllocError>
+    ensures yes { IfOk result (λ b. b ≡ true → spec.AreSorted (scope_view.members types.now) (scope_view.members types.now) × IsKept (spec.CircleBreaks (map spec.type_entry (scope_view.members types.now)))) }
+    ensures no { IfOk result (λ b. b ≡ false → AreWithoutNeeds (map spec.type_entry (scope_view.members types.now)) → ⊥) }
+{
+    for member in types {
+        if !member_type_names(alloc, &member.kind)?
+            .as_slice()
+            .is_empty()
+        {
+            return Ok(false);
+        }
+    }
+    Ok(true)
 }
 
 /// The places of the types of a scope, each behind all that its definition names, and of all such orders the least; or P6 at

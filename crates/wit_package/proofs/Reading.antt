@@ -16,7 +16,8 @@ use Rattle.wit_rules.specs.declared.fault.PackageFault.TheVariants.{OutOfMemory,
 use Rattle.wit_rules.proofs.Places.{taken}
 use Rattle.wit_arena.proofs.Lists.{get_more, has_none}
 use Rattle.wit_package.specs.Steps.{Resolves}
-use Rattle.wit_package.specs.Group.{AreRead, AreResolved, IsTextFault, IsReadFault, IsBeginning}
+use Rattle.wit_words.specs.declared.fault.SyntaxFault.{SyntaxFault}
+use Rattle.wit_package.specs.Group.{AreRead, AreResolved, AreRefused, by_main, by_nested, no_memory, by_file, IsTextFault, IsReadFault, IsBeginning, IsTextLeft, AreLeft, of_nowhere, as_read, all}
 use Rattle.wit_package.specs.GroupView as seen
 
 -- what holds of both at each place holds so with one more
@@ -83,15 +84,37 @@ module _ (ts : List Written) (k : ℕ) (d : Written) (within : k < length ts) wh
   pub next_map : (old new : List SourceText) → old ≡ take k (seen.texts ts) → new ≡ old ++ seen.text (get_or ts k d) ∷ [] → new ≡ take (k + 1) (seen.texts ts)
   next_map old new so_far more = more ∙ ap (λ (xs : List SourceText). xs ++ seen.text (get_or ts k d) ∷ []) so_far ∙ sym (taken (seen.texts ts) k (seen.text (get_or ts k d)) text_at)
 
-  pub next_beginning : (old new : List SourceText) → old ≡ take k (seen.texts ts) → (new ≡ old) ⊎ (new ≡ old ++ seen.text (get_or ts k d) ∷ []) → IsBeginning (seen.texts ts) new
-  next_beginning old new so_far kept =
-      elim kept as (λ _. IsBeginning (seen.texts ts) new) [
-        | inl same ↦ (k, same ∙ so_far)
-        | inr more ↦ (k + 1, next_map old new so_far more)
+  pub next_beginning : (old new : List SourceText) → old ≡ take k (seen.texts ts) → (fault : PackageFault) → IsTextLeft old (seen.text (get_or ts k d)) fault new → IsBeginning (seen.texts ts) new
+  next_beginning old new so_far fault left =
+      elim left as (λ _. IsBeginning (seen.texts ts) new) [
+        | inl more ↦ (k + 1, next_map old new so_far more)
+        | inr none ↦ (k, none.1 ∙ so_far)
       ]
+
+  left_up_to : (old new : List SourceText) → old ≡ take k (seen.texts ts) → new ≡ take (k + 1) (seen.texts ts) → (fault : PackageFault) → IsTextFault (total old) (seen.text (get_or ts k d)).contents fault → AreLeft (seen.texts ts) new fault
+  left_up_to old new so_far now OutOfMemory cause = of_nowhere tt (k + 1, now)
+  left_up_to old new so_far now (Syntax f) cause = as_read f (record { place = k; text = seen.text (get_or ts k d); there = text_at; cause = subst (λ (n : ℕ). IsSyntaxFault file n (seen.text (get_or ts k d)).contents f) (ap total so_far) cause }) refl now
+  left_up_to old new so_far now (Broken rule at) cause = absurd cause
+
+  pub left_at : (old new : List SourceText) → old ≡ take k (seen.texts ts) → (fault : PackageFault) → IsTextFault (total old) (seen.text (get_or ts k d)).contents fault → IsTextLeft old (seen.text (get_or ts k d)) fault new → AreLeft (seen.texts ts) new fault
+  left_at old new so_far fault cause left = elim left as (λ _. AreLeft (seen.texts ts) new fault) [
+    | inl more ↦ left_up_to old new so_far (next_map old new so_far more) fault cause
+    | inr none ↦ of_nowhere none.0 (k, none.1 ∙ so_far)
+  ]
 
   pub read_fault : (old : List SourceText) → old ≡ take k (seen.texts ts) → (fault : PackageFault) → IsTextFault (total old) (seen.text (get_or ts k d)).contents fault → IsReadFault (seen.texts ts) fault
   read_fault old so_far = text_breaks (seen.texts ts) k (seen.text (get_or ts k d)) text_at (total old) (ap total so_far)
+
+-- of files that are refused all texts are left
+no_syntax : (files : List FileTree) (f : SyntaxFault) → AreRefused files (Syntax f) → ⊥
+no_syntax files f (by_main r) = r.cause
+no_syntax files f (by_nested (no_memory e)) = cc
+no_syntax files f (by_nested (by_file g has r)) = r.cause
+
+pub all_left : (texts left : List SourceText) (files : List FileTree) (fault : PackageFault) → left ≡ texts → AreRefused files fault → AreLeft texts left fault
+all_left texts left files OutOfMemory are h = of_nowhere tt (length texts, are ∙ sym (take-length texts))
+all_left texts left files (Syntax f) are h = absurd (no_syntax files f h)
+all_left texts left files (Broken rule at) are h = all rule at refl are
 
 -- behind the last text all are taken
 pub all_taken : (ts : List Written) (k : ℕ) (now : List SourceText) → length ts ≤ k → now ≡ take k (seen.texts ts) → now ≡ seen.texts ts

@@ -1,8 +1,9 @@
 -- Packages by their texts (WIT, Packages, Nested Packages).
-use Rattle.std.specs.Prelude.{◌≡◌, ℕ, List, [], ◌∷◌, length, take, slice_get, Some}
+use Rattle.std.specs.Prelude.{◌≡◌, ◌⊎◌, ◌+◌, ◌++◌, ℕ, List, [], ◌∷◌, length, take, slice_get, Some}
 use Rattle.wit_words.specs.Sources.{SourceText, total}
 use Rattle.wit_words.specs.declared.source_map.SourceFault.{SourceFault}
 use Rattle.wit_words.specs.declared.source_map.SourceFault.TheVariants as sources
+use Rattle.wit_words.specs.declared.source_map.Span.{Span}
 use Rattle.wit_words.specs.declared.fault.SyntaxFault.{SyntaxFault}
 use Rattle.wit_words.specs.declared.fault.SyntaxFault.TheVariants as faults
 use Rattle.wit_productions.specs.Broken.{IsSyntaxFault}
@@ -10,6 +11,7 @@ use Rattle.wit_syntax.specs.Ast.{FileTree}
 use Rattle.wit_syntax.specs.FileGrammar.{file}
 use Rattle.wit_syntax.specs.WholeText.{IsText}
 use Rattle.wit_types.specs.declared.«package».UnresolvedPackage.{UnresolvedPackage}
+use Rattle.wit_rules.specs.declared.fault.PackageRule.{PackageRule}
 use Rattle.wit_rules.specs.declared.fault.PackageFault.{PackageFault}
 use Rattle.wit_rules.specs.declared.fault.PackageFault.TheVariants.{OutOfMemory, Syntax, Broken}
 use Rattle.wit_arena.specs.Meaning.{Has}
@@ -80,3 +82,24 @@ IsTextsFault texts (Broken rule at) = (files : List FileTree) × AreRead texts f
 -- the first of them
 abbrev pub IsBeginning : List SourceText → List SourceText → Type 0
 IsBeginning texts first = (k : ℕ) × (first ≡ take k texts)
+
+-- a fault that stands at no place of a text
+abbrev pub IsNowhere : SyntaxFault → Type 0
+IsNowhere faults.TooLarge = Unit {0}
+IsNowhere faults.OutOfMemory = Unit {0}
+IsNowhere _ = ⊥
+
+abbrev pub StandsNowhere : PackageFault → Type 0
+StandsNowhere OutOfMemory = Unit {0}
+StandsNowhere (Syntax fault) = IsNowhere fault
+StandsNowhere (Broken rule at) = ⊥
+
+-- what is left of a text that isn't taken: it stands behind the others, or maybe not, where the fault stands nowhere
+abbrev pub IsTextLeft : List SourceText → SourceText → PackageFault → List SourceText → Type 0
+IsTextLeft was text fault now = (now ≡ was ++ text ∷ []) ⊎ (StandsNowhere fault × (now ≡ was))
+
+-- and of texts: those up to the one that isn't read, all where a rule is broken, or some of the first, where the fault stands nowhere
+pub data AreLeft (texts left : List SourceText) (fault : PackageFault) : Type 0 where
+  of_nowhere : StandsNowhere fault → IsBeginning texts left → AreLeft texts left fault
+  as_read : (f : SyntaxFault) (one : OneTextBreaks texts f) → fault ≡ Syntax f → left ≡ take (one.place + 1) texts → AreLeft texts left fault
+  all : (rule : PackageRule) (at : Span) → fault ≡ Broken rule at → left ≡ texts → AreLeft texts left fault

@@ -83,7 +83,7 @@ fn add_text<'t>(
     requires { spec.AreRead map.old (seen.trees files.old.items) }
     ensures read { OnOk result (spec.AreRead map.new (seen.trees files.new.items)) }
     ensures added { OnOk result (map.new ≡ map.old ++ record { path = path.now; contents = text.entry.now } ∷ []) }
-    ensures kept { OnErr result ((map.new ≡ map.old) ⊎ (map.new ≡ map.old ++ record { path = path.now; contents = text.entry.now } ∷ [])) }
+    ensures left { IfErr result (λ fault. spec.IsTextLeft map.old (record { path = path.now; contents = text.entry.now }) fault map.new) }
     ensures cause { IfErr result (spec.IsTextFault (total map.old) text.entry.now) }
 {
     match map.push(path, text) {
@@ -102,6 +102,7 @@ fn read_texts<'t>(
     ensures read { IfOk result (λ v. spec.AreRead (seen.texts texts.now) (seen.trees v.items)) }
     ensures all { OnOk result (map.new ≡ seen.texts texts.now) }
     ensures beginning { spec.IsBeginning (seen.texts texts.now) map.new }
+    ensures left { IfErr result (spec.AreLeft (seen.texts texts.now) map.new) }
     ensures cause { IfErr result (spec.IsReadFault (seen.texts texts.now)) }
 {
     let mut files = Vec::new(alloc);
@@ -158,6 +159,7 @@ fn packages_in(
     ensures ok { IfOk result (λ p. spec.AreParsed (seen.texts texts.now) p.main p.nested.items) }
     ensures all { OnOk result (map.new ≡ seen.texts texts.now) }
     ensures beginning { spec.IsBeginning (seen.texts texts.now) map.new }
+    ensures left { IfErr result (spec.AreLeft (seen.texts texts.now) map.new) }
     ensures cause { IfErr result (spec.IsTextsFault (seen.texts texts.now)) }
 {
     match read_texts(alloc, map, texts) {
@@ -176,6 +178,7 @@ impl UnresolvedPackageGroup {
         ensures ok { IfOk result (λ g. spec.AreParsed (record { path = path.now; contents = contents.now } ∷ []) g.main g.nested.items) }
         ensures all { IfOk result (λ g. g.source_map ≡ record { path = path.now; contents = contents.now } ∷ []) }
         ensures beginning { IfErr result (λ e. spec.IsBeginning (record { path = path.now; contents = contents.now } ∷ []) e.0) }
+        ensures left { IfErr result (λ e. spec.AreLeft (record { path = path.now; contents = contents.now } ∷ []) e.0 e.1) }
         ensures cause { IfErr result (λ e. spec.IsTextsFault (record { path = path.now; contents = contents.now } ∷ []) e.1) }
     {
         UnresolvedPackageGroup::parse_all(alloc, [(path, contents)].as_slice())
@@ -183,8 +186,8 @@ impl UnresolvedPackageGroup {
 
     /// The packages of texts that are files of one package, by their paths and contents.
     ///
-    /// Where they are refused it answers the texts up to the one that is refused, and why: a text that isn't read (S1 to S8),
-    /// or a package that breaks a rule (P1 to P11).
+    /// Where they are refused it answers why, a text that isn't read (S1 to S8) or a package that breaks a rule (P1 to P11), and the texts up
+    /// to the one that isn't read, or all: the place of the fault lies in them.
     pub fn parse_all(
         alloc: Global,
         texts: &[(&str, &str)],
@@ -192,6 +195,7 @@ impl UnresolvedPackageGroup {
         ensures ok { IfOk result (λ g. spec.AreParsed (seen.texts texts.now) g.main g.nested.items) }
         ensures all { IfOk result (λ g. g.source_map ≡ seen.texts texts.now) }
         ensures beginning { IfErr result (λ e. spec.IsBeginning (seen.texts texts.now) e.0) }
+        ensures left { IfErr result (λ e. spec.AreLeft (seen.texts texts.now) e.0 e.1) }
         ensures cause { IfErr result (λ e. spec.IsTextsFault (seen.texts texts.now) e.1) }
     {
         let mut source_map = SourceMap::new(alloc);

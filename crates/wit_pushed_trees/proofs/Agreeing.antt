@@ -55,7 +55,7 @@ module _ (old new : Owners) (more : HaveMoreOwners old new) where
         same_from now ds (λ i less. (let a = all (suc i) (omega (arith, less)) in (a.0, ap (slice_get (trees_from old given now ds)) (omega (arith, size)) ∙ a.1)))
         ∙ ap (λ (o : Option Tree). trees_from new given (done ++ o ∷ []) ds) same
 
-    same_trees : (a : List TypeDef) → IsWhole old given a → trees old given a ≡ trees new given a
+    pub same_trees : (a : List TypeDef) → IsWhole old given a → trees old given a ≡ trees new given a
     same_trees a whole = same_from [] a (λ i less. (let w = whole i less in (w.0, ap (slice_get (trees old given a)) (omega arith) ∙ flat_some (slice_get (trees old given a) i) w.0 w.1)))
 
     pub still_whole : (a : List TypeDef) → IsWhole old given a → IsWhole new given a

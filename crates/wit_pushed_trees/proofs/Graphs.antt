@@ -1,14 +1,19 @@
 -- Packages that were pushed mean in the graph what they meant.
-use Rattle.std.proofs.Common.{◌≡◌, ℕ, ◌+◌, Bool, true, List, [], ◌∷◌, ◌++◌, zero, suc, length, map, Some, String, inl, inr, refl, sym, subst, ap, ◌∙◌, arith}
+use Rattle.std.proofs.Common.{◌≡◌, ℕ, ◌+◌, Bool, true, false, List, [], ◌∷◌, ◌++◌, zero, suc, length, map, Some, String, inl, inr, refl, sym, subst, ap, ◌∙◌, arith}
 use Rattle.std.proofs.lemmas.Option.{same_Some}
-use Rattle.std.specs.Prelude.{slice_get, string_bytes}
+use Rattle.std.specs.Prelude.{if◌then◌else◌, slice_get, string_bytes}
 use Rattle.std.specs.declared.alloc.Global.{Global}
 use Rattle.wit_words.specs.declared.source_map.Span.{Span}
 use Rattle.wit_types.specs.declared.function.Param.{Param}
 use Rattle.wit_types.specs.declared.function.Function.{Function}
+use Rattle.wit_types.specs.declared.function.FunctionKind.{FunctionKind}
+use Rattle.wit_types.specs.declared.function.FunctionKind.TheVariants as of
 use Rattle.wit_types.specs.declared.interface.Interface.{Interface}
 use Rattle.wit_types.specs.declared.interface.TypeDef.{TypeDef}
+use Rattle.wit_types.specs.declared.interface.TypeOwner.TheVariants as belongs
+use Rattle.wit_types.specs.declared.stability.Stability.{Stability}
 use Rattle.wit_types.specs.declared.world.World.{World}
+use Rattle.wit_types.specs.declared.world.WorldInclude.{WorldInclude}
 use Rattle.wit_types.specs.declared.world.WorldItem.{WorldItem}
 use Rattle.wit_types.specs.declared.world.WorldItem.TheVariants as item
 use Rattle.wit_types.specs.declared.world_key.WorldKey.{WorldKey}
@@ -16,6 +21,8 @@ use Rattle.wit_types.specs.declared.world_key.WorldKey.TheVariants as key
 use Rattle.wit_types.specs.WorldKey.{spelled, known}
 use Rattle.wit_features.specs.Features.{FeatureSet, stays}
 use Rattle.wit_scopes.specs.Members.{MemberTree}
+use Rattle.wit_scopes.specs.declared.worlds.Side.{Side}
+use Rattle.wit_scopes.specs.declared.worlds.Side.TheVariants.{Import, Export}
 use Rattle.wit_scopes.specs.Scopes.{WorldScope}
 use Rattle.wit_arena.specs.Tree.{Name, Place, in_world, Owner, Tree, Trees}
 use Rattle.wit_arena.specs.Unfold.{Owners, trees}
@@ -23,23 +30,29 @@ use Rattle.wit_arena.specs.Standing.{Stands}
 use Rattle.wit_arena.specs.Meaning.{Has}
 use Rattle.wit_arena.proofs.Lists.{has_none, has_here, has_later, has_cases, map_has}
 use Rattle.wit_moves.specs.Breaks.{AnyOf, IsKept}
-use Rattle.wit_moves.specs.Moved.{Places, place_of, is_signature_placed, to, IsMovedFunction}
+use Rattle.wit_moves.specs.Moved.{moved_function_kind, Places, place_of, is_placed, is_signature_placed, to, IsMovedFunction}
 use Rattle.wit_moves.specs.Interfaces.{AreKept, no_entries, one_goes, one_stays, FunctionsBreak, function_stays, IsMovedInterface}
-use Rattle.wit_moves.specs.Worlds.{item_stays, IsMovedItem, moved_function, moved_type, moved_key, moved_entry, IsMovedSide, SideBreaks}
+use Rattle.wit_moves.specs.Worlds.{item_stays, IsMovedItem, moved_interface, moved_function, moved_type, moved_key, moved_entry, IsMovedSide, SideBreaks}
 use Rattle.wit_moved_trees.specs.Law.{StandForTheSame, MovedNamesStandForTheSame, MovedFunctionsStandForTheSame}
 use Rattle.wit_moved_trees.proofs.Moving.{either}
-use Rattle.wit_plans.specs.Checks.{Standing, WorldBreaks}
-use Rattle.wit_plans.specs.Moves.{AreMovedWorlds, no_worlds, world_goes, world_stays, IsMovedWorld}
+use Rattle.wit_plans.specs.Checks.{Standing, IncludeBreaks, WorldBreaks}
+use Rattle.wit_plans.specs.Moves.{moved_include, AreMovedWorlds, no_worlds, world_goes, world_stays, IsMovedWorld}
 use Rattle.wit_plans.specs.Plans.{standing}
 use Rattle.wit_plans.specs.declared.moves.MovedWorld.{MovedWorld}
 use Rattle.wit_placed.proofs.Holding.{interface_kept, goes_to}
 use Rattle.wit_placed.proofs.Own.{interface_from}
+use Rattle.wit_readiness.proofs.Flat.{in_flat, has_one}
 use Rattle.wit_resolved_scopes.specs.InArena.{Context}
 use Rattle.wit_resolved_scopes.specs.Texts.{InterfaceText, own_members}
 use Rattle.wit_graph_parts.specs.Own.{own_parts}
-use Rattle.wit_pushed_trees.specs.Meaning.{IsFunctionMeant, IsInterfaceMeant, IsOfText}
-use Rattle.wit_pushed_trees.specs.Worlds.{IsTextOf, IsTypeMeant, IsOwnFunctionMeant, IsWorldMeant}
-use Rattle.wit_pushed_trees.specs.Pushed.{PushedTypesStandForTheSame, PushedInterfacesMeanTheirTexts, PushedWorldsMeanTheirTexts}
+use Rattle.wit_types.specs.declared.«package».PackageName.{PackageName}
+use Rattle.wit_types.specs.declared.«package».UnresolvedPackage.{UnresolvedPackage}
+use Rattle.wit_graph.specs.Graph.{Graph}
+use Rattle.wit_graph.specs.Push.{IsPushed}
+use Rattle.wit_pushed_trees.specs.Meaning.{is_async, IsFunctionMeant, IsInterfaceMeant, IsOfText}
+use Rattle.wit_pushed_trees.specs.Worlds.{IsTextOf, IsTypeMeant, IsOwnFunctionMeant, IsInterfaceListed, IsIncludeMeant, IsWorldMeant}
+use Rattle.wit_pushed_trees.specs.Packages.{IsPackageMeant}
+use Rattle.wit_pushed_trees.specs.Pushed.{AreAgreed, PushedTypesStandForTheSame, PushedInterfacesMeanTheirTexts, PushedWorldsMeanTheirTexts}
 use Rattle.wit_pushed_trees.proofs.Parts.{parts_joined, parts_split}
 
 -- ---- lists of which some goes
@@ -62,11 +75,20 @@ kept_was {K} {V} stays changes _ _ (one_stays k v u es fs st change rest) x w ha
 
 -- ---- types and functions
 
+pub async_moved : (goes : ℕ → ℕ) (k : FunctionKind) → is_async (moved_function_kind goes k) ≡ is_async k
+async_moved goes of.Freestanding = refl
+async_moved goes of.AsyncFreestanding = refl
+async_moved goes (of.Method r) = refl
+async_moved goes (of.AsyncMethod r) = refl
+async_moved goes (of.Static r) = refl
+async_moved goes (of.AsyncStatic r) = refl
+async_moved goes (of.Constructor r) = refl
+
 module _ (given : Owner → Name → Tree) (c : Context) (graph_owners : Owners) (places : Places) (a b : List TypeDef) (stand : StandForTheSame given places c.owners a graph_owners b) where
   type_goes : (o : Place) (x : Name) (i j : ℕ) → place_of places i ≡ Some j → Stands c.me c.scopes given c.owners a o x i → Stands c.me c.scopes given graph_owners b o x j
   type_goes o x i j at means = (means.0, stand i j means.0 at means.1, means.2)
 
-  function_goes : MovedFunctionsStandForTheSame → (o : Place) (ms : List MemberTree) (f g : Function) → IsMovedFunction (to places) f g → is_signature_placed places f.params.items f.result ≡ true → IsFunctionMeant given c c.owners a o ms f
+  abbrev function_goes : MovedFunctionsStandForTheSame → (o : Place) (ms : List MemberTree) (f g : Function) → IsMovedFunction (to places) f g → is_signature_placed places f.params.items f.result ≡ true → IsFunctionMeant given c c.owners a o ms f
       → IsFunctionMeant given c graph_owners b o ms g
   function_goes functions_stand o ms f g moved all_placed is =
       let split = parts_split (trees c.owners given a) (map (λ (q : Param). Some q.ty) f.params.items) f.result is.means.parts is.means.unfolds in
@@ -76,6 +98,8 @@ module _ (given : Owner → Name → Tree) (c : Context) (graph_owners : Owners)
         member = is.member;
         written = is.written;
         named = ap (λ (n : String Global). string_bytes n) moved.name ∙ is.named;
+        params_named = there.names_are ∙ is.params_named;
+        asynchronous = ap is_async moved.kind ∙ async_moved (to places) f.kind ∙ is.asynchronous;
         means = record {
           parts = is.means.parts;
           unfolds = parts_joined (trees graph_owners given b) (map (λ (q : Param). Some q.ty) g.params.items) g.result split.front split.last there.params_are there.result_is ∙ ap (λ (ts : Trees). Some ts) (sym split.are);
@@ -112,6 +136,12 @@ module _ (names_stand : MovedNamesStandForTheSame) (functions_stand : MovedFunct
 
 -- ---- a world
 
+-- one of some that are kept
+any_kept : (features : FeatureSet) (s : Standing) (ns : List WorldInclude) → IsKept (AnyOf (IncludeBreaks features s) ns) → (k : ℕ) (n : WorldInclude) → slice_get ns k ≡ Some n → IsKept (IncludeBreaks features s n)
+any_kept features s [] kept k n at = absurd cc
+any_kept features s (o ∷ ns) kept zero n at = λ where_ b. kept where_ (inl (subst (λ (x : WorldInclude). IncludeBreaks features s x where_) (sym (same_Some o n at)) b))
+any_kept features s (o ∷ ns) kept (suc k) n at = any_kept features s ns (λ where_ b. kept where_ (inr b)) k n at
+
 -- a type
 type_from : (places interfaces : Places) (v : WorldItem) (i : ℕ) (span : Span) → IsMovedItem (to places) (to interfaces) v (item.TypeItem i span) → (j : ℕ) × (v ≡ item.TypeItem j span) × (i ≡ to places j)
 type_from places interfaces _ _ _ (moved_type j s) = (j, refl, refl)
@@ -119,6 +149,10 @@ type_from places interfaces _ _ _ (moved_type j s) = (j, refl, refl)
 -- and a function
 function_from : (places interfaces : Places) (v : WorldItem) (g : Function) → IsMovedItem (to places) (to interfaces) v (item.Function g) → (f : Function) × (v ≡ item.Function f) × IsMovedFunction (to places) f g
 function_from places interfaces _ _ (moved_function f g is) = (f, refl, is)
+
+-- and an interface
+interface_from_item : (places interfaces : Places) (v : WorldItem) (i : ℕ) (gate : Stability) (span : Span) → IsMovedItem (to places) (to interfaces) v (item.Interface i gate span) → (j : ℕ) × (v ≡ item.Interface j gate span) × (i ≡ to interfaces j)
+interface_from_item places interfaces _ _ _ _ (moved_interface j g s) = (j, refl, refl)
 
 -- a key that is spelled stays
 spelled_key : (f : ℕ → ℕ) (k : WorldKey) (x : Name) → known k ≡ spelled x → known (moved_key f k) ≡ spelled x
@@ -149,7 +183,9 @@ side_was features places interfaces old new (kept, are, is) k x has =
     }
 
 module _ (functions_stand : MovedFunctionsStandForTheSame) (given : Owner → Name → Tree) (c : Context) (graph_owners : Owners) (features : FeatureSet) (s : Standing) (a b : List TypeDef) (stand : StandForTheSame given s.types c.owners a graph_owners b) (ws : List WorldScope) (old : World) (m : MovedWorld)
-    (is : IsWorldMeant given c c.owners a ws old.name old.imports.entries old.exports.entries) (moved : IsMovedWorld features s old m)
+    (is : IsWorldMeant given c c.owners a ws old.name old.imports.entries old.exports.entries old.includes.items) (moved : IsMovedWorld features s old m)
+    (interfaces_are : (j : ℕ) → is_placed s.interfaces j ≡ true → slice_get graph_owners.interfaces (to s.interfaces j) ≡ slice_get c.owners.interfaces j)
+    (worlds_are : (j : ℕ) → is_placed s.worlds j ≡ true → slice_get graph_owners.worlds (to s.worlds j) ≡ slice_get c.owners.worlds j)
   where
     text_goes : (w : WorldScope) → IsTextOf ws old.name w → IsTextOf ws m.name w
     text_goes w t = record { there = t.there; named = ap (λ (n : String Global). string_bytes n) moved.name ∙ t.named }
@@ -175,23 +211,68 @@ module _ (functions_stand : MovedFunctionsStandForTheSame) (given : Owner → Na
       | inr isnt ↦ absurd (kept f.span (record { place = n; one = (k, item.Function f); there = at; stays = stays; unplaced = isnt; stands = refl }))
     ]
 
-    own_function_goes : (es fs : List (WorldKey × WorldItem)) → IsMovedSide features s.types s.interfaces es fs → IsKept (SideBreaks features s.types s.interfaces es) → ((k : WorldKey) (f : Function) → Has es (k, item.Function f) → IsOwnFunctionMeant given c c.owners a ws old.name f)
-        → (k : WorldKey) (g : Function) → Has fs (k, item.Function g) → IsOwnFunctionMeant given c graph_owners b ws m.name g
-    own_function_goes es fs side kept meant k g has =
-        let was = side_was features s.types s.interfaces es fs side k (item.Function g) has in
+    own_function_goes : (side : Side) (es fs : List (WorldKey × WorldItem)) → IsMovedSide features s.types s.interfaces es fs → IsKept (SideBreaks features s.types s.interfaces es)
+        → ((k : WorldKey) (f : Function) → Has es (k, item.Function f) → IsOwnFunctionMeant given c c.owners a ws old.name side f)
+        → (k : WorldKey) (g : Function) → Has fs (k, item.Function g) → IsOwnFunctionMeant given c graph_owners b ws m.name side g
+    own_function_goes side es fs sides kept meant k g has =
+        let was = side_was features s.types s.interfaces es fs sides k (item.Function g) has in
         let from = function_from s.types s.interfaces was.item_was g was.moved in
         let there : Has es (was.first, item.Function from.0) = subst (λ (x : WorldItem). Has es (was.first, x)) from.1 was.there in
         let stays_there = subst (λ (x : WorldItem). item_stays features s.types x ≡ true) from.1 was.stayed in
         let f = meant was.first from.0 there in
-        record { text = f.text; is_text = text_goes f.text f.is_text; is = function_goes given c graph_owners s.types a b stand functions_stand (in_world f.text.name.text) (own_members f.text.members) from.0 g from.2 (all_go es kept there.0 was.first from.0 there.1 stays_there) f.is }
+        record { text = f.text; is_text = text_goes f.text f.is_text; is = function_goes given c graph_owners s.types a b stand functions_stand (in_world f.text.name.text) (own_members f.text.members) from.0 g from.2 (all_go es kept there.0 was.first from.0 there.1 stays_there) f.is; giver = f.giver; on_side = f.on_side; gives = f.gives }
 
-    world_goes_there : IsKept (SideBreaks features s.types s.interfaces old.imports.entries) → IsKept (SideBreaks features s.types s.interfaces old.exports.entries) → IsWorldMeant given c graph_owners b ws m.name m.imports.items m.exports.items
-    world_goes_there imports_kept exports_kept = record {
+    interface_placed : (es : List (WorldKey × WorldItem)) → IsKept (SideBreaks features s.types s.interfaces es) → (n : ℕ) (k : WorldKey) (j : ℕ) (gate : Stability) (span : Span) → slice_get es n ≡ Some (k, item.Interface j gate span)
+        → item_stays features s.types (item.Interface j gate span) ≡ true → is_placed s.interfaces j ≡ true
+    interface_placed es kept n k j gate span at stays = elim (either (is_placed s.interfaces j)) as (λ _. is_placed s.interfaces j ≡ true) [
+      | inl is_there ↦ is_there
+      | inr isnt ↦ absurd (kept span (record { place = n; one = (k, item.Interface j gate span); there = at; stays = stays; unplaced = isnt; stands = refl }))
+    ]
+
+    interface_listed : (side : Side) (es fs : List (WorldKey × WorldItem)) → IsMovedSide features s.types s.interfaces es fs → IsKept (SideBreaks features s.types s.interfaces es)
+        → ((k : WorldKey) (i : ℕ) (gate : Stability) (span : Span) → Has es (k, item.Interface i gate span) → IsInterfaceListed c c.owners ws old.name side i)
+        → (k : WorldKey) (i : ℕ) (gate : Stability) (span : Span) → Has fs (k, item.Interface i gate span) → IsInterfaceListed c graph_owners ws m.name side i
+    interface_listed side es fs sides kept listed k i gate span has =
+        let was = side_was features s.types s.interfaces es fs sides k (item.Interface i gate span) has in
+        let from = interface_from_item s.types s.interfaces was.item_was i gate span was.moved in
+        let there : Has es (was.first, item.Interface from.0 gate span) = subst (λ (x : WorldItem). Has es (was.first, x)) from.1 was.there in
+        let stays_there = subst (λ (x : WorldItem). item_stays features s.types x ≡ true) from.1 was.stayed in
+        let l = listed was.first from.0 gate span there in
+        record {
+          text = l.text;
+          is_text = text_goes l.text l.is_text;
+          listed = l.listed;
+          there = l.there;
+          side_is = l.side_is;
+          whose = l.whose;
+          listed_as = l.listed_as;
+          owner = ap (slice_get graph_owners.interfaces) from.2 ∙ interfaces_are from.0 (interface_placed es kept there.0 was.first from.0 gate span there.1 stays_there) ∙ l.owner;
+        }
+
+    include_goes : IsKept (AnyOf (IncludeBreaks features s) old.includes.items) → (n : WorldInclude) → Has m.includes.items n → IsIncludeMeant c graph_owners ws m.name n
+    include_goes kept n has =
+        let r = in_flat (moved_include features s.worlds) old.includes.items n (subst (λ (ns : List WorldInclude). Has ns n) moved.includes has) in
+        of r.0 r.1 (stays features r.0.stability) refl r.2
+      where
+        of : (o : WorldInclude) → Has old.includes.items o → (b : Bool) → stays features o.stability ≡ b → Has (if b then record o { id = to s.worlds o.id } ∷ [] else []) n → IsIncludeMeant c graph_owners ws m.name n
+        of o was false gate h = absurd (has_none n h)
+        of o was true gate h =
+            let i : IsIncludeMeant c c.owners ws old.name o = is.included o was in
+            let same : n ≡ record o { id = to s.worlds o.id } = has_one (record o { id = to s.worlds o.id }) n h in
+            let placed : is_placed s.worlds o.id ≡ true = elim (either (is_placed s.worlds o.id)) as (λ _. is_placed s.worlds o.id ≡ true) [
+              | inl is_there ↦ is_there
+              | inr isnt ↦ absurd (any_kept features s old.includes.items kept was.0 o was.1 o.span (gate, isnt, refl))
+            ] in
+            subst (IsIncludeMeant c graph_owners ws m.name) (sym same) (record { text = i.text; is_text = text_goes i.text i.is_text; written = i.written; there = i.there; owner = worlds_are o.id placed ∙ i.owner; names = i.names })
+
+    world_goes_there : IsKept (AnyOf (IncludeBreaks features s) old.includes.items) → IsKept (SideBreaks features s.types s.interfaces old.imports.entries) → IsKept (SideBreaks features s.types s.interfaces old.exports.entries) → IsWorldMeant given c graph_owners b ws m.name m.imports.items m.exports.items m.includes.items
+    world_goes_there includes_kept imports_kept exports_kept = record {
       own_types = own_type_goes;
-      functions = λ k g has. elim has as (λ _. IsOwnFunctionMeant given c graph_owners b ws m.name g) [
-        | inl imported ↦ own_function_goes old.imports.entries m.imports.items moved.imports imports_kept (λ k f h. is.functions k f (inl h)) k g imported
-        | inr exported ↦ own_function_goes old.exports.entries m.exports.items moved.exports exports_kept (λ k f h. is.functions k f (inr h)) k g exported
-      ];
+      imported_functions = own_function_goes Import old.imports.entries m.imports.items moved.imports imports_kept is.imported_functions;
+      exported_functions = own_function_goes Export old.exports.entries m.exports.items moved.exports exports_kept is.exported_functions;
+      imported = interface_listed Import old.imports.entries m.imports.items moved.imports imports_kept is.imported;
+      exported = interface_listed Export old.exports.entries m.exports.items moved.exports exports_kept is.exported;
+      included = include_goes includes_kept;
     }
 
 -- ---- all that came
@@ -232,10 +313,18 @@ interfaces_go typed names_stand functions_stand given c interfaces worlds graph_
           from.moved kept,
     )
 
-pub worlds_go : PushedTypesStandForTheSame → MovedFunctionsStandForTheSame → PushedWorldsMeanTheirTexts
-worlds_go typed functions_stand given c interfaces worlds graph_owners eq features old p new id package_is h agreed k m at =
+-- wherever its types stand
+pub worlds_go_at : MovedFunctionsStandForTheSame → (given : Owner → Name → Tree) (c : Context) (interfaces : List InterfaceText) (worlds : List WorldScope) (graph_owners : Owners) (eq : PackageName → PackageName → Bool) (features : FeatureSet) (old : Graph) (p : UnresolvedPackage) (new : Graph) (id : ℕ)
+    → IsPackageMeant c interfaces worlds p → (h : IsPushed eq features old p new id) → AreAgreed given c.owners graph_owners old.tables h.foreign h.owners p → (types : List TypeDef) → StandForTheSame given h.places c.owners p.types graph_owners types
+    → (k : ℕ) (m : MovedWorld) → slice_get h.put.added.parts.own_worlds.moved k ≡ Some m → IsWorldMeant given c graph_owners types worlds m.name m.imports.items m.exports.items m.includes.items
+worlds_go_at functions_stand given c interfaces worlds graph_owners eq features old p new id package_is h agreed types stand k m at =
     let s : Standing = standing h.owners h.places in
     let from = stays_from features s (own_parts p).worlds h.put.added.parts.own_worlds.moved h.put.added.parts.own_worlds.are_moved k m at in
     let kept : IsKept (WorldBreaks features s from.old) = world_kept features s (own_parts p).worlds (λ at b. h.are_places.planned.kept at (inr b)) from.place from.old from.was in
-    world_goes_there functions_stand given c graph_owners features s p.types new.tables.types (typed given c.owners graph_owners eq features old p new id h (package_is.whole given) agreed) worlds from.old m
-    (package_is.each_world given from.place from.old from.was) from.moved (λ at b. kept at (from.gate, inl (inl b))) (λ at b. kept at (from.gate, inl (inr b)))
+    world_goes_there functions_stand given c graph_owners features s p.types types stand worlds from.old m
+    (package_is.each_world given from.place from.old from.was) from.moved (λ j placed. agreed.owners_are (belongs.Interface j) placed) (λ j placed. agreed.owners_are (belongs.World j) placed) (λ at b. kept at (from.gate, inr b)) (λ at b. kept at (from.gate, inl (inl b)))
+    (λ at b. kept at (from.gate, inl (inr b)))
+
+pub worlds_go : PushedTypesStandForTheSame → MovedFunctionsStandForTheSame → PushedWorldsMeanTheirTexts
+worlds_go typed functions_stand given c interfaces worlds graph_owners eq features old p new id package_is h agreed k m at =
+    worlds_go_at functions_stand given c interfaces worlds graph_owners eq features old p new id package_is h agreed new.tables.types (typed given c.owners graph_owners eq features old p new id h (package_is.whole given) agreed) k m at

@@ -12,6 +12,7 @@ use Rattle.wit_types.specs.declared.interface.TypeOwner.{TypeOwner}
 use Rattle.wit_types.specs.declared.interface.TypeOwner.TheVariants as belongs
 use Rattle.wit_types.specs.declared.kind.TypeDefKind.{TypeDefKind}
 use Rattle.wit_types.specs.declared.kind.TypeDefKind.TheVariants as kind
+use Rattle.wit_types.specs.declared.«package».PackageName.{PackageName}
 use Rattle.wit_types.specs.declared.«package».UnresolvedPackage.{UnresolvedPackage}
 use Rattle.wit_types.specs.declared.world.IncludeName.{IncludeName}
 use Rattle.wit_types.specs.declared.world.World.{World}
@@ -60,7 +61,10 @@ use Rattle.wit_well_formed.proofs.Offsets.{items_are}
 use Rattle.wit_well_formed.proofs.NamesWithin.{world_type}
 use Rattle.wit_graph_worlds.specs.Added.{AreAdded, none_added, one_added}
 use Rattle.wit_graph_worlds.specs.Worlds.{State}
+use Rattle.wit_features.specs.Features.{FeatureSet}
 use Rattle.wit_graph_parts.specs.Own.{asked_types, own_parts}
+use Rattle.wit_graph.specs.Graph.{Graph}
+use Rattle.wit_graph.specs.Push.{IsPushed}
 use Rattle.wit_pushed_trees.specs.Known.{AreTypesKnown, AreOwnTypesKnown, ResolvedTypesAreKnown, MovedTypesAreKnown, EmptyTypesAreKnown, PushedTypesAreKnown}
 
 -- ---- names of a scope
@@ -273,7 +277,7 @@ renamed_known names w _ _ (brings.one_more d g ds es is more) known zero e at un
     known zero d refl (sym (renamed_kind names (is_of_world w d.owner) d d.name g is) ∙ ap (λ (y : TypeDef). y.kind) (same_Some g e at) ∙ unknown)
 renamed_known names w _ _ (brings.one_more d g ds es is more) known (suc i) e at unknown = renamed_known names w ds es more (λ j x there. known (suc j) x there) i e at unknown
 
-included_known : (worlds : List World) (id : ℕ) (ns : List WorldInclude) (s t : joined.State) → Includes worlds id ns s t → AreTypesKnown s.types → AreTypesKnown t.types
+pub included_known : (worlds : List World) (id : ℕ) (ns : List WorldInclude) (s t : joined.State) → Includes worlds id ns s t → AreTypesKnown s.types → AreTypesKnown t.types
 included_known worlds id _ s _ (includes_none _) known = known
 included_known worlds id _ s u (includes_one ns n _ t _ before at) known =
     let so_far = included_known worlds id ns s t before known in
@@ -281,13 +285,20 @@ included_known worlds id _ s u (includes_one ns n _ t _ before at) known =
     let new = renamed_known n.names.items id types.0 at.1.types.items types.2 (copied_known _ n.id id t.types at.3.own types.0 types.1 so_far) in
     subst AreTypesKnown (sym (ap (λ (x : joined.State). x.types) at.4)) (known_append t.types at.1.types.items so_far new)
 
-added_known : (interfaces : List Interface) (uses : Rows) (owner : ℕ) (ms : List MovedWorld) (s t : State) → AreAdded interfaces uses owner ms s t → AreTypesKnown s.types → AreTypesKnown t.types
+pub added_known : (interfaces : List Interface) (uses : Rows) (owner : ℕ) (ms : List MovedWorld) (s t : State) → AreAdded interfaces uses owner ms s t → AreTypesKnown s.types → AreTypesKnown t.types
 added_known interfaces uses owner _ s _ (none_added _) known = known
 added_known interfaces uses owner _ s u (one_added ms m _ t _ before a) known =
     let sides = a.is_joined.sides in
     subst AreTypesKnown (sym sides.types_are) (included_known t.worlds.listed (length t.worlds.listed) m.includes.items (own_state t.types m) sides.joined sides.includes (added_known interfaces uses owner ms s t before known))
 
+-- before its worlds come
+pub there_known : (eq : PackageName → PackageName → Bool) (features : FeatureSet) (old : Graph) (p : UnresolvedPackage) (new : Graph) (id : ℕ) → (h : IsPushed eq features old p new id)
+    → AreTypesKnown old.tables.types → AreOwnTypesKnown p → AreTypesKnown (old.tables.types ++ h.put.added.parts.own_types.defs)
+there_known eq features old p new id h known own =
+    let a = h.put.added.parts in
+    known_append old.tables.types a.own_types.defs known (defs_known h.owners h.places _ (own_parts p).types a.own_types.defs a.own_types.are_moved own)
+
 pub pushed_known : PushedTypesAreKnown
 pushed_known eq features old p new id h known own =
     let a = h.put.added.parts in
-    added_known _ _ _ _ _ _ a.own_worlds.added (subst AreTypesKnown (sym a.own_types.types_are) (known_append old.tables.types a.own_types.defs known (defs_known h.owners h.places _ (own_parts p).types a.own_types.defs a.own_types.are_moved own)))
+    added_known _ _ _ _ _ _ a.own_worlds.added (subst AreTypesKnown (sym a.own_types.types_are) (there_known eq features old p new id h known own))

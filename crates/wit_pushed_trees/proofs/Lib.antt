@@ -8,7 +8,14 @@ mod Names
 mod Finding
 mod Given
 mod Owning
+mod Tables
+mod Apart
 mod Owned
 mod Resolved
 mod Agreeing
 mod Knowing
+mod Giving
+mod Wholes
+mod Meant
+mod MeantWorlds
+mod Said

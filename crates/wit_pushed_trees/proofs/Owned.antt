@@ -1,6 +1,6 @@
 -- A graph with a package that came to it has owners of all that it holds.
 use Rattle.std.proofs.Common.{◌≡◌, ◌<◌, ℕ, ◌+◌, suc, Bool, true, List, [], ◌∷◌, ◌++◌, map, length, length-append, drop, Option, Some, None, inl, inr, refl, sym, subst, ap, ◌∙◌, arith}
-use Rattle.std.proofs.lemmas.Option.{slice_get_within}
+use Rattle.std.proofs.lemmas.Option.{same_Some, slice_get_within}
 use Rattle.std.specs.Prelude.{String, if◌then◌else◌, string_bytes, slice_get}
 use Rattle.std.specs.declared.alloc.Global.{Global}
 use Rattle.wit_order.specs.Order as order
@@ -26,20 +26,25 @@ use Rattle.wit_plans.specs.Moves.{AreMovedInterfaces, no_interfaces, interface_g
 use Rattle.wit_plans.specs.Plans.{standing}
 use Rattle.wit_plans.specs.declared.moves.MovedWorld.{MovedWorld}
 use Rattle.wit_graph_worlds.specs.Added.{AreAdded, none_added, one_added}
-use Rattle.wit_graph_worlds.specs.Names.{Pair, by_bytes, name_at, interface_names, world_names}
+use Rattle.wit_graph_worlds.specs.Names.{Pair, AreNames, by_bytes, name_at, interface_names, world_names}
 use Rattle.wit_graph_worlds.specs.Worlds.{State}
 use Rattle.wit_graph_parts.specs.Own.{asked, own_parts}
 use Rattle.wit_graph.specs.Graph.{Graph}
 use Rattle.wit_graph.specs.Push.{IsPushed}
-use Rattle.wit_arena.specs.Tree.{PackageText, Place, in_interface, in_world, Owner}
+use Rattle.wit_arena.specs.Tree.{Name, PackageText, Place, in_interface, in_world, Owner}
 use Rattle.wit_arena.specs.Unfold.{Owners, owner_of}
 use Rattle.wit_arena.specs.Meaning.{Has}
-use Rattle.wit_arena.proofs.Lists.{has_none, has_map, get_kept, get_more}
+use Rattle.wit_arena.proofs.Lists.{has_none, has_here, has_right, has_map, get_kept, get_more}
+use Rattle.wit_interfaces.proofs.Behind.{get_either}
+use Rattle.wit_reach.proofs.Holding.{got}
+use Rattle.wit_pushed_trees.specs.Apart.{IsWorldIn, AreWorldsApart, AreWorldsNamedApart, IsNewText}
 use Rattle.wit_pushed_trees.specs.Asked.{text_of}
 use Rattle.wit_pushed_trees.specs.Found.{TellsNamesApart, NamesOfGraphStand, IsInterfaceOf, IsWorldOf, AreFoundByName}
 use Rattle.wit_pushed_trees.specs.Owned.{AreOwnersOf, AreOwned, EmptyGraphsAreOwned, PushedGraphsAreOwned}
 use Rattle.wit_pushed_trees.proofs.Finding.{asked_found, same_text}
-use Rattle.wit_pushed_trees.proofs.Owning.{same_drop, kept_owners, owner_there, table_so}
+use Rattle.wit_pushed_trees.proofs.Apart.{world_place, AreApart, kept_was, kept_apart}
+use Rattle.wit_pushed_trees.proofs.Tables.{names_apart, tables_pushed}
+use Rattle.wit_pushed_trees.proofs.Owning.{same_drop, dropped, kept_owners, owner_there, table_so}
 
 pub empty_owned : EmptyGraphsAreOwned
 empty_owned = record {
@@ -47,6 +52,8 @@ empty_owned = record {
   so_many_worlds = refl;
   interfaces_are = λ w j is. absurd (has_none is.«package» is.there);
   worlds_are = λ w j is. absurd (has_none is.«package» is.there);
+  apart = record { apart = λ i j w at_i at_j. absurd cc; worlds_are = λ i w at. absurd cc; interfaces_are = λ i w x at. absurd cc };
+  tables = record { packages_are = λ i j q r at_i at_j. absurd cc; interfaces_are = λ q has. absurd (has_none q has); worlds_are = λ q has. absurd (has_none q has) };
 }
 
 same_owner : (w : Owner) (t : PackageText) (o : Place) → w.package_text ≡ t → w.place ≡ o → record { package_text = t; place = o } ≡ w
@@ -80,7 +87,7 @@ worlds_kept features s _ _ (o ∷ os) (world_stays w m ws ms st is rest) e =
     let r = worlds_kept features s ws ms os rest (omega (arith, e)) in
     ap (λ (b : Bool). length (if b then o ∷ kept_owners features world_gate ws os else kept_owners features world_gate ws os)) st ∙ (let q : length (o ∷ kept_owners features world_gate ws os) ≡ length (m ∷ ms) = omega (arith, r) in q)
 
-worlds_added : (interfaces : List Interface) (uses : Rows) (owner : ℕ) (ms : List MovedWorld) (s t : State) → AreAdded interfaces uses owner ms s t → length t.worlds.listed ≡ length s.worlds.listed + length ms
+pub worlds_added : (interfaces : List Interface) (uses : Rows) (owner : ℕ) (ms : List MovedWorld) (s t : State) → AreAdded interfaces uses owner ms s t → length t.worlds.listed ≡ length s.worlds.listed + length ms
 worlds_added interfaces uses owner _ s _ (none_added _) = omega arith
 worlds_added interfaces uses owner _ s u (one_added ms m _ t _ before a) =
     let r = worlds_added interfaces uses owner ms s t before in
@@ -132,7 +139,8 @@ world_names_are first (m ∷ ms) e h = elim h as (λ _. IsNameOfWorld first (m �
 -- ---- all of it
 
 module _ (package_owners owners : Owners) (eq : PackageName → PackageName → Bool) (features : FeatureSet) (old : Graph) (p : UnresolvedPackage) (new : Graph) (id : ℕ)
-    (tells : TellsNamesApart eq) (stand : NamesOfGraphStand old) (owned : AreOwned owners old.tables) (are : AreOwnersOf package_owners p) (h : IsPushed eq features old p new id)
+    (tells : TellsNamesApart eq) (stand : NamesOfGraphStand old) (owned : AreOwned owners old.tables) (are : AreOwnersOf package_owners p) (named_apart : AreWorldsNamedApart p) (h : IsPushed eq features old p new id)
+    (is_new : IsNewText old.tables.packages h.put.added.q.name)
   where
     found : AreFoundByName old.tables.packages package_owners h.foreign.interfaces h.foreign.worlds
     found = asked_found eq features old.names old.tables.packages package_owners p h.foreign.interfaces h.foreign.worlds tells stand are.asks h.are_places.found
@@ -237,6 +245,84 @@ module _ (package_owners owners : Owners) (eq : PackageName → PackageName → 
               ∙ ap (λ (o : Owner). Some o) (same_owner w (text_of p.name) (in_world (string_bytes is.name)) (is.text ∙ ap (λ (r : Package). text_of r.name) last.1 ∙ sym text) is.place_is)
         ]
 
+    -- ---- worlds are apart
+
+    abbrev own_owners : List Owner
+    own_owners = drop (length h.foreign.worlds) package_owners.worlds
+
+    abbrev came : List Owner
+    came = kept_owners features world_gate (own_parts p).worlds own_owners
+
+    own_is : (k : ℕ) (w : Owner) → slice_get own_owners k ≡ Some w → (v : World) × (slice_get (own_parts p).worlds k ≡ Some v) × (w ≡ record { package_text = text_of p.name; place = in_world (string_bytes v.name) })
+    own_is k w at =
+        let within : k < length own_owners = slice_get_within own_owners k w at in
+        let size = own_worlds in
+        let v = got (own_parts p).worlds k (omega (arith, within, size)) in
+        let here : slice_get package_owners.worlds ((asked p).worlds + k) ≡ Some w = ap (λ (n : ℕ). slice_get package_owners.worlds (n + k)) (sym asked_worlds) ∙ sym (dropped (length h.foreign.worlds) package_owners.worlds k) ∙ at in
+        (v.0, v.1, same_Some w (record { package_text = text_of p.name; place = in_world (string_bytes v.0.name) }) (sym here ∙ are.worlds_are k v.0 v.1))
+
+    own_apart : AreApart own_owners
+    own_apart i j w at_i at_j =
+        let a = own_is i w at_i in
+        let b = own_is j w at_j in
+        named_apart i j a.0 b.0 a.1 b.1 (world_place (string_bytes a.0.name) (string_bytes b.0.name) (ap (λ (o : Owner). o.place) (sym a.2 ∙ b.2)))
+
+    came_apart : AreApart came
+    came_apart = kept_apart features world_gate (own_parts p).worlds own_owners own_apart
+
+    came_is : (k : ℕ) (w : Owner) → slice_get came k ≡ Some w → (x : Name) × (w.place ≡ in_world x) × (w.package_text ≡ text_of p.name)
+    came_is k w at =
+        let was = kept_was features world_gate (own_parts p).worlds own_owners w (k, at) in
+        let o = own_is was.0 w was.1 in
+        (string_bytes o.0.name, ap (λ (u : Owner). u.place) o.2, ap (λ (u : Owner). u.package_text) o.2)
+
+    not_both : (i j : ℕ) (w : Owner) → slice_get owners.worlds i ≡ Some w → slice_get came j ≡ Some w → ⊥
+    not_both i j w old_at new_at =
+        let was = owned.apart.worlds_are i w old_at in
+        let is = came_is j w new_at in
+        is_new was.«package» was.there (sym was.text ∙ is.2 ∙ text)
+
+    worlds_apart : AreApart all.worlds
+    worlds_apart i j w at_i at_j = elim (get_either owners.worlds came i w at_i) as (λ _. i ≡ j) [
+      | inl old_i ↦ elim (get_either owners.worlds came j w at_j) as (λ _. i ≡ j) [ inl old_j ↦ owned.apart.apart i j w old_i old_j | inr new_j ↦ absurd (not_both i new_j.0 w old_i new_j.2) ]
+      | inr new_i ↦ elim (get_either owners.worlds came j w at_j) as (λ _. i ≡ j) [
+        | inl old_j ↦ absurd (not_both j new_i.0 w old_j new_i.2)
+        | inr new_j ↦ (let one : new_i.0 ≡ new_j.0 = came_apart new_i.0 new_j.0 w new_i.2 new_j.2 in let a : i ≡ length owners.worlds + new_i.0 = new_i.1 in let b : j ≡ length owners.worlds + new_j.0 = new_j.1 in omega (arith, one, a, b))
+      ]
+    ]
+
+    in_new : (w : Owner) → IsWorldIn old.tables.packages w → IsWorldIn new.tables.packages w
+    in_new w is = record {
+      «package» = is.«package»;
+      there = subst (λ (ps : List Package). Has ps is.«package») (sym h.put.added.packages_are) (is.there.0, get_kept old.tables.packages (h.put.added.q ∷ []) is.there.0 is.«package» is.there.1);
+      text = is.text;
+      name = is.name;
+      place_is = is.place_is;
+    }
+
+    all_apart : AreWorldsApart all new.tables.packages
+    all_apart = record {
+      apart = worlds_apart;
+      worlds_are = λ i w at. elim (get_either owners.worlds came i w at) as (λ _. IsWorldIn new.tables.packages w) [
+        | inl was ↦ in_new w (owned.apart.worlds_are i w was)
+        | inr new_one ↦
+            let is = came_is new_one.0 w new_one.2 in
+            record {
+              «package» = h.put.added.q;
+              there = subst (λ (ps : List Package). Has ps h.put.added.q) (sym h.put.added.packages_are) (has_right old.tables.packages (h.put.added.q ∷ []) h.put.added.q (has_here h.put.added.q []));
+              text = is.2 ∙ text;
+              name = is.0;
+              place_is = is.1;
+            }
+      ];
+      interfaces_are = λ i w x at e. elim (get_either owners.interfaces (kept_owners features interface_gate (own_parts p).interfaces (drop (length h.foreign.interfaces) package_owners.interfaces)) i w at) as (λ _. ⊥) [
+        | inl was ↦ owned.apart.interfaces_are i w x was e
+        | inr new_one ↦
+            let was = kept_was features interface_gate (own_parts p).interfaces (drop (length h.foreign.interfaces) package_owners.interfaces) w (new_one.0, new_one.2) in
+            are.no_worlds was.0 w x (ap (λ (n : ℕ). slice_get package_owners.interfaces (n + was.0)) (sym asked_interfaces) ∙ sym (dropped (length h.foreign.interfaces) package_owners.interfaces was.0) ∙ was.1) e
+      ];
+    }
+
     all_owned : AreOwned all new.tables
     all_owned = record {
       so_many_interfaces =
@@ -256,12 +342,18 @@ module _ (package_owners owners : Owners) (eq : PackageName → PackageName → 
           omega (arith, front, kept, there, was);
       interfaces_are = interface_named;
       worlds_are = world_named;
+      apart = all_apart;
+      tables = tables_pushed old.tables.packages h.put.added.q new.tables.packages h.put.added.packages_are owned.tables is_new
+          (names_apart (interface_names (length old.tables.interfaces.all) h.put.added.parts.own_interfaces.moved) h.put.added.q.interfaces.entries
+          (subst (AreNames (interface_names (length old.tables.interfaces.all) h.put.added.parts.own_interfaces.moved)) (sym h.put.added.is_package.interfaces_are) h.put.added.parts.own_interfaces.named))
+          (names_apart (world_names (length old.tables.worlds.listed) h.put.added.parts.own_worlds.moved) h.put.added.q.worlds.entries
+          (subst (AreNames (world_names (length old.tables.worlds.listed) h.put.added.parts.own_worlds.moved)) (sym h.put.added.is_package.worlds_are) h.put.added.parts.own_worlds.named));
     }
 
 pub pushed_owned : PushedGraphsAreOwned
-pushed_owned package_owners owners eq features old p new id tells stand owned are h = record {
-  all = all package_owners owners eq features old p new id tells stand owned are h;
+pushed_owned package_owners owners eq features old p new id tells stand owned are named_apart h is_new = record {
+  all = all package_owners owners eq features old p new id tells stand owned are named_apart h is_new;
   more = record { interfaces = _; interfaces_are = refl; worlds = _; worlds_are = refl };
-  owned = all_owned package_owners owners eq features old p new id tells stand owned are h;
-  owners_are = owners_are package_owners owners eq features old p new id tells stand owned are h;
+  owned = all_owned package_owners owners eq features old p new id tells stand owned are named_apart h is_new;
+  owners_are = owners_are package_owners owners eq features old p new id tells stand owned are named_apart h is_new;
 }

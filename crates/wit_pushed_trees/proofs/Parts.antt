@@ -5,11 +5,7 @@ use Rattle.std.specs.Prelude.{option_map}
 use Rattle.wit_types.specs.declared.kind.«Type».{«Type» as Ref}
 use Rattle.wit_arena.specs.Tree.{Tree, TreeOption, Trees, no_trees, trees_and}
 use Rattle.wit_arena.specs.Unfold.{and_then, part_tree, part_trees}
-
--- one more behind
-abbrev pub joined : Trees → TreeOption → Trees
-joined no_trees t = trees_and t no_trees
-joined (trees_and u us) t = trees_and u (joined us t)
+use Rattle.wit_pushed_trees.specs.Said.{with_result}
 
 -- a row of parts, and one behind it
 pub record AreSplit (done : List (Option Tree)) (rs : List (Option Ref)) (r : Option Ref) (ts : Trees) : Type 0 where
@@ -17,7 +13,7 @@ pub record AreSplit (done : List (Option Tree)) (rs : List (Option Ref)) (r : Op
   pub last : TreeOption
   pub front_is : part_trees done rs ≡ Some front
   pub last_is : part_tree done r ≡ Some last
-  pub are : ts ≡ joined front last
+  pub are : ts ≡ with_result front last
 
 -- one in front, where both have trees
 and_front : (o : Option TreeOption) (p : Option Trees) (ts : Trees) → and_then (λ u. option_map (trees_and u) p) o ≡ Some ts → (u : TreeOption) × (us : Trees) × (o ≡ Some u) × (p ≡ Some us) × (trees_and u us ≡ ts)
@@ -29,12 +25,12 @@ front_and : (o : Option TreeOption) (p : Option Trees) (u : TreeOption) (us : Tr
 front_and o p u us at_o at_p = rw (at_o, at_p) refl
 
 module _ (done : List (Option Tree)) where
-  pub parts_joined : (rs : List (Option Ref)) (r : Option Ref) (ts : Trees) (t : TreeOption) → part_trees done rs ≡ Some ts → part_tree done r ≡ Some t → part_trees done (rs ++ r ∷ []) ≡ Some (joined ts t)
+  pub parts_joined : (rs : List (Option Ref)) (r : Option Ref) (ts : Trees) (t : TreeOption) → part_trees done rs ≡ Some ts → part_tree done r ≡ Some t → part_trees done (rs ++ r ∷ []) ≡ Some (with_result ts t)
   parts_joined [] r ts t front last =
-      front_and (part_tree done r) (Some no_trees) t no_trees last refl ∙ ap (λ (us : Trees). Some (joined us t)) (same_Some no_trees ts front)
+      front_and (part_tree done r) (Some no_trees) t no_trees last refl ∙ ap (λ (us : Trees). Some (with_result us t)) (same_Some no_trees ts front)
   parts_joined (q ∷ rs) r ts t front last =
       let f = and_front (part_tree done q) (part_trees done rs) ts front in
-      front_and (part_tree done q) (part_trees done (rs ++ r ∷ [])) f.0 (joined f.1 t) f.2 (parts_joined rs r f.1 t f.3 last) ∙ ap (λ (us : Trees). Some (joined us t)) f.4
+      front_and (part_tree done q) (part_trees done (rs ++ r ∷ [])) f.0 (with_result f.1 t) f.2 (parts_joined rs r f.1 t f.3 last) ∙ ap (λ (us : Trees). Some (with_result us t)) f.4
 
   pub parts_split : (rs : List (Option Ref)) (r : Option Ref) (ts : Trees) → part_trees done (rs ++ r ∷ []) ≡ Some ts → AreSplit done rs r ts
   parts_split [] r ts h =

@@ -10,7 +10,7 @@ use Rattle.wit_types.specs.declared.«package».UnresolvedPackage.{UnresolvedPac
 use Rattle.wit_types.specs.declared.world.World.{World}
 use Rattle.wit_offsets.specs.Offsets.{interface_by, world_by, span_at}
 use Rattle.wit_scopes.specs.Scopes.{WorldScope}
-use Rattle.wit_arena.specs.Tree.{Name, in_interface, in_world, PackageText}
+use Rattle.wit_arena.specs.Tree.{Name, in_interface, in_world, PackageText, Owner}
 use Rattle.wit_arena.specs.Unfold.{Owners}
 use Rattle.wit_arena.specs.Meaning.{Has, package_text}
 use Rattle.wit_arena.proofs.Lists.{has_none, map_has}
@@ -29,6 +29,7 @@ use Rattle.wit_well_formed.proofs.Lists.{get_drop, got_behind}
 use Rattle.wit_graph_parts.specs.Own.{asked, own_parts}
 use Rattle.wit_pushed_trees.specs.Asked.{text_of}
 use Rattle.wit_pushed_trees.specs.Owned.{ResolvedPackagesHaveOwners, MovedPackagesHaveOwners}
+use Rattle.wit_pushed_trees.proofs.Apart.{no_world_place}
 use Rattle.wit_pushed_trees.proofs.Asking.{text_is, resolved_ask, moved_ask}
 
 -- ---- texts of interfaces
@@ -143,12 +144,28 @@ module _ (files : List FileTree) (p : UnresolvedPackage) (r : Resolves files p) 
       let is : length p.worlds ≡ length (s.foreign_worlds ++ s.own_worlds) = ap length s.worlds_are in
       omega (arith, all, own, size, so_many, parts, is)
 
+  no_worlds : (k : ℕ) (w : Owner) (x : Name) → slice_get owners.interfaces ((asked p).interfaces + k) ≡ Some w → w.place ≡ in_world x → ⊥
+  no_worlds k w x at e =
+      let own : List Owner = map (λ (t : InterfaceText). owner_in me t.place) (interface_texts s.sorted) in
+      elim (get_either (foreign_owners s.items).interfaces own ((asked p).interfaces + k) w at) as (λ _. ⊥) [
+        | inl other ↦
+            let within : (asked p).interfaces + k < length (foreign_owners s.items).interfaces = slice_get_within (foreign_owners s.items).interfaces ((asked p).interfaces + k) w other in
+            let so_many : length s.foreign_interfaces ≡ interfaces_in s.items = s.foreign_are.so_many_interfaces in
+            let most = counted files p r in
+            let all = asked_interfaces in
+            absurd (omega (arith, within, so_many, most, all))
+        | inr here ↦
+            let t = map_has (λ (t : InterfaceText). owner_in me t.place) (interface_texts s.sorted) w (here.0, here.2) in
+            no_world_place s.sorted t.1.0 t.0 x t.1.1 (ap (λ (o : Owner). o.place) (sym t.2) ∙ e)
+      ]
+
 pub resolved_owners : ResolvedPackagesHaveOwners
 resolved_owners files p r = record {
   so_many_interfaces = interfaces_owned files p r;
   so_many_worlds = worlds_owned files p r;
   interfaces_are = own_interface files p r;
   worlds_are = own_world files p r;
+  no_worlds = no_worlds files p r;
   asks = resolved_ask files p r;
 }
 
@@ -164,5 +181,6 @@ moved_owners owners p n are = record {
   worlds_are = λ k w at. (
       let o = got_behind (world_by (span_at n)) (asked p).worlds p.worlds k w at in
       subst (λ (x : World). slice_get owners.worlds ((asked p).worlds + k) ≡ Some (record { package_text = text_of p.name; place = in_world (string_bytes x.name) })) o.2 (are.worlds_are k o.0 o.1));
+  no_worlds = are.no_worlds;
   asks = moved_ask owners p n are.asks;
 }

@@ -17,12 +17,16 @@ use Rattle.wit_types.specs.declared.interface.Interface.{Interface}
 use Rattle.wit_types.specs.declared.interface.TypeDef.{TypeDef}
 use Rattle.wit_types.specs.declared.interface.TypeOwner.{TypeOwner}
 use Rattle.wit_types.specs.declared.interface.TypeOwner.TheVariants as belongs
+use Rattle.wit_types.specs.declared.stability.Stability.{Stability}
 use Rattle.wit_types.specs.declared.world.World.{World}
+use Rattle.wit_types.specs.declared.world.WorldInclude.{WorldInclude}
 use Rattle.wit_types.specs.declared.world.WorldItem.{WorldItem}
 use Rattle.wit_types.specs.declared.world.WorldItem.TheVariants as item
 use Rattle.wit_types.specs.declared.world_key.WorldKey.{WorldKey}
 use Rattle.wit_types.specs.WorldKey.{known}
-use Rattle.wit_offsets.specs.Offsets.{param_by, function_by, field_by, case_by, flag_by, enum_case_by, kind_by, type_def_by, interface_by, item_by, world_by, span_at}
+use Rattle.wit_offsets.specs.Offsets.{include_by, param_by, function_by, field_by, case_by, flag_by, enum_case_by, kind_by, type_def_by, interface_by, item_by, world_by, span_at}
+use Rattle.wit_scopes.specs.declared.worlds.Side.{Side}
+use Rattle.wit_scopes.specs.declared.worlds.Side.TheVariants.{Import, Export}
 use Rattle.wit_scopes.specs.Scopes.{WorldScope}
 use Rattle.wit_arena.specs.Tree.{Name, Place, in_world, Owner, Tree, named_tree, record_tree, flags_tree, enum_tree, variant_tree}
 use Rattle.wit_arena.specs.Unfold.{Owners, and_then, part_trees, kind_tree, named_kind_tree, nameless_tree, owner_of, def_tree_of, def_tree, trees_from, trees, ref_tree}
@@ -37,7 +41,7 @@ use Rattle.wit_well_formed.proofs.Lists.{got_behind}
 use Rattle.wit_well_formed.proofs.Offsets.{items_are}
 use Rattle.wit_graph_parts.specs.Own.{asked}
 use Rattle.wit_pushed_trees.specs.Meaning.{IsFunctionMeant, IsInterfaceMeant}
-use Rattle.wit_pushed_trees.specs.Worlds.{IsTypeMeant, IsOwnFunctionMeant, IsWorldMeant}
+use Rattle.wit_pushed_trees.specs.Worlds.{IsTypeMeant, IsOwnFunctionMeant, IsInterfaceListed, IsIncludeMeant, IsWorldMeant}
 use Rattle.wit_pushed_trees.specs.Packages.{MovedPackagesMeanTheirTexts}
 
 -- what is one of a kind
@@ -135,11 +139,13 @@ module _ (f : Span → Span) where
         ap (λ (ps : List Param). map (λ (q : Param). Some q.ty) ps ++ g.result ∷ []) (items_are (param_by f) g.params)
         ∙ ap (λ (ts : List (Option Ref)). ts ++ g.result ∷ []) (same_seen (λ (q : Param). Some q.ty) (param_by f) (λ q. refl) g.params.items)
 
-    function_same : (c : Context) (ds : List TypeDef) (o : Place) (ms : _) (g : Function) → IsFunctionMeant given c owners ds o ms g → IsFunctionMeant given c owners (map (type_def_by f) ds) o ms (function_by f g)
+    abbrev function_same : (c : Context) (ds : List TypeDef) (o : Place) (ms : _) (g : Function) → IsFunctionMeant given c owners ds o ms g → IsFunctionMeant given c owners (map (type_def_by f) ds) o ms (function_by f g)
     function_same c ds o ms g is = record {
       member = is.member;
       written = is.written;
       named = is.named;
+      params_named = ap (map (λ (q : Param). string_bytes q.name)) (items_are (param_by f) g.params) ∙ same_seen (λ (q : Param). string_bytes q.name) (param_by f) (λ q. refl) g.params.items ∙ is.params_named;
+      asynchronous = is.asynchronous;
       means = record {
         parts = is.means.parts;
         unfolds = ap (λ (rs : List (Option Ref)). part_trees (trees owners given (map (type_def_by f) ds)) rs) (refs_same g) ∙ ap (λ done. part_trees done (function_refs g)) (trees_same ds) ∙ is.means.unfolds;
@@ -173,27 +179,44 @@ module _ (f : Span → Span) where
     abbrev side_by : List (WorldKey × WorldItem) → List (WorldKey × WorldItem)
     side_by es = map (λ (e : WorldKey × WorldItem). (e.0, item_by f e.1)) es
 
-    world_same : (c : Context) (ds : List TypeDef) (ws : List WorldScope) (name : String Global) (imports exports : List (WorldKey × WorldItem)) → IsWorldMeant given c owners ds ws name imports exports
-        → IsWorldMeant given c owners (map (type_def_by f) ds) ws name (side_by imports) (side_by exports)
-    world_same c ds ws name imports exports is = record {
+    item_interface : (x : WorldItem) (i : ℕ) (gate : Stability) (span : Span) → item.Interface i gate span ≡ item_by f x → (at : Span) × (x ≡ item.Interface i gate at)
+    item_interface (item.Interface j g at) i gate span e = (at, (let q : item.Interface i gate span ≡ item.Interface j g (f at) = e in cc))
+    item_interface (item.TypeItem j at) i gate span e = absurd cc
+    item_interface (item.Function g) i gate span e = absurd cc
+
+    interface_side : (P : ℕ → Type 0) (es : List (WorldKey × WorldItem)) → ((k : WorldKey) (i : ℕ) (gate : Stability) (span : Span) → Has es (k, item.Interface i gate span) → P i) → (k : WorldKey) (i : ℕ) (gate : Stability) (span : Span) → Has (side_by es) (k, item.Interface i gate span) → P i
+    interface_side P es listed k i gate span has =
+        let e = map_has (λ (e : WorldKey × WorldItem). (e.0, item_by f e.1)) es (k, item.Interface i gate span) has in
+        let of = item_interface e.0.1 i gate span (ap (λ (y : WorldKey × WorldItem). y.1) e.2) in
+        listed e.0.0 i gate of.0 (subst (λ (x : WorldItem). Has es (e.0.0, x)) of.1 e.1)
+
+    world_same : (c : Context) (ds : List TypeDef) (ws : List WorldScope) (name : String Global) (imports exports : List (WorldKey × WorldItem)) (includes : List WorldInclude) → IsWorldMeant given c owners ds ws name imports exports includes
+        → IsWorldMeant given c owners (map (type_def_by f) ds) ws name (side_by imports) (side_by exports) (map (include_by f) includes)
+    world_same c ds ws name imports exports includes is = record {
       own_types = λ k i span has.
           let e = map_has (λ (e : WorldKey × WorldItem). (e.0, item_by f e.1)) imports (k, item.TypeItem i span) has in
           let of = item_type e.0.1 i span (ap (λ (y : WorldKey × WorldItem). y.1) e.2) in
           let key_is : k ≡ e.0.0 = ap (λ (y : WorldKey × WorldItem). y.0) e.2 in
           let t : IsTypeMeant given c owners ds ws name e.0.0 i = is.own_types e.0.0 i of.0 (subst (λ (x : WorldItem). Has imports (e.0.0, x)) of.1 e.1) in
           record { text = t.text; is_text = t.is_text; spelling = t.spelling; known_by = ap known key_is ∙ t.known_by; means = stands_same c ds (in_world t.text.name.text) t.spelling i t.means };
-      functions = λ k g has. elim has as (λ _. IsOwnFunctionMeant given c owners (map (type_def_by f) ds) ws name g) [
-        | inl imported ↦ side_function imports (λ k g h. is.functions k g (inl h)) k g imported
-        | inr exported ↦ side_function exports (λ k g h. is.functions k g (inr h)) k g exported
-      ];
+      imported_functions = side_function Import imports is.imported_functions;
+      exported_functions = side_function Export exports is.exported_functions;
+      imported = interface_side (IsInterfaceListed c owners ws name Import) imports is.imported;
+      exported = interface_side (IsInterfaceListed c owners ws name Export) exports is.exported;
+      included = λ n has.
+          let e = map_has (include_by f) includes n has in
+          let i : IsIncludeMeant c owners ws name e.0 = is.included e.0 e.1 in
+          subst (IsIncludeMeant c owners ws name) (sym e.2) (record { text = i.text; is_text = i.is_text; written = i.written; there = i.there; owner = i.owner; names = i.names });
     }
       where
-        side_function : (es : List (WorldKey × WorldItem)) → ((k : WorldKey) (g : Function) → Has es (k, item.Function g) → IsOwnFunctionMeant given c owners ds ws name g) → (k : WorldKey) (g : Function) → Has (side_by es) (k, item.Function g) → IsOwnFunctionMeant given c owners (map (type_def_by f) ds) ws name g
-        side_function es meant k g has =
+        side_function : (side : Side) (es : List (WorldKey × WorldItem)) → ((k : WorldKey) (g : Function) → Has es (k, item.Function g) → IsOwnFunctionMeant given c owners ds ws name side g) → (k : WorldKey) (g : Function) → Has (side_by es) (k, item.Function g)
+            → IsOwnFunctionMeant given c owners (map (type_def_by f) ds) ws name side g
+        side_function side es meant k g has =
             let e = map_has (λ (e : WorldKey × WorldItem). (e.0, item_by f e.1)) es (k, item.Function g) has in
             let of = item_function e.0.1 g (ap (λ (y : WorldKey × WorldItem). y.1) e.2) in
-            let m : IsOwnFunctionMeant given c owners ds ws name of.0 = meant e.0.0 of.0 (subst (λ (x : WorldItem). Has es (e.0.0, x)) of.1 e.1) in
-            subst (IsOwnFunctionMeant given c owners (map (type_def_by f) ds) ws name) (sym of.2) (record { text = m.text; is_text = m.is_text; is = function_same c ds (in_world m.text.name.text) _ of.0 m.is })
+            let m : IsOwnFunctionMeant given c owners ds ws name side of.0 = meant e.0.0 of.0 (subst (λ (x : WorldItem). Has es (e.0.0, x)) of.1 e.1) in
+            subst (IsOwnFunctionMeant given c owners (map (type_def_by f) ds) ws name side) (sym of.2)
+            (record { text = m.text; is_text = m.is_text; is = function_same c ds (in_world m.text.name.text) _ of.0 m.is; giver = m.giver; on_side = m.on_side; gives = m.gives })
 
 -- ---- a package
 
@@ -211,6 +234,7 @@ moved_meant c interfaces worlds p n is =
           (text.0, text.1, subst (IsInterfaceMeant given c c.owners (map (type_def_by f) p.types) text.0) o.2 (interface_same f c.owners given c p.types text.0 o.0 text.2));
       each_world = λ given k w at.
           let o = got_behind (world_by f) (asked p).worlds p.worlds k w at in
-          subst (λ (v : World). IsWorldMeant given c c.owners (map (type_def_by f) p.types) worlds v.name v.imports.entries v.exports.entries) o.2
-          (world_same f c.owners given c p.types worlds o.0.name o.0.imports.entries o.0.exports.entries (is.each_world given k o.0 o.1));
+          let same = world_same f c.owners given c p.types worlds o.0.name o.0.imports.entries o.0.exports.entries o.0.includes.items (is.each_world given k o.0 o.1) in
+          subst (λ (v : World). IsWorldMeant given c c.owners (map (type_def_by f) p.types) worlds v.name v.imports.entries v.exports.entries v.includes.items) o.2
+          (subst (IsWorldMeant given c c.owners (map (type_def_by f) p.types) worlds o.0.name (side_by f c.owners given o.0.imports.entries) (side_by f c.owners given o.0.exports.entries)) (sym (items_are (include_by f) o.0.includes)) same);
     }

@@ -1,7 +1,7 @@
 -- Packages to which files are resolved mean what their texts do.
-use Rattle.std.proofs.Common.{◌≡◌, ℕ, ◌+◌, ◌<◌, ◌≤◌, List, [], length, Some, String, inl, inr, refl, sym, subst, ◌∙◌, arith}
+use Rattle.std.proofs.Common.{◌≡◌, ℕ, ◌+◌, ◌<◌, ◌≤◌, Bool, true, false, List, [], ◌∷◌, map, length, Some, String, inl, inr, refl, sym, subst, ap, ◌∙◌, arith}
 use Rattle.std.proofs.lemmas.Option.{slice_get_within}
-use Rattle.std.specs.Prelude.{slice_get, flat_map, string_bytes}
+use Rattle.std.specs.Prelude.{if◌then◌else◌, slice_get, flat_map, string_bytes}
 use Rattle.std.specs.declared.alloc.Global.{Global}
 use Rattle.wit_syntax.specs.Ast.{FileTree}
 use Rattle.wit_words.specs.declared.source_map.Span.{Span}
@@ -10,15 +10,24 @@ use Rattle.wit_types.specs.declared.interface.Interface.{Interface}
 use Rattle.wit_types.specs.declared.interface.TypeDef.{TypeDef}
 use Rattle.wit_types.specs.declared.interface.TypeOwner.TheVariants as belongs
 use Rattle.wit_types.specs.declared.«package».UnresolvedPackage.{UnresolvedPackage}
+use Rattle.wit_types.specs.declared.stability.Stability.{Stability}
 use Rattle.wit_types.specs.declared.world.World.{World}
+use Rattle.wit_types.specs.declared.world.WorldInclude.{WorldInclude}
 use Rattle.wit_types.specs.declared.world.WorldItem.TheVariants as item
 use Rattle.wit_types.specs.declared.world_key.WorldKey.{WorldKey}
 use Rattle.wit_scopes.specs.declared.worlds.Side.{Side}
 use Rattle.wit_scopes.specs.declared.worlds.Side.TheVariants.{Import, Export}
-use Rattle.wit_scopes.specs.Members.{MemberTree}
+use Rattle.wit_arena.specs.LowerKind.{Label}
+use Rattle.wit_arena.specs.LowerParams.{written_param, param_label}
+use Rattle.wit_functions.specs.Signature.{all_params, IsKindOf}
+use Rattle.wit_items.specs.ItemTree.{ParamTree}
+use Rattle.wit_types.specs.declared.function.Param.{Param}
+use Rattle.wit_types.specs.declared.function.FunctionKind.{FunctionKind}
+use Rattle.wit_types.specs.declared.function.FunctionKind.TheVariants as of
+use Rattle.wit_scopes.specs.Members.{MemberTree, MemberKind, used, defined, function, method, static, constructor}
 use Rattle.wit_scopes.specs.Scopes as scope
 use Rattle.wit_scopes.specs.Scopes.{WorldScope, WorldMemberTree, ListedTree, ExternKind}
-use Rattle.wit_arena.specs.Tree.{Name, Place, in_world, Owner, Tree, in_interface}
+use Rattle.wit_arena.specs.Tree.{Name, Place, in_world, in_listed, Owner, Tree, in_interface}
 use Rattle.wit_arena.specs.Table.{Entries}
 use Rattle.wit_arena.specs.Standing.{Stands}
 use Rattle.wit_arena.specs.Meaning.{Has}
@@ -28,11 +37,11 @@ use Rattle.wit_interfaces.specs.Interfaces.{IsInterfaceIn}
 use Rattle.wit_interfaces.proofs.Behind.{get_either}
 use Rattle.wit_readiness.proofs.Flat.{in_flat, flat_has, has_one}
 use Rattle.wit_resolved_scopes.specs.Each.{Each}
-use Rattle.wit_resolved_scopes.specs.InArena.{Context, IsTypeIn, IsFunctionIn}
+use Rattle.wit_resolved_scopes.specs.InArena.{Context, own_owner, IsTypeIn, IsFunctionIn}
 use Rattle.wit_resolved_scopes.specs.Scope.{function_of, member_function, functions_among}
-use Rattle.wit_resolved_scopes.specs.Texts.{InterfaceText, interface_texts, own_member, own_members, listed_member, at_side, side_member, side_members, worlds_of}
+use Rattle.wit_resolved_scopes.specs.Texts.{InterfaceText, interface_texts, own_member, own_members, listed_member, at_side, side_member, side_members, includes_of, worlds_of}
 use Rattle.wit_resolved_scopes.proofs.Eaches.{each_right}
-use Rattle.wit_worlds.specs.Worlds.{Entry, function_member, IsTypeEntry, IsFunctionEntry, IsExternEntry, IsEntryOf, IsWorldIn}
+use Rattle.wit_worlds.specs.Worlds.{Entry, function_member, target_owner, IsTypeEntry, IsFunctionEntry, IsExternEntry, IsEntryOf, IsIncludeOf, IsWorldIn}
 use Rattle.wit_package.specs.Resolved.{context_of, IsResolved}
 use Rattle.wit_package.specs.Steps.{Resolves}
 use Rattle.wit_package.specs.TopUses.{files_need}
@@ -42,8 +51,8 @@ use Rattle.wit_well_formed.proofs.Counted.{world_item}
 use Rattle.wit_well_formed.proofs.Lists.{get_drop}
 use Rattle.wit_graph_parts.specs.Own.{asked, own_parts}
 use Rattle.wit_pushed_trees.proofs.Resolved.{name_in, named_place}
-use Rattle.wit_pushed_trees.specs.Meaning.{IsFunctionMeant, IsInterfaceMeant, IsOfText}
-use Rattle.wit_pushed_trees.specs.Worlds.{IsTextOf, IsTypeMeant, IsOwnFunctionMeant, IsWorldMeant}
+use Rattle.wit_pushed_trees.specs.Meaning.{is_async, is_written_async, param_names, written_names, IsFunctionMeant, IsInterfaceMeant, IsOfText}
+use Rattle.wit_pushed_trees.specs.Worlds.{IsTextOf, IsTypeMeant, IsGiven, IsOwnFunctionMeant, extern_owner, IsInterfaceListed, IsIncludeMeant, IsWorldMeant}
 use Rattle.wit_pushed_trees.specs.Packages.{ResolvedPackagesMeanTheirTexts}
 
 -- what is one of a kind
@@ -53,12 +62,40 @@ function_is f g e = cc
 type_is : (i j : ℕ) (s t : Span) → item.TypeItem i s ≡ item.TypeItem j t → i ≡ j
 type_is i j s t e = cc
 
+interface_is : (i j : ℕ) (s t : Stability) (x y : Span) → item.Interface i s x ≡ item.Interface j t y → i ≡ j
+interface_is i j s t x y e = cc
+
+listed_is : (l k : ListedTree) → scope.listed l ≡ scope.listed k → l ≡ k
+listed_is l k e = cc
+
 member_is : (m n : MemberTree) → scope.member m ≡ scope.member n → m ≡ n
 member_is m n e = cc
 
+-- names of parameters are those that are written
+names_are : (f : Function) (m : MemberTree) → map param_label f.params.items ≡ map written_param (all_params m) → param_names f ≡ written_names m
+names_are f m e =
+    seen_names (λ (p : Param). string_bytes p.name) param_label (λ p. refl) f.params.items ∙ ap (map (λ (l : Label). l.name)) e ∙ sym (seen_names (λ (p : ParamTree). p.name.text) written_param (λ p. refl) (all_params m))
+  where
+    seen_names : {X : Type 0} (g : X → Name) (label : X → Label) → ((x : X) → g x ≡ (label x).name) → (xs : List X) → map g xs ≡ map (λ (l : Label). l.name) (map label xs)
+    seen_names g label same [] = refl
+    seen_names g label same (x ∷ xs) = ap (λ (n : Name). n ∷ map g xs) (same x) ∙ ap (λ (ns : List Name). (label x).name ∷ ns) (seen_names g label same xs)
+
+-- and it is asynchronous where that is written
+async_if : (b : Bool) (k l : FunctionKind) → is_async k ≡ true → is_async l ≡ false → is_async (if b then k else l) ≡ b
+async_if true k l e f = e
+async_if false k l e f = f
+
+async_is : (table : Entries) (k : MemberKind) (fk : FunctionKind) → IsKindOf table k fk → is_async fk ≡ is_written_async k
+async_is table (used t n) fk is = absurd is
+async_is table (defined t) fk is = absurd is
+async_is table (function f) fk is = ap is_async is ∙ async_if f.is_async of.AsyncFreestanding of.Freestanding refl refl
+async_is table (method r f) fk is = ap is_async is.2 ∙ async_if f.is_async (of.AsyncMethod is.0) (of.Method is.0) refl refl
+async_is table (static r f) fk is = ap is_async is.2 ∙ async_if f.is_async (of.AsyncStatic is.0) (of.Static is.0) refl refl
+async_is table (constructor r ps t) fk is = ap is_async is.2
+
 -- a function of a scope that is one of these members
-in_scope : (given : Owner → Name → Tree) (c : Context) (a : List TypeDef) (o : Place) (ms : List MemberTree) (table : Entries) (m : MemberTree) (f : Function) → Has (functions_among ms) m → IsFunctionIn c o a table m f → IsFunctionMeant given c c.owners a o ms f
-in_scope given c a o ms table m f written is = record { member = m; written = written; named = is.is.name; means = is.means given }
+abbrev in_scope : (given : Owner → Name → Tree) (c : Context) (a : List TypeDef) (o : Place) (ms : List MemberTree) (table : Entries) (m : MemberTree) (f : Function) → Has (functions_among ms) m → IsFunctionIn c o a table m f → IsFunctionMeant given c c.owners a o ms f
+in_scope given c a o ms table m f written is = record { member = m; written = written; named = is.is.name; params_named = names_are f m is.is.labels; asynchronous = async_is table m.kind f.kind is.is.kind; means = is.means given }
 
 -- ---- interfaces
 
@@ -83,6 +120,12 @@ at_side_is Import Export x y h = absurd (has_none y h)
 at_side_is Export Import x y h = absurd (has_none y h)
 at_side_is Export Export x y h = has_one x y h
 
+at_side_on : (s t : Side) (x y : WorldMemberTree) → Has (at_side s t x) y → t ≡ s
+at_side_on Import Import x y h = refl
+at_side_on Import Export x y h = absurd (has_none y h)
+at_side_on Export Import x y h = absurd (has_none y h)
+at_side_on Export Export x y h = refl
+
 -- a function that a member gives
 member_of : (side : Side) (fs : List MemberTree) (y : WorldMemberTree) → Has (flat_map (λ f. at_side side Import (scope.member f)) fs) y → (f : MemberTree) × Has fs f × (y ≡ scope.member f)
 member_of side fs y h =
@@ -102,13 +145,15 @@ module _ (ws : List WorldMemberTree) (side : Side) where
       of (scope.listed l) has given = absurd (let e : scope.member m ≡ scope.listed l = at_side_is side l.side (scope.listed l) (scope.member m) given in cc)
       of (scope.included i) has given = absurd (has_none (scope.member m) given)
 
-  -- what is listed is a member
-  listed_among : (l : ListedTree) → Has (side_members side ws) (scope.listed l) → Has ws (scope.listed l)
-  listed_among l h = (let r = in_flat (side_member side) ws (scope.listed l) h in of r.0 r.1 r.2)
+  -- what is listed is a member, of that side
+  listed_on : (l : ListedTree) → Has (side_members side ws) (scope.listed l) → Has ws (scope.listed l) × (l.side ≡ side)
+  listed_on l h = (let r = in_flat (side_member side) ws (scope.listed l) h in of r.0 r.1 r.2)
     where
-      of : (x : WorldMemberTree) → Has ws x → Has (side_member side x) (scope.listed l) → Has ws (scope.listed l)
+      of : (x : WorldMemberTree) → Has ws x → Has (side_member side x) (scope.listed l) → Has ws (scope.listed l) × (l.side ≡ side)
       of (scope.member n) has given = absurd (let f = member_of side (function_of n.kind n) (scope.listed l) given in let e : scope.listed l ≡ scope.member f.0 = f.2 in cc)
-      of (scope.listed k) has given = subst (Has ws) (sym (at_side_is side k.side (scope.listed k) (scope.listed l) given)) has
+      of (scope.listed k) has given =
+          let same : scope.listed l ≡ scope.listed k = at_side_is side k.side (scope.listed k) (scope.listed l) given in
+          (subst (Has ws) (sym same) has, ap (λ (y : ListedTree). y.side) (listed_is l k same) ∙ at_side_on side k.side (scope.listed k) (scope.listed l) given)
       of (scope.included i) has given = absurd (has_none (scope.listed l) given)
 
 module _ (c : Context) (n : Name) (a : List TypeDef) (table : Entries) where
@@ -124,24 +169,41 @@ module _ (c : Context) (n : Name) (a : List TypeDef) (table : Entries) where
   no_type (scope.included i) e h j span is = h
 
   -- a function that stands for a member
-  abbrev IsOfMember : List WorldMemberTree → Function → Type 0
-  IsOfMember ws f = (m : MemberTree) × Has (functions_among (own_members ws)) m × IsFunctionIn c (in_world n) a table m f
+  abbrev IsOfMember : List WorldMemberTree → WorldMemberTree → Function → Type 0
+  IsOfMember ws x f = (m : MemberTree) × Has (functions_among (own_members ws)) m × IsFunctionIn c (in_world n) a table m f × IsGiven x m
 
-  made_is : (ws : List WorldMemberTree) (m : MemberTree) (e : Entry) (f : Function) → Has (functions_among (own_members ws)) m → (h : IsFunctionEntry c (in_world n) a table m e) → e.1 ≡ item.Function f → IsOfMember ws f
-  made_is ws m e f has h is = (m, has, subst (IsFunctionIn c (in_world n) a table m) (function_is h.made f (sym h.item ∙ is)) h.is)
+  made_is : (ws : List WorldMemberTree) (x : WorldMemberTree) (m : MemberTree) (e : Entry) (f : Function) → Has (functions_among (own_members ws)) m → IsGiven x m → (h : IsFunctionEntry c (in_world n) a table m e) → e.1 ≡ item.Function f → IsOfMember ws x f
+  made_is ws x m e f has gives h is = (m, has, subst (IsFunctionIn c (in_world n) a table m) (function_is h.made f (sym h.item ∙ is)) h.is, gives)
 
-  extern_function : (ws : List WorldMemberTree) (l : ListedTree) → Has ws (scope.listed l) → (k : ExternKind) → l.kind ≡ k → (e : Entry) → IsExternEntry c n a table l k e → (f : Function) → e.1 ≡ item.Function f → IsOfMember ws f
+  extern_function : (ws : List WorldMemberTree) (l : ListedTree) → Has ws (scope.listed l) → (k : ExternKind) → l.kind ≡ k → (e : Entry) → IsExternEntry c n a table l k e → (f : Function) → e.1 ≡ item.Function f → IsOfMember ws (scope.listed l) f
   extern_function ws l has (scope.ExternKind.function g) kind e h f is =
       let m : MemberTree = function_member l g in
       let among : Has (own_members ws) m = flat_has own_member ws (scope.listed l) m has (subst (λ (k : ExternKind). Has (listed_member l k) m) (sym kind) (has_here m [])) in
-      made_is ws m e f (flat_has member_function (own_members ws) m m among (has_here m [])) h is
+      made_is ws (scope.listed l) m e f (flat_has member_function (own_members ws) m m among (has_here m [])) (g, kind, refl) h is
   extern_function ws l has (scope.ExternKind.interface ms) kind e h f is = absurd (let q : item.Function f ≡ item.Interface h.id h.stability l.name.span = sym is ∙ h.item in cc)
   extern_function ws l has (scope.item t) kind e h f is = absurd (let q : item.Function f ≡ item.Interface h.id h.stability l.name.span = sym is ∙ h.item in cc)
 
-  entry_function : (ws : List WorldMemberTree) (side : Side) (x : WorldMemberTree) (e : Entry) → Has (side_members side ws) x → IsEntryOf c n a table x e → (f : Function) → e.1 ≡ item.Function f → IsOfMember ws f
-  entry_function ws side (scope.member m) e has h f is = made_is ws m e f (member_among ws side m has) h is
-  entry_function ws side (scope.listed l) e has h f is = extern_function ws l (listed_among ws side l has) l.kind refl e h f is
+  entry_function : (ws : List WorldMemberTree) (side : Side) (x : WorldMemberTree) (e : Entry) → Has (side_members side ws) x → IsEntryOf c n a table x e → (f : Function) → e.1 ≡ item.Function f → IsOfMember ws x f
+  entry_function ws side (scope.member m) e has h f is = made_is ws (scope.member m) m e f (member_among ws side m has) refl h is
+  entry_function ws side (scope.listed l) e has h f is = extern_function ws l (listed_on ws side l has).0 l.kind refl e h f is
   entry_function ws side (scope.included i) e has h f is = absurd h
+
+  -- and an interface for what is listed
+  abbrev IsOfListed : List WorldMemberTree → Side → ℕ → Type 0
+  IsOfListed ws side i = (l : ListedTree) × Has ws (scope.listed l) × (l.side ≡ side) × (w : Owner) × (extern_owner c n l l.kind ≡ Some w) × (slice_get c.owners.interfaces i ≡ Some w)
+
+  extern_interface : (ws : List WorldMemberTree) (side : Side) (l : ListedTree) → Has ws (scope.listed l) → l.side ≡ side → (k : ExternKind) → l.kind ≡ k → (e : Entry) → IsExternEntry c n a table l k e → (i : ℕ) (gate : Stability) (span : Span) → e.1 ≡ item.Interface i gate span
+      → IsOfListed ws side i
+  extern_interface ws side l has on (scope.ExternKind.function f) kind e h i gate span is = absurd (let q : item.Interface i gate span ≡ item.Function h.made = sym is ∙ h.item in cc)
+  extern_interface ws side l has on (scope.ExternKind.interface ms) kind e h i gate span is =
+      (l, has, on, own_owner c (in_listed n l.side l.name.text), ap (extern_owner c n l) kind, ap (slice_get c.owners.interfaces) (interface_is i h.id gate h.stability span l.name.span (sym is ∙ h.item)) ∙ h.owner)
+  extern_interface ws side l has on (scope.item t) kind e h i gate span is =
+      (l, has, on, target_owner c.me in_interface t, ap (extern_owner c n l) kind, ap (slice_get c.owners.interfaces) (interface_is i h.id gate h.stability span l.name.span (sym is ∙ h.item)) ∙ h.owner)
+
+  entry_interface : (ws : List WorldMemberTree) (side : Side) (x : WorldMemberTree) (e : Entry) → Has (side_members side ws) x → IsEntryOf c n a table x e → (i : ℕ) (gate : Stability) (span : Span) → e.1 ≡ item.Interface i gate span → IsOfListed ws side i
+  entry_interface ws side (scope.member m) e has h i gate span is = absurd (let q : item.Interface i gate span ≡ item.Function h.made = sym is ∙ h.item in cc)
+  entry_interface ws side (scope.listed l) e has h i gate span is = (let on = listed_on ws side l has in extern_interface ws side l on.0 on.1 l.kind refl e h i gate span is)
+  entry_interface ws side (scope.included y) e has h i gate span is = absurd h
 
 -- ---- one world
 
@@ -172,32 +234,61 @@ module _ (given : Owner → Name → Tree) (c : Context) (a : List TypeDef) (w :
             no_type c o a is.table e.0 (k, item.TypeItem i span) e.2 i span refl)
       ]
 
-  side_function : (side : Side) (es : List Entry) → Each (IsEntryOf c o a is.table) (side_members side w.members) es → (n : ℕ) (k : WorldKey) (f : Function) → slice_get es n ≡ Some (k, item.Function f) → IsOwnFunctionMeant given c c.owners a ws d.name f
+  side_function : (side : Side) (es : List Entry) → Each (IsEntryOf c o a is.table) (side_members side w.members) es → (n : ℕ) (k : WorldKey) (f : Function) → slice_get es n ≡ Some (k, item.Function f) → IsOwnFunctionMeant given c c.owners a ws d.name side f
   side_function side es each n k f at =
       let e = each_right (IsEntryOf c o a is.table) (side_members side w.members) es each n (k, item.Function f) at in
       let of = entry_function c o a is.table w.members side e.0 (k, item.Function f) (n, e.1) e.2 f refl in
-      record { text = w; is_text = text; is = in_scope given c a (in_world o) (own_members w.members) is.table of.0 f of.1 of.2 }
+      record { text = w; is_text = text; is = in_scope given c a (in_world o) (own_members w.members) is.table of.0 f of.1 of.2; giver = e.0; on_side = (n, e.1); gives = of.3 }
 
-  import_meant : (k : WorldKey) (f : Function) → Has d.imports.entries (k, item.Function f) → IsOwnFunctionMeant given c c.owners a ws d.name f
+  side_interface : (side : Side) (es : List Entry) → Each (IsEntryOf c o a is.table) (side_members side w.members) es → (n : ℕ) (k : WorldKey) (i : ℕ) (gate : Stability) (span : Span) → slice_get es n ≡ Some (k, item.Interface i gate span)
+      → IsInterfaceListed c c.owners ws d.name side i
+  side_interface side es each n k i gate span at =
+      let e = each_right (IsEntryOf c o a is.table) (side_members side w.members) es each n (k, item.Interface i gate span) at in
+      let of = entry_interface c o a is.table w.members side e.0 (k, item.Interface i gate span) (n, e.1) e.2 i gate span refl in
+      record { text = w; is_text = text; listed = of.0; there = of.1; side_is = of.2; whose = of.3; listed_as = of.4; owner = of.5 }
+
+  import_listed : (k : WorldKey) (i : ℕ) (gate : Stability) (span : Span) → Has d.imports.entries (k, item.Interface i gate span) → IsInterfaceListed c c.owners ws d.name Import i
+  import_listed k i gate span has =
+      elim (get_either is.type_entries is.other_imports has.0 (k, item.Interface i gate span) (subst (λ es. slice_get es has.0 ≡ Some (k, item.Interface i gate span)) is.imports_are has.1)) as (λ _. IsInterfaceListed c c.owners ws d.name Import i) [
+        | inl own ↦ absurd (
+            let e = each_right (IsTypeEntry a) is.table is.type_entries is.type_entries_are has.0 (k, item.Interface i gate span) own in
+            let q : item.Interface i gate span ≡ item.TypeItem e.0.1 e.2.def.span = e.2.item in cc)
+        | inr other ↦ side_interface Import is.other_imports is.lists_are.imports_are other.0 k i gate span other.2
+      ]
+
+  include_meant : (n : WorldInclude) → Has d.includes.items n → IsIncludeMeant c c.owners ws d.name n
+  include_meant n has =
+      let e = each_right (IsIncludeOf c) (includes_of w.members) d.includes.items is.lists_are.includes_are has.0 n has.1 in
+      record { text = w; is_text = text; written = e.0; there = (has.0, e.1); owner = e.2.owner; names = e.2.names }
+
+  import_meant : (k : WorldKey) (f : Function) → Has d.imports.entries (k, item.Function f) → IsOwnFunctionMeant given c c.owners a ws d.name Import f
   import_meant k f has =
-      elim (get_either is.type_entries is.other_imports has.0 (k, item.Function f) (subst (λ es. slice_get es has.0 ≡ Some (k, item.Function f)) is.imports_are has.1)) as (λ _. IsOwnFunctionMeant given c c.owners a ws d.name f) [
+      elim (get_either is.type_entries is.other_imports has.0 (k, item.Function f) (subst (λ es. slice_get es has.0 ≡ Some (k, item.Function f)) is.imports_are has.1)) as (λ _. IsOwnFunctionMeant given c c.owners a ws d.name Import f) [
         | inl own ↦ absurd (
             let e = each_right (IsTypeEntry a) is.table is.type_entries is.type_entries_are has.0 (k, item.Function f) own in
             let q : item.Function f ≡ item.TypeItem e.0.1 e.2.def.span = e.2.item in cc)
         | inr other ↦ side_function Import is.other_imports is.lists_are.imports_are other.0 k f other.2
       ]
 
-  world_meant : IsWorldMeant given c c.owners a ws d.name d.imports.entries d.exports.entries
+  world_meant : IsWorldMeant given c c.owners a ws d.name d.imports.entries d.exports.entries d.includes.items
   world_meant = record {
     own_types = type_meant;
-    functions = λ k f has. elim has as (λ _. IsOwnFunctionMeant given c c.owners a ws d.name f) [ inl imported ↦ import_meant k f imported | inr exported ↦ side_function Export d.exports.entries is.lists_are.exports_are exported.0 k f exported.1 ];
+    imported_functions = import_meant;
+    exported_functions = λ k f has. side_function Export d.exports.entries is.lists_are.exports_are has.0 k f has.1;
+    imported = import_listed;
+    exported = λ k i gate span has. side_interface Export d.exports.entries is.lists_are.exports_are has.0 k i gate span has.1;
+    included = include_meant;
   }
 
 -- one of another package has nothing
-nothing_meant : (given : Owner → Name → Tree) (c : Context) (a : List TypeDef) (d : World) (ws : List WorldScope) → d.imports.entries ≡ [] → d.exports.entries ≡ [] → IsWorldMeant given c c.owners a ws d.name d.imports.entries d.exports.entries
-nothing_meant given c a d ws no_imports no_exports = record {
+nothing_meant : (given : Owner → Name → Tree) (c : Context) (a : List TypeDef) (d : World) (ws : List WorldScope) → d.imports.entries ≡ [] → d.exports.entries ≡ [] → d.includes.items ≡ [] → IsWorldMeant given c c.owners a ws d.name d.imports.entries d.exports.entries d.includes.items
+nothing_meant given c a d ws no_imports no_exports no_includes = record {
   own_types = λ k i span has. absurd (has_none (k, item.TypeItem i span) (subst (λ es. Has es (k, item.TypeItem i span)) no_imports has));
-  functions = λ k f has. absurd (elim has as (λ _. ⊥) [ inl imported ↦ has_none (k, item.Function f) (subst (λ es. Has es (k, item.Function f)) no_imports imported) | inr exported ↦ has_none (k, item.Function f) (subst (λ es. Has es (k, item.Function f)) no_exports exported) ]);
+  imported_functions = λ k f has. absurd (has_none (k, item.Function f) (subst (λ es. Has es (k, item.Function f)) no_imports has));
+  exported_functions = λ k f has. absurd (has_none (k, item.Function f) (subst (λ es. Has es (k, item.Function f)) no_exports has));
+  imported = λ k i gate span has. absurd (has_none (k, item.Interface i gate span) (subst (λ es. Has es (k, item.Interface i gate span)) no_imports has));
+  exported = λ k i gate span has. absurd (has_none (k, item.Interface i gate span) (subst (λ es. Has es (k, item.Interface i gate span)) no_exports has));
+  included = λ n has. absurd (has_none n (subst (λ ns. Has ns n) no_includes has));
 }
 
 -- ---- a package
@@ -225,17 +316,17 @@ module _ (files : List FileTree) (p : UnresolvedPackage) (r : Resolves files p) 
             (t.0, (o.0, t.1), interface_meant given c p.types t.0 (length s.foreign_interfaces + o.0) d (s.own_interfaces_are.each o.0 t.0 d t.1 o.2) (λ x named. named_place s.sorted o.0 t.0 x t.1 named))
       ]
 
-  own_world : (given : Owner → Name → Tree) (i : ℕ) (w : World) → slice_get (own_parts p).worlds i ≡ Some w → IsWorldMeant given c c.owners p.types (worlds_of s.sorted) w.name w.imports.entries w.exports.entries
+  own_world : (given : Owner → Name → Tree) (i : ℕ) (w : World) → slice_get (own_parts p).worlds i ≡ Some w → IsWorldMeant given c c.owners p.types (worlds_of s.sorted) w.name w.imports.entries w.exports.entries w.includes.items
   own_world given i w at =
       let n : ℕ = (asked p).worlds + i in
       let behind : slice_get p.worlds n ≡ Some w = get_drop (asked p).worlds p.worlds i w at in
-      elim (get_either s.foreign_worlds s.own_worlds n w (subst (λ (ws : List World). slice_get ws n ≡ Some w) s.worlds_are behind)) as (λ _. IsWorldMeant given c c.owners p.types (worlds_of s.sorted) w.name w.imports.entries w.exports.entries) [
+      elim (get_either s.foreign_worlds s.own_worlds n w (subst (λ (ws : List World). slice_get ws n ≡ Some w) s.worlds_are behind)) as (λ _. IsWorldMeant given c c.owners p.types (worlds_of s.sorted) w.name w.imports.entries w.exports.entries w.includes.items) [
         | inl other ↦
             let within : n < length s.foreign_worlds = slice_get_within s.foreign_worlds n w other in
             let so_many : length s.foreign_worlds ≡ worlds_in s.items = s.foreign_are.so_many_worlds in
             let one = world_item (files_need s.me files) s.items s.items_are n (omega (arith, within, so_many)) in
             let is = s.foreign_are.worlds one.0 n w one.1 other in
-            nothing_meant given c p.types w (worlds_of s.sorted) is.imports is.exports
+            nothing_meant given c p.types w (worlds_of s.sorted) is.imports is.exports is.includes
         | inr o ↦
             let within : o.0 < length s.own_worlds = slice_get_within s.own_worlds o.0 w o.2 in
             let size = s.own_worlds_are.so_many in

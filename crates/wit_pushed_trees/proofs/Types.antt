@@ -1,5 +1,5 @@
 -- Types of a package that was pushed stand where they were put, with more behind.
-use Rattle.std.proofs.Common.{◌≡◌, ℕ, Bool, List, [], ◌++◌, length, sym, subst, ap, ◌∙◌, append_assoc}
+use Rattle.std.proofs.Common.{◌≡◌, ℕ, Bool, List, [], ◌++◌, length, refl, sym, subst, ap, ◌∙◌, append_assoc}
 use Rattle.std.proofs.lemmas.List.{append-nil, length-map, take-append-drop}
 use Rattle.wit_types.specs.declared.kind.«Type».TheVariants as ref
 use Rattle.wit_types.specs.declared.interface.Interface.{Interface}
@@ -32,12 +32,12 @@ use Rattle.wit_pushed_trees.specs.Pushed.{AreAgreed, PushedTypesStandForTheSame}
 grown_more : (a b c : List TypeDef) → (more : List TypeDef) × (b ≡ a ++ more) → (more : List TypeDef) × (c ≡ b ++ more) → (more : List TypeDef) × (c ≡ a ++ more)
 grown_more a b c (m, e) (n, f) = (m ++ n, f ∙ ap (λ (xs : List TypeDef). xs ++ n) e ∙ append_assoc a m n)
 
-included_grow : (worlds : List World) (id : ℕ) (ns : List WorldInclude) (s t : joined.State) → Includes worlds id ns s t → (more : List TypeDef) × (t.types ≡ s.types ++ more)
+pub included_grow : (worlds : List World) (id : ℕ) (ns : List WorldInclude) (s t : joined.State) → Includes worlds id ns s t → (more : List TypeDef) × (t.types ≡ s.types ++ more)
 included_grow worlds id _ s _ (includes_none _) = ([], sym (append-nil s.types))
 included_grow worlds id _ s u (includes_one ns n _ t _ before at) =
     grown_more s.types t.types u.types (included_grow worlds id ns s t before) (at.1.types.items, ap (λ (x : joined.State). x.types) at.4)
 
-added_grow : (interfaces : List Interface) (uses : Rows) (owner : ℕ) (ms : List MovedWorld) (s t : State) → AreAdded interfaces uses owner ms s t → (more : List TypeDef) × (t.types ≡ s.types ++ more)
+pub added_grow : (interfaces : List Interface) (uses : Rows) (owner : ℕ) (ms : List MovedWorld) (s t : State) → AreAdded interfaces uses owner ms s t → (more : List TypeDef) × (t.types ≡ s.types ++ more)
 added_grow interfaces uses owner _ s _ (none_added _) = ([], sym (append-nil s.types))
 added_grow interfaces uses owner _ s u (one_added ms m _ t _ before a) =
     let sides = a.is_joined.sides in
@@ -45,6 +45,14 @@ added_grow interfaces uses owner _ s u (one_added ms m _ t _ before a) =
     grown_more s.types t.types u.types (added_grow interfaces uses owner ms s t before) (more.0, sides.types_are ∙ more.1)
 
 -- ---- all that were pushed
+
+-- the types of a graph stay, with more behind
+pub all_grow : (eq : PackageName → PackageName → Bool) (features : FeatureSet) (old : Graph) (p : UnresolvedPackage) (new : Graph) (id : ℕ) → IsPushed eq features old p new id → (more : List TypeDef) × (new.tables.types ≡ old.tables.types ++ more)
+all_grow eq features old p new id h =
+    let a = h.put.added.parts in
+    let there : List TypeDef = old.tables.types ++ a.own_types.defs in
+    let more = added_grow _ _ _ _ _ _ a.own_worlds.added in
+    grown_more old.tables.types there new.tables.types (a.own_types.defs, refl) (more.0, more.1 ∙ ap (λ (b : List TypeDef). b ++ more.0) a.own_types.types_are)
 
 -- what stands for the same does with more types behind
 stand_kept : (given : Owner → Name → Tree) (places : Places) (package_owners graph_owners : Owners) (a b more : List TypeDef) → StandForTheSame given places package_owners a graph_owners b → StandForTheSame given places package_owners a graph_owners (b ++ more)
@@ -65,9 +73,9 @@ module _ (moved : MovedTypesStandForTheSame) (given : Owner → Name → Tree) (
     abbrev there : List TypeDef
     there = old.tables.types ++ h.put.added.parts.own_types.defs
 
-    stand_there : StandForTheSame given h.places package_owners own graph_owners there
-    stand_there =
-        (moved given package_owners graph_owners features h.owners (found_of old.tables.interfaces.all h.foreign parts) h.places parts.unknown parts.types old.tables.types h.put.added.parts.own_types.defs record {
+    both_there : IsWhole graph_owners given there × StandForTheSame given h.places package_owners own graph_owners there
+    both_there =
+        moved given package_owners graph_owners features h.owners (found_of old.tables.interfaces.all h.foreign parts) h.places parts.unknown parts.types old.tables.types h.put.added.parts.own_types.defs record {
           package_whole = subst (IsWhole package_owners given) (sym all_are) whole;
           graph_whole = agreed.whole;
           so_many = length-map parts.unknown (type_found old.tables.interfaces.all h.foreign.interfaces);
@@ -75,7 +83,16 @@ module _ (moved : MovedTypesStandForTheSame) (given : Owner → Name → Tree) (
           owners_are = agreed.owners_are;
           placed = h.are_places.planned.types_are;
           are_moved = h.put.added.parts.own_types.are_moved;
-        }).1
+        }
+
+    pub whole_moved : IsWhole graph_owners given there
+    whole_moved = both_there.0
+
+    stand_there : StandForTheSame given h.places package_owners own graph_owners there
+    stand_there = both_there.1
+
+    pub stand_then : StandForTheSame given h.places package_owners p.types graph_owners there
+    stand_then = subst (λ (a : List TypeDef). StandForTheSame given h.places package_owners a graph_owners there) all_are stand_there
 
     pub stand : StandForTheSame given h.places package_owners p.types graph_owners new.tables.types
     stand =

@@ -4,6 +4,12 @@ pub mod Packages
 pub mod Pushed
 pub mod Asked
 pub mod Found
+pub mod Apart
 pub mod Owned
 pub mod Agreed
 pub mod Known
+pub mod Giving
+pub mod Whole
+pub mod Meant
+pub mod MeantWorlds
+pub mod Said

@@ -21,7 +21,7 @@ use Rattle.wit_pushed_trees.specs.Worlds.{IsWorldMeant}
 pub record IsPackageMeant (c : Context) (interfaces : List InterfaceText) (worlds : List WorldScope) (p : UnresolvedPackage) : Type 0 where
   pub whole : (given : Owner → Name → Tree) → IsWhole c.owners given p.types
   pub each_interface : (given : Owner → Name → Tree) (k : ℕ) (d : Interface) → slice_get (own_parts p).interfaces k ≡ Some d → IsOfText given c c.owners p.types interfaces d
-  pub each_world : (given : Owner → Name → Tree) (k : ℕ) (w : World) → slice_get (own_parts p).worlds k ≡ Some w → IsWorldMeant given c c.owners p.types worlds w.name w.imports.entries w.exports.entries
+  pub each_world : (given : Owner → Name → Tree) (k : ℕ) (w : World) → slice_get (own_parts p).worlds k ≡ Some w → IsWorldMeant given c c.owners p.types worlds w.name w.imports.entries w.exports.entries w.includes.items
 
 -- so it is of a package to which files are resolved
 abbrev pub ResolvedPackagesMeanTheirTexts : Type 0

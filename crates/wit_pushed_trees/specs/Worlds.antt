@@ -1,20 +1,28 @@
 -- Worlds that mean, by what they have themselves, what their texts do (WIT, Item: `world`, Use, Types).
-use Rattle.std.specs.Prelude.{◌≡◌, ◌⊎◌, ℕ, List, String, string_bytes}
+use Rattle.std.specs.Prelude.{◌≡◌, ℕ, List, Option, Some, None, String, map, slice_get, string_bytes}
 use Rattle.std.specs.declared.alloc.Global.{Global}
 use Rattle.wit_words.specs.declared.source_map.Span.{Span}
 use Rattle.wit_types.specs.declared.function.Function.{Function}
 use Rattle.wit_types.specs.declared.interface.TypeDef.{TypeDef}
+use Rattle.wit_types.specs.declared.stability.Stability.{Stability}
+use Rattle.wit_types.specs.declared.world.WorldInclude.{WorldInclude}
 use Rattle.wit_types.specs.declared.world.WorldItem.{WorldItem}
 use Rattle.wit_types.specs.declared.world.WorldItem.TheVariants as item
 use Rattle.wit_types.specs.declared.world_key.WorldKey.{WorldKey}
 use Rattle.wit_types.specs.WorldKey.{spelled, known}
-use Rattle.wit_scopes.specs.Scopes.{WorldScope}
-use Rattle.wit_arena.specs.Tree.{Name, in_world, Owner, Tree}
+use Rattle.wit_scopes.specs.declared.worlds.Side.{Side}
+use Rattle.wit_scopes.specs.declared.worlds.Side.TheVariants.{Import, Export}
+use Rattle.wit_scopes.specs.Scopes as scope
+use Rattle.wit_scopes.specs.Scopes.{WorldScope, WorldMemberTree, ListedTree, IncludedTree, ExternKind}
+use Rattle.wit_scopes.specs.Members.{MemberTree}
+use Rattle.wit_items.specs.ItemTree.{FuncTree}
+use Rattle.wit_arena.specs.Tree.{Name, in_interface, in_world, in_listed, Owner, Tree}
 use Rattle.wit_arena.specs.Unfold.{Owners}
 use Rattle.wit_arena.specs.Standing.{Stands}
 use Rattle.wit_arena.specs.Meaning.{Has}
-use Rattle.wit_resolved_scopes.specs.InArena.{Context}
-use Rattle.wit_resolved_scopes.specs.Texts.{own_members}
+use Rattle.wit_resolved_scopes.specs.InArena.{Context, own_owner}
+use Rattle.wit_resolved_scopes.specs.Texts.{own_members, side_members, includes_of}
+use Rattle.wit_worlds.specs.Worlds.{function_member, target_owner, include_name, written_name}
 use Rattle.wit_pushed_trees.specs.Meaning.{IsFunctionMeant}
 
 -- one of these texts is that of a world of this name
@@ -30,13 +38,52 @@ pub record IsTypeMeant (given : Owner → Name → Tree) (c : Context) (owners :
   pub known_by : known key ≡ spelled spelling
   pub means : Stands c.me c.scopes given owners types (in_world text.name.text) spelling id
 
--- a function of a world is one of its text
-pub record IsOwnFunctionMeant (given : Owner → Name → Tree) (c : Context) (owners : Owners) (types : List TypeDef) (ws : List WorldScope) (name : String Global) (f : Function) : Type 0 where
+-- a function of a world's own, or one that it lists
+abbrev pub IsGiven : WorldMemberTree → MemberTree → Type 0
+IsGiven (scope.member m) n = n ≡ m
+IsGiven (scope.listed l) n = (f : FuncTree) × (l.kind ≡ scope.ExternKind.function f) × (n ≡ function_member l f)
+IsGiven (scope.included i) n = ⊥
+
+-- a function that a world imports, or exports, is one that its text has there
+pub record IsOwnFunctionMeant (given : Owner → Name → Tree) (c : Context) (owners : Owners) (types : List TypeDef) (ws : List WorldScope) (name : String Global) (side : Side) (f : Function) : Type 0 where
   pub text : WorldScope
   pub is_text : IsTextOf ws name text
   pub is : IsFunctionMeant given c owners types (in_world text.name.text) (own_members text.members) f
+  pub giver : WorldMemberTree
+  pub on_side : Has (side_members side text.members) giver
+  pub gives : IsGiven giver is.member
 
--- so it is of all types and functions that a world of this name imports and exports itself, without what it includes
-pub record IsWorldMeant (given : Owner → Name → Tree) (c : Context) (owners : Owners) (types : List TypeDef) (ws : List WorldScope) (name : String Global) (imports exports : List (WorldKey × WorldItem)) : Type 0 where
+-- whose an interface is that a text lists: the world's own, or what a path leads to
+abbrev pub extern_owner : Context → Name → ListedTree → ExternKind → Option Owner
+extern_owner c w l (scope.ExternKind.function f) = None
+extern_owner c w l (scope.ExternKind.interface ms) = Some (own_owner c (in_listed w l.side l.name.text))
+extern_owner c w l (scope.item t) = Some (target_owner c.me in_interface t)
+
+-- an interface that a world imports, or exports, is one that its text lists there
+pub record IsInterfaceListed (c : Context) (owners : Owners) (ws : List WorldScope) (name : String Global) (side : Side) (id : ℕ) : Type 0 where
+  pub text : WorldScope
+  pub is_text : IsTextOf ws name text
+  pub listed : ListedTree
+  pub there : Has text.members (scope.listed listed)
+  pub side_is : listed.side ≡ side
+  pub whose : Owner
+  pub listed_as : extern_owner c text.name.text listed listed.kind ≡ Some whose
+  pub owner : slice_get owners.interfaces id ≡ Some whose
+
+-- a world includes the one to which a path of its text leads, with names that change as written
+pub record IsIncludeMeant (c : Context) (owners : Owners) (ws : List WorldScope) (name : String Global) (n : WorldInclude) : Type 0 where
+  pub text : WorldScope
+  pub is_text : IsTextOf ws name text
+  pub written : IncludedTree
+  pub there : Has (includes_of text.members) written
+  pub owner : slice_get owners.worlds n.id ≡ Some (target_owner c.me in_world written.world)
+  pub names : map include_name n.names.items ≡ map written_name written.names
+
+-- so it is of all that a world of this name imports and exports itself, and of what it includes
+pub record IsWorldMeant (given : Owner → Name → Tree) (c : Context) (owners : Owners) (types : List TypeDef) (ws : List WorldScope) (name : String Global) (imports exports : List (WorldKey × WorldItem)) (includes : List WorldInclude) : Type 0 where
   pub own_types : (key : WorldKey) (id : ℕ) (span : Span) → Has imports (key, item.TypeItem id span) → IsTypeMeant given c owners types ws name key id
-  pub functions : (key : WorldKey) (f : Function) → Has imports (key, item.Function f) ⊎ Has exports (key, item.Function f) → IsOwnFunctionMeant given c owners types ws name f
+  pub imported_functions : (key : WorldKey) (f : Function) → Has imports (key, item.Function f) → IsOwnFunctionMeant given c owners types ws name Import f
+  pub exported_functions : (key : WorldKey) (f : Function) → Has exports (key, item.Function f) → IsOwnFunctionMeant given c owners types ws name Export f
+  pub imported : (key : WorldKey) (id : ℕ) (gate : Stability) (span : Span) → Has imports (key, item.Interface id gate span) → IsInterfaceListed c owners ws name Import id
+  pub exported : (key : WorldKey) (id : ℕ) (gate : Stability) (span : Span) → Has exports (key, item.Interface id gate span) → IsInterfaceListed c owners ws name Export id
+  pub included : (n : WorldInclude) → Has includes n → IsIncludeMeant c owners ws name n

@@ -1,13 +1,22 @@
 //! Laws of packages that mean what their texts do.
 
 ghost use Rattle.wit_pushed_trees.specs.Agreed.{PushedPackagesAreAgreed};
+ghost use Rattle.wit_pushed_trees.specs.Apart.{MovedWorldsAreNamedApart, ResolvedWorldsAreNamedApart};
 ghost use Rattle.wit_pushed_trees.specs.Asked.{MovedPackagesAskByName, ResolvedPackagesAskByName};
 ghost use Rattle.wit_pushed_trees.specs.Found.{AskedItemsAreFoundByName, AskedTypesStandForTheSame, EmptyNamesStand, EqualNamesAreTheSame, PushedNamesStand};
+ghost use Rattle.wit_pushed_trees.specs.Giving.{GraphsGiveTheirNames, KnownTypesStandAlone};
 ghost use Rattle.wit_pushed_trees.specs.Known.{EmptyTypesAreKnown, MovedTypesAreKnown, PushedTypesAreKnown, ResolvedTypesAreKnown};
+ghost use Rattle.wit_pushed_trees.specs.Meant.{EmptyGraphsAreMeant, PushedGraphsMeanTheirTexts, ResolvedPackagesAreOfTexts};
+ghost use Rattle.wit_pushed_trees.specs.MeantWorlds.{EmptyWorldsAreMeant, PushedWorldsAreMeant};
 ghost use Rattle.wit_pushed_trees.specs.Owned.{EmptyGraphsAreOwned, MovedPackagesHaveOwners, PushedGraphsAreOwned, ResolvedPackagesHaveOwners};
 ghost use Rattle.wit_pushed_trees.specs.Packages.{MovedPackagesMeanTheirTexts, ResolvedPackagesMeanTheirTexts};
 ghost use Rattle.wit_pushed_trees.specs.Pushed.{PushedInterfacesMeanTheirTexts, PushedTypesStandForTheSame, PushedWorldsMeanTheirTexts};
+ghost use Rattle.wit_pushed_trees.specs.Said.{EmptyWorldsAreSaid, PushedWorldsAreSaid};
+ghost use Rattle.wit_pushed_trees.specs.Whole.{PushedGraphsHaveTrees, PushedGraphsKeepWhatWas};
 
+use wit_copied_trees::{
+    law_included_functions_stand_for_the_same, law_included_types_stand_for_the_same,
+};
 use wit_moved_trees::{
     law_moved_functions_stand_for_the_same, law_moved_names_stand_for_the_same,
     law_moved_types_stand_for_the_same,
@@ -41,7 +50,7 @@ pub fn law_pushed_interfaces_mean_their_texts()
     law_moved_functions_stand_for_the_same();
 }
 
-/// So do the types and functions that each world that came has itself, without what it includes (WIT, Item: `world`, Use, Types).
+/// So does what each world that came has itself, and what it includes is what its text does (WIT, Item: `world`, `include`, Use, Types).
 pub fn law_pushed_worlds_mean_their_texts()
     ensures { PushedWorldsMeanTheirTexts }
 {
@@ -87,6 +96,16 @@ pub fn law_asked_types_stand_for_the_same()
     ensures { AskedTypesStandForTheSame }
 {}
 
+/// No two of a package's own worlds have one name, if files are resolved to it (WIT, Item: `world`).
+pub fn law_resolved_worlds_are_named_apart()
+    ensures { ResolvedWorldsAreNamedApart }
+{}
+
+/// None have wherever its texts stand among others.
+pub fn law_moved_worlds_are_named_apart()
+    ensures { MovedWorldsAreNamedApart }
+{}
+
 /// A package to which files are resolved has owners of all that it holds, those of its texts: its interfaces and worlds are its own under their names,
 /// and those that it asks of others are the others' (WIT, Packages, Package Names).
 pub fn law_resolved_packages_have_owners()
@@ -103,8 +122,9 @@ pub fn law_empty_graphs_are_owned()
     ensures { EmptyGraphsAreOwned }
 {}
 
-/// A graph that has owners of all that it holds, by the names of its packages and of what stands in them, has more when `Graph::push` has answered for a
-/// package that has owners: whose an interface or a world of the package was, it still is where it stands (WIT, Packages, Package Names).
+/// A graph that has owners of all that it holds, by the names of its packages and of what stands in them, no two worlds of which are one, has more when
+/// `Graph::push` has answered for a package of a new name that has owners and names its worlds apart: whose an interface or a world of the package was, it
+/// still is where it stands (WIT, Packages, Package Names).
 pub fn law_pushed_graphs_are_owned()
     ensures { PushedGraphsAreOwned }
 {}
@@ -134,3 +154,82 @@ pub fn law_empty_graphs_have_types_known()
 pub fn law_pushed_types_are_known()
     ensures { PushedTypesAreKnown }
 {}
+
+/// Where more than its name is known of each type, what types stand for doesn't depend on what is given for names (WIT, Types).
+pub fn law_known_types_stand_alone()
+    ensures { KnownTypesStandAlone }
+{}
+
+/// A graph gives for each name of an interface, by the name of its package and its own, what stands in it under that: no two packages have one name, and no
+/// two interfaces of a package do (WIT, Packages, Package Names, Use).
+pub fn law_graphs_give_their_names()
+    ensures { GraphsGiveTheirNames }
+{}
+
+/// Each type of a graph has a tree, also those that came with what worlds include, when `Graph::push` has answered for a package of which each has, if each
+/// of the graph's had (WIT, Types, Item: `include`).
+pub fn law_pushed_graphs_have_trees()
+    ensures { PushedGraphsHaveTrees }
+{
+    law_moved_types_stand_for_the_same();
+    law_included_types_stand_for_the_same();
+}
+
+/// What was in a graph stays when `Graph::push` has answered for a package: each type stands under its id for what it stood for, and each world has what it had, itself and
+/// in the end (WIT, Packages).
+pub fn law_pushed_graphs_keep_what_was()
+    ensures { PushedGraphsKeepWhatWas }
+{}
+
+/// A package to which files are resolved has their name, and means what they say (WIT, Packages, Items).
+pub fn law_resolved_packages_are_of_texts()
+    ensures { ResolvedPackagesAreOfTexts }
+{
+    law_resolved_packages_mean_their_texts();
+}
+
+/// In a graph without packages no interface means anything.
+pub fn law_empty_graphs_are_meant()
+    ensures { EmptyGraphsAreMeant }
+{}
+
+/// Each interface of a graph is of the package of one of some texts, and means what one of these does, each name that its text takes of another package standing
+/// for what stands in the graph under that; and so it is, with one package's texts more, when `Graph::push` has answered for that package (WIT, Packages, Item:
+/// `interface`, Use, Types).
+pub fn law_pushed_graphs_mean_their_texts()
+    ensures { PushedGraphsMeanTheirTexts }
+{
+    law_pushed_interfaces_mean_their_texts();
+}
+
+/// In a graph without packages no world means anything.
+pub fn law_empty_worlds_are_meant()
+    ensures { EmptyWorldsAreMeant }
+{}
+
+/// Each world of a graph is of the package of one of some texts; what it has itself means what the text of its name does, it includes the worlds to which paths of
+/// that text lead, and has besides what these bring alone; and so it is, with one package's texts more, when `Graph::push` has answered for that package (WIT,
+/// Packages, Item: `world`, `include`).
+pub fn law_pushed_worlds_are_meant()
+    ensures { PushedWorldsAreMeant }
+{
+    law_pushed_worlds_mean_their_texts();
+}
+
+/// In a graph without packages no world imports or exports anything.
+pub fn law_empty_worlds_are_said()
+    ensures { EmptyWorldsAreSaid }
+{}
+
+/// Each function and each interface that a world of a graph imports or exports is one that texts say: its own text, or the text of a world that it includes,
+/// and so on, under names that change, types of an included world being the including one's. A function takes, under the names of the text, and gives what
+/// is written there, each name standing for what it means there by lexical scope. So it is, with one package's texts more, when `Graph::push` has answered for
+/// that package (WIT, Item: `world`, `include`, Use, Types).
+pub fn law_pushed_worlds_are_said()
+    ensures { PushedWorldsAreSaid }
+{
+    law_moved_types_stand_for_the_same();
+    law_moved_functions_stand_for_the_same();
+    law_included_types_stand_for_the_same();
+    law_included_functions_stand_for_the_same();
+}

@@ -44,7 +44,7 @@ pub data AreGroupTextsKept (old : Resolved) (gs : List UnresolvedPackageGroup) (
   no_place : HasNoPlace kind → AreGroupTextsKept old gs kind new
   of_all : (fault : GroupFault) → kind ≡ of_group fault → new.texts ≡ old.texts ++ texts_of gs → AreGroupTextsKept old gs kind new
 
--- and when texts were: a beginning of those of a package that isn't read, or all
+-- and when texts were: those of a package up to the one that isn't read, all of one that breaks a rule, or all
 pub data AreTextsKept (old : Resolved) (files : List (List SourceText)) (kind : ResolveErrorKind) (new : Resolved) : Type 0 where
   no_place : HasNoPlace kind → AreTextsKept old files kind new
   as_read : (texts read : List SourceText) (fault : PackageFault) → Has files texts → IsUnread texts read fault → IsOfTexts (total old.texts) fault kind → new.texts ≡ old.texts ++ read → AreTextsKept old files kind new

@@ -4,7 +4,7 @@ use Rattle.wit_words.specs.Sources.{SourceText}
 use Rattle.wit_order.specs.Order.{Has}
 use Rattle.wit_rules.specs.declared.fault.PackageFault.{PackageFault}
 use Rattle.wit_package.specs.declared.group.UnresolvedPackageGroup.{UnresolvedPackageGroup}
-use Rattle.wit_package.specs.Group.{AreParsed, IsBeginning, IsTextsFault}
+use Rattle.wit_package.specs.Group.{AreParsed, IsBeginning, AreLeft, IsTextsFault}
 
 -- the files of a package, and other packages, of one text each
 abbrev pub files_of : List SourceText → List SourceText → List (List SourceText)
@@ -15,9 +15,10 @@ pub record IsGroupOf (files : List SourceText) (g : UnresolvedPackageGroup) : Ty
   pub parsed : AreParsed files g.main g.nested.items
   pub texts : g.source_map ≡ files
 
--- the files of a package up to one, and why they aren't taken
+-- the files of a package up to one that isn't read, or all, and why they aren't taken
 pub record IsUnread (files read : List SourceText) (fault : PackageFault) : Type 0 where
   pub beginning : IsBeginning files read
+  pub left : AreLeft files read fault
   pub cause : IsTextsFault files fault
 
 -- the first files of a package have come behind those texts, or all files of the first packages

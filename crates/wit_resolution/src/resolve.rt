@@ -261,8 +261,8 @@ impl Resolve {
     /// Adds the packages of texts, which come behind the others: of the texts that are the files of a package, and of each of the others,
     /// with those that are nested in them, as `push_groups` does. Answers the id of the first. Refuses a text that isn't read (S1 to S8),
     /// files that break a rule (P1 to P11), and what `push_groups` refuses. A refused call leaves the graph as it was; texts are there:
-    /// a beginning of those of the package that isn't read, or all. Where it is refused for S8 or want of memory, maybe some are
-    /// (WIT, Packages).
+    /// those of the package up to the text that isn't read, all of the package that breaks a rule, or all. Where it is refused for
+    /// S8 or want of memory, maybe some are (WIT, Packages).
     pub fn push_texts(
         &mut self,
         main: &[(&str, &str)],

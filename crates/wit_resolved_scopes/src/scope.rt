@@ -3,7 +3,7 @@
 ghost use Rattle.std.specs.Prelude.{◌≡◌, List, map, IfOk, OnOk, IfErr};
 ghost use Rattle.wit_scopes.specs.Members.{MemberTree};
 ghost use Rattle.wit_orders.specs.Needs.{type_entry, CircleBreaks, AreSorted};
-ghost use Rattle.wit_package_types.specs.Fill.{AreFillable};
+ghost use Rattle.wit_package_types.specs.Fill.{AreFillable, Fills};
 ghost use Rattle.wit_scopes.specs.Scopes.{ItemScope};
 ghost use Rattle.wit_scopes.specs.View as scope_view;
 ghost use Rattle.wit_rules.specs.Breaks.{IsKept, IsFaultOf};
@@ -15,8 +15,9 @@ ghost use Rattle.wit_resolved_scopes.specs.Faults.{ScopeBreaks, MayBeFilled};
 
 use crate::checks::check_members;
 use crate::functions::resolve_functions;
+use std::alloc::AllocError;
 use wit_arena::{Table, Types};
-use wit_orders::sorted_types;
+use wit_orders::{name_nothing, sorted_types};
 use wit_package_types::{Known, fill_types};
 use wit_resources::Natures;
 use wit_rules::PackageFault;
@@ -30,6 +31,24 @@ pub struct ResolvedScope<'a> {
     pub table: Table<'a>,
     /// Its functions, in the order of the text.
     pub functions: Vec<Function>,
+}
+
+/// Types in an order in which each stands behind those that it names, and what is known of them.
+fn fill_in_order<'a>(
+    types: &mut Types,
+    natures: &mut Natures,
+    known: &Known<'a>,
+    owner: TypeOwner,
+    sorted: &[Member<'a>],
+) -> Result<Table<'a>, AllocError>
+    requires ready { AreFillable known.now (scope_view.members sorted.now) }
+    requires natures { natures.old ≡ natures_of types.old }
+    ensures fills { IfOk result (λ t. Fills known.now owner types.old (scope_view.members sorted.now) types.new t) }
+    ensures natures { OnOk result (natures.new ≡ natures_of types.new) }
+{
+    let table = fill_types(types, known, owner, sorted)?;
+    natures.catch_up(types)?;
+    Ok(table)
 }
 
 /// The types of a scope, each behind those that it names, and what is known of them; P6 where a type leads back to itself.
@@ -47,9 +66,13 @@ fn fill_sorted<'a>(
     ensures kept { OnOk result (IsKept (CircleBreaks (map type_entry (scope_view.members declared.now)))) }
     ensures cause { IfErr result (IsFaultOf (CircleBreaks (map type_entry (scope_view.members declared.now)))) }
 {
+    // Most texts need no sorting, which costs some allocations.
+    if name_nothing(types.allocator(), declared)? {
+        let table = fill_in_order(types, natures, known, owner, declared)?;
+        return Ok(table);
+    }
     let sorted = sorted_types(types.allocator(), declared)?;
-    let table = fill_types(types, known, owner, sorted.as_slice())?;
-    natures.catch_up(types)?;
+    let table = fill_in_order(types, natures, known, owner, sorted.as_slice())?;
     Ok(table)
 }
 

@@ -3,11 +3,16 @@ use Rattle.std.proofs.lemmas.Result.{err_from_is_err_and}
 use Rattle.wit_words.specs.Sources.{SourceText}
 use Rattle.wit_package.specs.Group.{AreRead}
 use Rattle.wit_package.specs.GroupView as seen
-use Rattle.wit_package.proofs.Reading.{next_map, next_beginning, read_fault, all_taken}
+use Rattle.wit_package.proofs.Reading.{next_map, next_beginning, left_at, read_fault, all_taken}
 use Rattle.wit_package.proofs.group.read_texts.Goals as goal
 
 pub returns-in_err-add_text-clause-beginning : goal.returns-in_err-add_text-clause-beginning
-returns-in_err-add_text-clause-beginning c = next_beginning c.args.texts.now c.loop-path.path-index _ c.loop-path-test.true c.loop-path.map c.add_text.new.map c.loop-path.invariant.0 c.in_err-add_text.ensures.kept
+returns-in_err-add_text-clause-beginning c = next_beginning c.args.texts.now c.loop-path.path-index _ c.loop-path-test.true c.loop-path.map c.add_text.new.map c.loop-path.invariant.0 c.in_err-add_text.field-0.0 c.in_err-add_text.ensures.left
+
+pub returns-in_err-add_text-clause-left : goal.returns-in_err-add_text-clause-left
+returns-in_err-add_text-clause-left c =
+    let p = err_from_is_err_and c.from_residual.result c.from_residual.ensures.1 in
+    rw (p.1, p.2) (left_at c.args.texts.now c.loop-path.path-index _ c.loop-path-test.true c.loop-path.map c.add_text.new.map c.loop-path.invariant.0 c.in_err-add_text.field-0.0 c.in_err-add_text.ensures.cause c.in_err-add_text.ensures.left)
 
 pub returns-in_err-add_text-clause-cause : goal.returns-in_err-add_text-clause-cause
 returns-in_err-add_text-clause-cause c =

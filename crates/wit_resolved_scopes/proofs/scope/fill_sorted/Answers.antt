@@ -1,9 +1,4 @@
-use Rattle.wit_scopes.specs.View as scope_view
-use Rattle.wit_package_types.proofs.Filling.{filled_extends}
-use Rattle.wit_resolved_scopes.proofs.Results.{first_known}
 use Rattle.wit_resolved_scopes.proofs.scope.fill_sorted.Goals as goal
 
-pub catch_up-requires : goal.catch_up-requires
-catch_up-requires c =
-    first_known c.args.types.now c.fill_types.new.types c.args.natures.now
-    (filled_extends c.args.known.now c.args.owner c.args.types.now (scope_view.members c.as_slice.result.now) c.fill_types.new.types c.in_ok-table.table c.in_ok-table.ensures) c.requires.natures
+pub returns-then-branch-clause-kept : goal.returns-then-branch-clause-kept
+returns-then-branch-clause-kept c = (c.in_ok-name_nothing.ensures.yes c.if-branch.true).1

@@ -1,6 +1,6 @@
 use Rattle.std.proofs.Common.{◌≡◌, take}
 use Rattle.wit_interfaces.specs.Interfaces.{named_types}
-use Rattle.wit_interfaces.proofs.interface.type_pairs.Given as goal
+use Rattle.wit_interfaces.proofs.interface.named_types.Given as goal
 
 abbrev pub invariant-loop-place : goal.invariant-loop-place
-invariant-loop-place l = named_types l.pairs.items ≡ take l.place l.table
+invariant-loop-place l = named_types l.types.entries ≡ take l.place l.table

@@ -1,0 +1,54 @@
+-- Names of a graph of texts mean what scope gives them in these (WIT, Packages, Items, Use, Types).
+use Rattle.std.specs.Prelude.{◌≡◌, ℕ, Bool, List, [], ◌∷◌}
+use Rattle.wit_words.specs.Sources.{SourceText}
+use Rattle.wit_order.specs.Order as order
+use Rattle.wit_syntax.specs.Ast.{FileTree}
+use Rattle.wit_types.specs.declared.«package».PackageName.{PackageName}
+use Rattle.wit_types.specs.declared.«package».UnresolvedPackage.{UnresolvedPackage}
+use Rattle.wit_arena.specs.Meaning.{Has}
+use Rattle.wit_nested.specs.Nested.{own_files, nested_files}
+use Rattle.wit_package.specs.Group.{AreRead}
+use Rattle.wit_package.specs.Steps.{Resolves}
+use Rattle.wit_new_names.specs.Names.{SeesSameNames}
+use Rattle.wit_graph.specs.Graph.{Graph}
+use Rattle.wit_resolution.specs.Pushes.{Resolved}
+use Rattle.wit_pushed_trees.specs.Found.{TellsNamesApart}
+use Rattle.wit_pushed_trees.specs.Giving.{Gives}
+use Rattle.wit_pushed_trees.specs.Meant.{PackageTexts, texts_of, AreMeantBy}
+use Rattle.wit_pushed_trees.specs.MeantWorlds.{AreWorldsMeantBy}
+use Rattle.wit_pushed_trees.specs.Said.{AreWorldsSaid}
+use Rattle.wit_pushed_trees.specs.Whole.{HasTrees}
+use Rattle.text_graphs.specs.Coming.{ComeOfTexts, pushes}
+use Rattle.text_graphs.specs.Owned.{HasOwners}
+
+-- the files of one package: all without what is nested in them, or a nested one
+pub data AreFilesOf (all files : List FileTree) : Type 0 where
+  own : files ≡ own_files all → AreFilesOf all files
+  nested : (f : FileTree) → Has (nested_files all) f → files ≡ f ∷ [] → AreFilesOf all files
+
+-- it is what these texts say, read together, of one package
+pub record IsSaidBy (source : List SourceText) (texts : PackageTexts) : Type 0 where
+  pub all : List FileTree
+  pub read : AreRead source all
+  pub files : List FileTree
+  pub are_files : AreFilesOf all files
+  pub «package» : UnresolvedPackage
+  pub resolves : Resolves files «package»
+  pub is : texts ≡ texts_of files «package» resolves
+
+-- all that a graph holds has an owner, and each type stands for something; for each name of an interface the graph gives what stands in it under that; and where
+-- that is given for names that a text takes of another package, each interface and each world means what its text does, which is one of those pushed, and what a world
+-- imports and exports in all is what texts say of it and of those that it includes
+pub record MeansItsTexts (files : List (List SourceText)) (g : Graph) : Type 0 where
+  pub has : HasOwners g
+  pub trees : HasTrees has.owners g.tables
+  pub gives : Gives has.owners g.tables
+  pub texts : List PackageTexts
+  pub said : (one : PackageTexts) → Has texts one → (source : List SourceText) × order.Has files source × IsSaidBy source one
+  pub interfaces : AreMeantBy texts has.owners g.tables
+  pub worlds : AreWorldsMeantBy texts has.owners g.tables
+  pub worlds_said : AreWorldsSaid texts has.owners g.tables
+
+-- so does each graph that comes of texts
+abbrev pub TextGraphsMeanTheirTexts : Type 0
+TextGraphsMeanTheirTexts = (eq : PackageName → PackageName → Bool) (r : Resolved) → TellsNamesApart eq → SeesSameNames eq → (come : ComeOfTexts eq r) → MeansItsTexts (pushes eq r come) r.graph

@@ -1,0 +1,569 @@
+-- Worlds of a graph import and export what texts say.
+use Rattle.std.proofs.Common.{◌≡◌, ◌<◌, ◌≤◌, ℕ, ◌+◌, Bool, true, List, [], ◌∷◌, ◌++◌, length, length-append, map, Option, Some, None, inl, inr, refl, sym, subst, ap, ◌∙◌, arith, append_assoc}
+use Rattle.std.proofs.lemmas.List.{append-nil}
+use Rattle.std.proofs.lemmas.Option.{same_Some, slice_get_within}
+use Rattle.std.specs.Prelude.{String, is_some, slice_get, string_bytes}
+use Rattle.std.specs.Option.{unwrap_or}
+use Rattle.std.specs.List.{AllZip}
+use Rattle.std.specs.declared.alloc.Global.{Global}
+use Rattle.wit_words.specs.declared.source_map.Span.{Span}
+use Rattle.wit_order.specs.Order as order
+use Rattle.wit_order.specs.Places.{Rows}
+use Rattle.wit_types.specs.WorldKey.{key_eq}
+use Rattle.wit_types.specs.declared.kind.«Type».{«Type» as Ref}
+use Rattle.wit_types.specs.declared.function.Function.{Function}
+use Rattle.wit_types.specs.declared.function.FunctionKind.{FunctionKind}
+use Rattle.wit_types.specs.declared.function.Param.{Param}
+use Rattle.wit_types.specs.declared.interface.Interface.{Interface}
+use Rattle.wit_types.specs.declared.interface.TypeDef.{TypeDef}
+use Rattle.wit_types.specs.declared.interface.TypeOwner.TheVariants as belongs
+use Rattle.wit_types.specs.declared.stability.Stability.{Stability}
+use Rattle.wit_types.specs.declared.world.IncludeName.{IncludeName}
+use Rattle.wit_types.specs.declared.world.World.{World}
+use Rattle.wit_types.specs.declared.world.WorldInclude.{WorldInclude}
+use Rattle.wit_types.specs.declared.world.WorldItem.{WorldItem}
+use Rattle.wit_types.specs.declared.world.WorldItem.TheVariants as item
+use Rattle.wit_types.specs.declared.world_key.WorldKey.{WorldKey}
+use Rattle.wit_types.specs.declared.«package».Package.{Package}
+use Rattle.wit_types.specs.declared.«package».PackageName.{PackageName}
+use Rattle.wit_types.specs.declared.«package».UnresolvedPackage.{UnresolvedPackage}
+use Rattle.wit_features.specs.Features.{FeatureSet}
+use Rattle.wit_rules.specs.Labels.{full_name}
+use Rattle.wit_scopes.specs.Scopes.{WorldScope, IncludedTree}
+use Rattle.wit_scopes.specs.declared.worlds.Side.{Side}
+use Rattle.wit_scopes.specs.declared.worlds.Side.TheVariants.{Import, Export}
+use Rattle.wit_sides.specs.Renames as renames
+use Rattle.wit_sides.specs.Renames.{IsRenamed, AreRenamed, IsRenamedItem}
+use Rattle.wit_sides.specs.Sides.{AreUnited, no_entries, first_of_its_key, key_again}
+use Rattle.wit_copies.specs.Copies as copies
+use Rattle.wit_copies.specs.Copies.{Copies, goes, IsCopiedItem, AreCopiedEntries}
+use Rattle.wit_copies.specs.Same.{IsSameParam, IsSameFunction, IsSameItem, same_interface, same_function, same_type}
+use Rattle.wit_moves.specs.Moved.{place_of, to, IsMovedFunction}
+use Rattle.wit_moves.specs.Plan.{OwnerPlaces}
+use Rattle.wit_moved_trees.specs.Law.{StandForTheSame, MovedTypesStandForTheSame, MovedFunctionsStandForTheSame}
+use Rattle.wit_placed.proofs.Own.{worlds_take_places_alone}
+use Rattle.wit_plans.specs.Plans.{standing}
+use Rattle.wit_graph_parts.specs.Own.{asked, own_parts}
+use Rattle.wit_graph.specs.Graph.{Graph, AreWhole}
+use Rattle.wit_graph.specs.Push.{IsPushed}
+use Rattle.wit_moves.specs.Worlds.{IsMovedItem, moved_interface, moved_function, moved_type}
+use Rattle.wit_includes.specs.Included.{AreIncludedEntries, copies_behind}
+use Rattle.wit_reach.specs.Ids.{signature_ids, function_ids, resource_ids, item_ids, side_ids}
+use Rattle.wit_reach.specs.Types.{IsLocalAt, IsOfItem, AreWorldTypes}
+use Rattle.wit_order.proofs.Lists.{has_was}
+use Rattle.wit_reach.proofs.Lists.{has_append}
+use Rattle.wit_reach.proofs.Holding.{got}
+use Rattle.wit_interfaces.proofs.Behind.{get_either}
+use Rattle.wit_arena.specs.Tree.{Name, PackageText, Place, in_world, Owner, Tree, TreeOption, Trees}
+use Rattle.wit_arena.specs.Unfold.{Owners, part_tree, part_trees, trees, IsWhole}
+use Rattle.wit_arena.specs.Meaning.{Has, MeansParts}
+use Rattle.wit_arena.proofs.Lists.{has_none, has_here, has_later, has_cases, has_right, get_kept, get_last, get_more}
+use Rattle.wit_arena.proofs.Unfolding.{part_kept}
+use Rattle.wit_resolved_scopes.specs.InArena.{Context}
+use Rattle.wit_resolved_scopes.specs.Meaning.{written_parts, function_refs}
+use Rattle.wit_joined.specs.Joined as joined
+use Rattle.wit_joined.specs.Joined.{Includes, includes_none, includes_one, own_state}
+use Rattle.wit_plans.specs.declared.moves.MovedWorld.{MovedWorld}
+use Rattle.wit_graph_worlds.specs.Added.{AreAdded, none_added, one_added}
+use Rattle.wit_graph_worlds.specs.Copies.{IsSameEntry, AreSameEntries}
+use Rattle.wit_graph_worlds.specs.Worlds.{State}
+use Rattle.wit_copied_trees.specs.Law.{IsOfTrees, AreIncludedBehind, IncludedTypesStandForTheSame, IncludedFunctionsStandForTheSame}
+use Rattle.wit_pushed_trees.specs.Apart.{AreWorldsApart}
+use Rattle.wit_pushed_trees.specs.Found.{TellsNamesApart, NamesOfGraphStand, AreFoundByName, IsGivenBy}
+use Rattle.wit_pushed_trees.specs.Known.{AreTypesKnown, AreOwnTypesKnown}
+use Rattle.wit_pushed_trees.specs.Pushed.{AreAgreed}
+use Rattle.wit_pushed_trees.specs.Whole.{HasTrees}
+use Rattle.wit_pushed_trees.specs.Meaning.{is_async, is_written_async, param_names, written_names}
+use Rattle.wit_pushed_trees.specs.Meant.{PackageTexts, IsOfTexts}
+use Rattle.wit_pushed_trees.specs.Owned.{AreOwnersOf, AreOwned, AreOwnedWith, HaveMoreOwners}
+use Rattle.wit_pushed_trees.specs.Said.{with_result, world_owner, included_owner, IsIncludeWritten, SaysFunction, says_function, includes_function, SaysInterface, says_interface, includes_interface, IsFunctionSaid, IsInterfaceSaid, IsSideSaid, IsWorldSaid, AreSaid, AreWorldsSaid, EmptyWorldsAreSaid, PushedWorldsAreSaid}
+use Rattle.wit_pushed_trees.specs.Worlds.{IsOwnFunctionMeant, IsInterfaceListed, IsIncludeMeant, IsWorldMeant}
+use Rattle.wit_pushed_trees.proofs.Agreeing.{same_trees}
+use Rattle.wit_pushed_trees.proofs.Finding.{asked_found}
+use Rattle.wit_pushed_trees.proofs.Graphs.{async_moved, worlds_go_at}
+use Rattle.wit_pushed_trees.proofs.Knowing.{included_known, added_known, there_known}
+use Rattle.wit_pushed_trees.proofs.Meant.{parts_more, by_old, agreed}
+use Rattle.wit_pushed_trees.proofs.Parts.{parts_split}
+use Rattle.wit_pushed_trees.proofs.MeantWorlds.{world_still}
+use Rattle.wit_pushed_trees.proofs.Owned.{worlds_added}
+use Rattle.wit_pushed_trees.proofs.Types.{included_grow, added_grow, stand_then, whole_moved}
+use Rattle.wit_pushed_trees.proofs.Wholes.{others, included_whole, added_whole}
+
+-- ---- more texts
+
+module _ (all more : List PackageTexts) (given : Owner → Name → Tree) (side : Side) where
+  among_more : (one : PackageTexts) → Has all one → Has (all ++ more) one
+  among_more one (k, at) = (k, get_kept all more k one at)
+
+  written_more : (one : PackageTexts) (w : WorldScope) (i : IncludedTree) (names : List IncludeName) → IsIncludeWritten all one w i names → IsIncludeWritten (all ++ more) one w i names
+  written_more one w i names is = record { among = among_more one is.among; text = is.text; there = is.there; names_are = is.names_are }
+
+  function_more : (w : Owner) (x : Name) (b : Bool) (xs : List Name) (ps : Trees) (r : TreeOption) → SaysFunction all given side w x b xs ps r → SaysFunction (all ++ more) given side w x b xs ps r
+  function_more _ _ _ _ _ _ (says_function one w x m ps r among text on gives means) = says_function one w x m ps r (among_more one among) text on gives means
+  function_more _ _ _ _ _ _ (includes_function one w i names x y b xs ps qs r q is says renamed trees part) =
+      includes_function one w i names x y b xs ps qs r q (written_more one w i names is) (function_more (included_owner one i) x b xs ps r says) renamed trees part
+
+  interface_more : (w whose : Owner) → SaysInterface all side w whose → SaysInterface (all ++ more) side w whose
+  interface_more _ _ (says_interface one w l whose among text there on is) = says_interface one w l whose (among_more one among) text there on is
+  interface_more _ _ (includes_interface one w i names whose is says) = includes_interface one w i names whose (written_more one w i names is) (interface_more (included_owner one i) whose says)
+
+-- ---- more types and owners
+
+module _ (given : Owner → Name → Tree) (owners : Owners) (a more : List TypeDef) where
+  parts_behind : (ps : List (Option Ref)) (ts : Trees) → part_trees (trees owners given a) ps ≡ Some ts → part_trees (trees owners given (a ++ more)) ps ≡ Some ts
+  parts_behind = parts_more given owners owners a more refl
+
+  of_trees_behind : (f : Function) (xs : List Name) (ps : Trees) (r : TreeOption) → IsOfTrees owners given a f xs ps r → IsOfTrees owners given (a ++ more) f xs ps r
+  of_trees_behind f xs ps r is = record {
+    names_are = is.names_are;
+    params_are = parts_behind (map (λ (p : Param). Some p.ty) f.params.items) ps is.params_are;
+    result_is = part_kept owners given a more f.result r is.result_is;
+  }
+
+  side_behind : (all : List PackageTexts) (side : Side) (w : Owner) (es : List (WorldKey × WorldItem)) → IsSideSaid all given owners a side w es → IsSideSaid all given owners (a ++ more) side w es
+  side_behind all side w es is = record {
+    functions = λ k f has. (let s = is.functions k f has in record { params = s.params; result = s.result; trees = of_trees_behind f (param_names f) s.params s.result s.trees; says = s.says });
+    interfaces = is.interfaces;
+  }
+
+  said_behind : (all : List PackageTexts) (worlds : List World) → AreSaid all given owners a worlds → AreSaid all given owners (a ++ more) worlds
+  said_behind all worlds said place d w at whose = (let s = said place d w at whose in record { imports = side_behind all Import w d.imports.entries s.imports; exports = side_behind all Export w d.exports.entries s.exports })
+
+-- ---- what a world has itself
+
+owner_is : (one : PackageTexts) (w : Owner) (name : Name) → w.package_text ≡ one.context.me → w.place ≡ in_world name → (t : WorldScope) → name ≡ t.name.text → world_owner one t ≡ w
+owner_is one w name me_is place_is t named =
+    ap (λ (x : PackageText). record { package_text = x; place = in_world t.name.text }) (sym me_is)
+    ∙ ap (λ (x : Name). record { package_text = w.package_text; place = in_world x }) (sym named)
+    ∙ ap (λ (x : Place). record { package_text = w.package_text; place = x }) (sym place_is)
+
+module _ (all : List PackageTexts) (one : PackageTexts) (among : Has all one) (given : Owner → Name → Tree) (owners : Owners) (types : List TypeDef) (m : MovedWorld) (w : Owner)
+    (me_is : w.package_text ≡ one.context.me) (place_is : w.place ≡ in_world (string_bytes m.name))
+    (means : IsWorldMeant given one.context owners types one.worlds m.name m.imports.items m.exports.items m.includes.items)
+  where
+    own_function : (side : Side) (f : Function) → IsOwnFunctionMeant given one.context owners types one.worlds m.name side f → IsFunctionSaid all given owners types side w f
+    own_function side f is =
+        let split = parts_split (trees owners given types) (map (λ (q : Param). Some q.ty) f.params.items) f.result is.is.means.parts is.is.means.unfolds in
+        let says : SaysFunction all given side (world_owner one is.text) (full_name is.is.member.kind is.is.member.name) (is_written_async is.is.member.kind) (written_names is.is.member) split.front split.last =
+        says_function one is.text is.giver is.is.member split.front split.last among is.is_text.there is.on_side is.gives
+        (subst (MeansParts one.context.me one.context.scopes given (in_world is.text.name.text) (written_parts is.is.member)) split.are is.is.means.mean) in
+        record {
+          params = split.front;
+          result = split.last;
+          trees = record { names_are = refl; params_are = split.front_is; result_is = split.last_is };
+          says = subst (λ (v : Owner). SaysFunction all given side v (string_bytes f.name) (is_async f.kind) (param_names f) split.front split.last) (owner_is one w (string_bytes m.name) me_is place_is is.text is.is_text.named)
+              (subst (λ (x : Name). SaysFunction all given side (world_owner one is.text) x (is_async f.kind) (param_names f) split.front split.last) (sym is.is.named)
+              (subst (λ (b : Bool). SaysFunction all given side (world_owner one is.text) (full_name is.is.member.kind is.is.member.name) b (param_names f) split.front split.last) (sym is.is.asynchronous)
+              (subst (λ (xs : List Name). SaysFunction all given side (world_owner one is.text) (full_name is.is.member.kind is.is.member.name) (is_written_async is.is.member.kind) xs split.front split.last) (sym is.is.params_named) says)));
+        }
+
+    own_interface : (side : Side) (i : ℕ) → IsInterfaceListed one.context owners one.worlds m.name side i → IsInterfaceSaid all owners side w i
+    own_interface side i is = record {
+      whose = is.whose;
+      owner = is.owner;
+      says = subst (λ (v : Owner). SaysInterface all side v is.whose) (owner_is one w (string_bytes m.name) me_is place_is is.text is.is_text.named) (says_interface one is.text is.listed is.whose among is.is_text.there is.there is.side_is is.listed_as);
+    }
+
+    own_imports : IsSideSaid all given owners types Import w m.imports.items
+    own_imports = record { functions = λ k f has. own_function Import f (means.imported_functions k f has); interfaces = λ k i gate span has. own_interface Import i (means.imported k i gate span has) }
+
+    own_exports : IsSideSaid all given owners types Export w m.exports.items
+    own_exports = record { functions = λ k f has. own_function Export f (means.exported_functions k f has); interfaces = λ k i gate span has. own_interface Export i (means.exported k i gate span has) }
+
+-- ---- what included worlds bring
+
+-- an item that comes, renamed, of one that was there
+record Came (names : List IncludeName) (c : Copies) (es : List (WorldKey × WorldItem)) (k : WorldKey) (i : WorldItem) : Type 0 where
+  first : WorldKey
+  item_was : WorldItem
+  there : Has es (first, item_was)
+  copied : WorldItem
+  is_copied : IsCopiedItem c item_was copied
+  is_renamed : IsRenamedItem names copied i
+
+renamed_at : (names : List IncludeName) (es fs : List (WorldKey × WorldItem)) → AreRenamed names es fs → (k : WorldKey) (i : WorldItem) → Has fs (k, i) → (l : WorldKey) × (j : WorldItem) × Has es (l, j) × IsRenamedItem names j i
+renamed_at names _ _ renames.no_entries k i has = absurd (has_none (k, i) has)
+renamed_at names _ _ (renames.one_more l m j i0 es fs key renamed rest) k i has = elim (has_cases (m, i0) fs (k, i) has) as (λ _. (n : WorldKey) × (x : WorldItem) × Has ((l, j) ∷ es) (n, x) × IsRenamedItem names x i) [
+  | inl here ↦ (l, j, has_here (l, j) es, subst (IsRenamedItem names j) (sym (ap (λ (e : WorldKey × WorldItem). e.1) here)) renamed)
+  | inr later ↦ (let r = renamed_at names es fs rest k i later in (r.0, r.1, has_later (l, j) es (r.0, r.1) r.2, r.3))
+]
+
+copied_at : (c : Copies) (es fs : List (WorldKey × WorldItem)) → AreCopiedEntries c es fs → (k : WorldKey) (i : WorldItem) → Has fs (k, i) → (l : WorldKey) × (j : WorldItem) × Has es (l, j) × IsCopiedItem c j i
+copied_at c _ _ copies.no_entries k i has = absurd (has_none (k, i) has)
+copied_at c _ _ (copies.one_entry_more l m j i0 es fs key copied rest) k i has = elim (has_cases (m, i0) fs (k, i) has) as (λ _. (n : WorldKey) × (x : WorldItem) × Has ((l, j) ∷ es) (n, x) × IsCopiedItem c x i) [
+  | inl here ↦ (l, j, has_here (l, j) es, subst (IsCopiedItem c j) (sym (ap (λ (e : WorldKey × WorldItem). e.1) here)) copied)
+  | inr later ↦ (let r = copied_at c es fs rest k i later in (r.0, r.1, has_later (l, j) es (r.0, r.1) r.2, r.3))
+]
+
+came : (names : List IncludeName) (c : Copies) (es fs : List (WorldKey × WorldItem)) → AreIncludedEntries names c es fs → (k : WorldKey) (i : WorldItem) → Has fs (k, i) → Came names c es k i
+came names c es fs (between, copied, renamed) k i has =
+    let r = renamed_at names between fs renamed k i has in
+    let o = copied_at c es between copied r.0 r.1 r.2 in
+    record { first = o.0; item_was = o.1; there = o.2; copied = r.1; is_copied = o.3; is_renamed = r.3 }
+
+-- a function comes of a function
+record CameFunction (names : List IncludeName) (c : Copies) (es : List (WorldKey × WorldItem)) (h : Function) : Type 0 where
+  key : WorldKey
+  f : Function
+  there : Has es (key, item.Function f)
+  g : Function
+  is_same : IsSameFunction f g
+  between : Function
+  is_moved : IsMovedFunction (goes c) g between
+  to : String Global
+  is : h ≡ record between { name = to }
+  renamed : IsRenamed names (string_bytes between.name) (string_bytes to)
+
+function_eq : (f g : Function) → item.Function f ≡ item.Function g → f ≡ g
+function_eq f g e = cc
+
+moved_from : (c : Copies) (v : WorldItem) (g : Function) → IsMovedItem (goes c) (λ (i : ℕ). i) v (item.Function g) → (f : Function) × (v ≡ item.Function f) × IsMovedFunction (goes c) f g
+moved_from c _ _ (moved_function f g is) = (f, refl, is)
+
+same_from : (v : WorldItem) (g : Function) → IsSameItem v (item.Function g) → (f : Function) × (v ≡ item.Function f) × IsSameFunction f g
+same_from _ _ (same_function f g is) = (f, refl, is)
+
+came_function : (names : List IncludeName) (c : Copies) (es : List (WorldKey × WorldItem)) (k : WorldKey) (h : Function) → Came names c es k (item.Function h) → CameFunction names c es h
+came_function names c es k h r = by r.copied refl r.is_renamed
+  where
+    by : (x : WorldItem) → r.copied ≡ x → IsRenamedItem names x (item.Function h) → CameFunction names c es h
+    by (item.Function b) is renamed =
+        let moved = moved_from c r.is_copied.0 b (subst (λ (x : WorldItem). IsMovedItem (goes c) (λ (i : ℕ). i) r.is_copied.0 x) is r.is_copied.2) in
+        let same = same_from r.item_was moved.0 (subst (IsSameItem r.item_was) moved.1 r.is_copied.1) in
+        record {
+          key = r.first;
+          f = same.0;
+          there = subst (λ (x : WorldItem). Has es (r.first, x)) same.1 r.there;
+          g = moved.0;
+          is_same = same.2;
+          between = b;
+          is_moved = moved.2;
+          to = renamed.0;
+          is = function_eq h (record b { name = renamed.0 }) renamed.1;
+          renamed = renamed.2;
+        }
+    by (item.Interface i gate span) is renamed = absurd cc
+    by (item.TypeItem i span) is renamed = absurd cc
+
+-- and an interface of the same
+interface_eq : (i j : ℕ) (g d : Stability) (s t : Span) → item.Interface i g s ≡ item.Interface j d t → i ≡ j
+interface_eq i j g d s t e = cc
+
+moved_interface_from : (c : Copies) (v : WorldItem) (i : ℕ) (g : Stability) (s : Span) → IsMovedItem (goes c) (λ (i : ℕ). i) v (item.Interface i g s) → v ≡ item.Interface i g s
+moved_interface_from c _ _ _ _ (moved_interface i g s) = refl
+
+same_interface_from : (v : WorldItem) (i : ℕ) (g : Stability) (s : Span) → IsSameItem v (item.Interface i g s) → (d : Stability) × (v ≡ item.Interface i d s)
+same_interface_from _ _ _ _ (same_interface i d g s same) = (d, refl)
+
+came_interface : (names : List IncludeName) (c : Copies) (es : List (WorldKey × WorldItem)) (k : WorldKey) (i : ℕ) (gate : Stability) (span : Span) → Came names c es k (item.Interface i gate span) → (l : WorldKey) × (d : Stability) × (s : Span) × Has es (l, item.Interface i d s)
+came_interface names c es k i gate span r = by r.copied refl r.is_renamed
+  where
+    by : (x : WorldItem) → r.copied ≡ x → IsRenamedItem names x (item.Interface i gate span) → (l : WorldKey) × (d : Stability) × (s : Span) × Has es (l, item.Interface i d s)
+    by (item.Function b) is renamed = absurd (let bad : item.Interface i gate span ≡ item.Function (record b { name = renamed.0 }) = renamed.1 in cc)
+    by (item.Interface j g s) is renamed =
+        let same_id : i ≡ j = interface_eq i j gate g span s renamed in
+        let moved = moved_interface_from c r.is_copied.0 j g s (subst (λ (x : WorldItem). IsMovedItem (goes c) (λ (i : ℕ). i) r.is_copied.0 x) is r.is_copied.2) in
+        let same = same_interface_from r.item_was j g s (subst (IsSameItem r.item_was) moved r.is_copied.1) in
+        (r.first, same.0, s, subst (λ (n : ℕ). Has es (r.first, item.Interface n same.0 s)) (sym same_id) (subst (λ (x : WorldItem). Has es (r.first, x)) same.1 r.there))
+    by (item.TypeItem j s) is renamed = absurd (let bad : item.Interface i gate span ≡ item.TypeItem j s = renamed in cc)
+
+-- ---- an include
+
+side_has : (es : List (WorldKey × WorldItem)) (k : WorldKey) (x : WorldItem) (i : ℕ) → Has es (k, x) → order.Has (item_ids x) i → order.Has (side_ids es) i
+side_has [] k x i has of = absurd (has_none (k, x) has)
+side_has (e ∷ es) k x i has of = elim (has_cases e es (k, x) has) as (λ _. order.Has (side_ids (e ∷ es)) i) [
+  | inl here ↦ has_was (item_ids e.1) (side_ids es) i (subst (λ (y : WorldItem). order.Has (item_ids y) i) (ap (λ (z : WorldKey × WorldItem). z.1) here) of)
+  | inr later ↦ has_append (item_ids e.1) (side_ids es) i (side_has es k x i later of)
+]
+
+module _ (law : IncludedFunctionsStandForTheSame) (all : List PackageTexts) (one : PackageTexts) (among : Has all one) (given : Owner → Name → Tree) (owners : Owners) (m : MovedWorld) (w : Owner)
+    (me_is : w.package_text ≡ one.context.me) (place_is : w.place ≡ in_world (string_bytes m.name))
+    (n : WorldInclude) (is : IsIncludeMeant one.context owners one.worlds m.name n) (into : ℕ) (d : World) (a : List TypeDef) (own : List ℕ) (new : List TypeDef)
+    (behind : AreIncludedBehind n.names.items owners given n.id into (included_owner one is.written) (world_owner one is.text) d a own new)
+  where
+    written : IsIncludeWritten all one is.text is.written n.names.items
+    written = record { among = among; text = is.is_text.there; there = is.there; names_are = is.names }
+
+    module _ (side : Side) (es fs : List (WorldKey × WorldItem)) (of_world : (i : ℕ) → order.Has (side_ids es) i → IsOfItem d i) (entries : AreIncludedEntries n.names.items (copies_behind a own) es fs)
+        (said : IsSideSaid all given owners a side (included_owner one is.written) es)
+      where
+        brought_function : (k : WorldKey) (h : Function) → Has fs (k, item.Function h) → IsFunctionSaid all given owners (a ++ new) side (world_owner one is.text) h
+        brought_function k h has =
+            let c = came_function n.names.items (copies_behind a own) es k h (came n.names.items (copies_behind a own) es fs entries k (item.Function h) has) in
+            let was = said.functions c.key c.f c.there in
+            let within : (i : ℕ) → order.Has (signature_ids c.f) i → IsLocalAt n.id a i → order.Has own i =
+            λ i here local. behind.are_own.all i i (of_world i (side_has es c.key (item.Function c.f) i c.there (has_append (resource_ids c.f.kind) (signature_ids c.f) i here)), local) ([], refl) in
+            let r = law n.names.items owners given n.id into (included_owner one is.written) (world_owner one is.text) d a own new c.f c.g c.between (param_names c.f) was.params was.result behind within c.is_same c.is_moved was.trees in
+            let kind_is : is_async c.between.kind ≡ is_async c.f.kind = ap is_async c.is_moved.kind ∙ async_moved (goes (copies_behind a own)) c.g.kind ∙ ap is_async c.is_same.kind in
+            let name_is : string_bytes c.between.name ≡ string_bytes c.f.name = ap (λ (x : String Global). string_bytes x) c.is_moved.name ∙ c.is_same.name in
+            let says : SaysFunction all given side (world_owner one is.text) (string_bytes c.to) (is_async c.f.kind) (param_names c.f) r.0 r.1 =
+            includes_function one is.text is.written n.names.items (string_bytes c.f.name) (string_bytes c.to) (is_async c.f.kind) (param_names c.f) was.params r.0 was.result r.1 written was.says
+            (subst (λ (x : Name). IsRenamed n.names.items x (string_bytes c.to)) name_is c.renamed) r.2 r.3 in
+            let there : IsFunctionSaid all given owners (a ++ new) side (world_owner one is.text) (record c.between { name = c.to }) = record {
+              params = r.0;
+              result = r.1;
+              trees = record { names_are = refl; params_are = r.4.params_are; result_is = r.4.result_is };
+              says = subst (λ (b : Bool). SaysFunction all given side (world_owner one is.text) (string_bytes c.to) b (param_names c.between) r.0 r.1) (sym kind_is)
+                  (subst (λ (xs : List Name). SaysFunction all given side (world_owner one is.text) (string_bytes c.to) (is_async c.f.kind) xs r.0 r.1) (sym r.4.names_are) says);
+            } in
+            subst (IsFunctionSaid all given owners (a ++ new) side (world_owner one is.text)) (sym c.is) there
+
+        brought_interface : (k : WorldKey) (i : ℕ) (gate : Stability) (span : Span) → Has fs (k, item.Interface i gate span) → IsInterfaceSaid all owners side (world_owner one is.text) i
+        brought_interface k i gate span has =
+            let c = came_interface n.names.items (copies_behind a own) es k i gate span (came n.names.items (copies_behind a own) es fs entries k (item.Interface i gate span) has) in
+            let was = said.interfaces c.0 i c.1 c.2 c.3 in
+            record { whose = was.whose; owner = was.owner; says = includes_interface one is.text is.written n.names.items was.whose written was.says }
+
+        brought : IsSideSaid all given owners (a ++ new) side w fs
+        brought = subst (λ (v : Owner). IsSideSaid all given owners (a ++ new) side v fs) (owner_is one w (string_bytes m.name) me_is place_is is.text is.is_text.named)
+            (record { functions = brought_function; interfaces = brought_interface })
+
+-- two rows of entries
+both_said : (all : List PackageTexts) (given : Owner → Name → Tree) (owners : Owners) (types : List TypeDef) (side : Side) (w : Owner) (es fs : List (WorldKey × WorldItem)) → IsSideSaid all given owners types side w es → IsSideSaid all given owners types side w fs
+    → IsSideSaid all given owners types side w (es ++ fs)
+both_said all given owners types side w es fs first second = record {
+  functions = λ k f has. elim (get_either es fs has.0 (k, item.Function f) has.1) as (λ _. IsFunctionSaid all given owners types side w f) [ inl here ↦ first.functions k f (has.0, here) | inr there ↦ second.functions k f (there.0, there.2) ];
+  interfaces = λ k i gate span has. elim (get_either es fs has.0 (k, item.Interface i gate span) has.1) as (λ _. IsInterfaceSaid all owners side w i) [ inl here ↦ first.interfaces k i gate span (has.0, here) | inr there ↦ second.interfaces k i gate span (there.0, there.2) ];
+}
+
+-- ---- what is joined, and copied
+
+united_was : {K V : Type 0} (eq : K → K → Bool) (es side : List (K × V)) → AreUnited eq es side → (e : K × V) → Has side e → Has es e
+united_was eq _ _ no_entries e has = absurd (has_none e has)
+united_was eq _ _ (first_of_its_key es side x rest new) e has = elim (get_more side x e has.0 has.1) as (λ _. Has (es ++ x ∷ []) e) [
+  | inl was ↦ (let r = united_was eq es side rest e (has.0, was) in (r.0, get_kept es (x ∷ []) r.0 e r.1))
+  | inr last ↦ subst (Has (es ++ x ∷ [])) (sym last.1) (has_right es (x ∷ []) x (has_here x []))
+]
+united_was eq _ _ (key_again es side x rest known) e has = (let r = united_was eq es side rest e has in (r.0, get_kept es (x ∷ []) r.0 e r.1))
+
+zip_was : (es fs : List (WorldKey × WorldItem)) → AreSameEntries es fs → (k : WorldKey) (x : WorldItem) → Has fs (k, x) → (l : WorldKey) × (y : WorldItem) × Has es (l, y) × IsSameItem y x
+zip_was [] [] zip k x has = absurd (has_none (k, x) has)
+zip_was [] (f ∷ fs) zip k x has = absurd zip
+zip_was (e ∷ es) [] zip k x has = absurd zip
+zip_was (e ∷ es) (f ∷ fs) zip k x has = elim (has_cases f fs (k, x) has) as (λ _. (l : WorldKey) × (y : WorldItem) × Has (e ∷ es) (l, y) × IsSameItem y x) [
+  | inl here ↦ (e.0, e.1, has_here e es, subst (IsSameItem e.1) (sym (ap (λ (z : WorldKey × WorldItem). z.1) here)) zip.0.1)
+  | inr later ↦ (let r = zip_was es fs zip.1 k x later in (r.0, r.1, has_later e es (r.0, r.1) r.2, r.3))
+]
+
+zip_map : {X Y : Type 0} (R : X → X → Type 0) (g : X → Y) → ((x y : X) → R x y → g y ≡ g x) → (xs ys : List X) → AllZip R xs ys → map g ys ≡ map g xs
+zip_map R g same [] [] zip = refl
+zip_map R g same [] (y ∷ ys) zip = absurd zip
+zip_map R g same (x ∷ xs) [] zip = absurd zip
+zip_map {X} {Y} R g same (x ∷ xs) (y ∷ ys) zip = ap (λ (z : Y). z ∷ map g ys) (same x y zip.0) ∙ ap (λ (zs : List Y). g x ∷ zs) (zip_map R g same xs ys zip.1)
+
+module _ (all : List PackageTexts) (given : Owner → Name → Tree) (owners : Owners) (types : List TypeDef) (side : Side) (w : Owner) where
+  same_said : (f g : Function) → IsSameFunction f g → IsFunctionSaid all given owners types side w f → IsFunctionSaid all given owners types side w g
+  same_said f g same said =
+      let names : param_names g ≡ param_names f = zip_map IsSameParam (λ (p : Param). string_bytes p.name) (λ x y s. s.name) f.params.items g.params.items same.params in
+      let refs : map (λ (p : Param). Some p.ty) g.params.items ≡ map (λ (p : Param). Some p.ty) f.params.items = zip_map IsSameParam (λ (p : Param). Some p.ty) (λ x y s. ap (λ (r : Ref). Some r) s.ty) f.params.items g.params.items same.params in
+      record {
+        params = said.params;
+        result = said.result;
+        trees = record { names_are = refl; params_are = ap (part_trees (trees owners given types)) refs ∙ said.trees.params_are; result_is = ap (part_tree (trees owners given types)) same.result ∙ said.trees.result_is };
+        says = subst (λ (x : Name). SaysFunction all given side w x (is_async g.kind) (param_names g) said.params said.result) (sym same.name)
+            (subst (λ (b : Bool). SaysFunction all given side w (string_bytes f.name) b (param_names g) said.params said.result) (sym (ap is_async same.kind))
+            (subst (λ (xs : List Name). SaysFunction all given side w (string_bytes f.name) (is_async f.kind) xs said.params said.result) (sym names) said.says));
+      }
+
+  united_said : (es fs : List (WorldKey × WorldItem)) → AreUnited key_eq es fs → IsSideSaid all given owners types side w es → IsSideSaid all given owners types side w fs
+  united_said es fs united said = record {
+    functions = λ k f has. said.functions k f (united_was key_eq es fs united (k, item.Function f) has);
+    interfaces = λ k i gate span has. said.interfaces k i gate span (united_was key_eq es fs united (k, item.Interface i gate span) has);
+  }
+
+  copy_said : (es fs : List (WorldKey × WorldItem)) → AreSameEntries es fs → IsSideSaid all given owners types side w es → IsSideSaid all given owners types side w fs
+  copy_said es fs zip said = record {
+    functions = λ k g has. (
+        let r = zip_was es fs zip k (item.Function g) has in
+        let from = same_from r.1 g r.3 in
+        same_said from.0 g from.2 (said.functions r.0 from.0 (subst (λ (x : WorldItem). Has es (r.0, x)) from.1 r.2)));
+    interfaces = λ k i gate span has. (
+        let r = zip_was es fs zip k (item.Interface i gate span) has in
+        let from = same_interface_from r.1 i gate span r.3 in
+        said.interfaces r.0 i from.0 span (subst (λ (x : WorldItem). Has es (r.0, x)) from.1 r.2));
+  }
+
+-- ---- all that a world includes
+
+module _ (law_types : IncludedTypesStandForTheSame) (law : IncludedFunctionsStandForTheSame) (all : List PackageTexts) (given : Owner → Name → Tree) (owners : Owners) (packages : List Package) (apart : AreWorldsApart owners packages) where
+  -- both sides so far
+  record AreStateSaid (w : Owner) (s : joined.State) : Type 0 where
+    imports : IsSideSaid all given owners s.types Import w s.imports
+    exports : IsSideSaid all given owners s.types Export w s.exports
+
+  module _ (one : PackageTexts) (among : Has all one) (m : MovedWorld) (w : Owner) (me_is : w.package_text ≡ one.context.me) (place_is : w.place ≡ in_world (string_bytes m.name)) (worlds : List World) (id : ℕ) (few : length worlds ≤ id) (whose : slice_get owners.worlds id ≡ Some w) where
+    includes_said : (ns : List WorldInclude) (s t : joined.State) → Includes worlds id ns s t → ((n : WorldInclude) → Has ns n → IsIncludeMeant one.context owners one.worlds m.name n) → AreTypesKnown s.types → IsWhole owners given s.types
+        → AreSaid all given owners s.types worlds → AreStateSaid w s → AreStateSaid w t
+    includes_said _ s _ (includes_none _) meant known whole said own = own
+    includes_said _ s u (includes_one ns n _ t _ before at) meant known whole said own =
+        let so_far = includes_said ns s t before (λ n has. meant n (has.0, get_kept ns _ has.0 n has.1)) known whole said own in
+        let t_known = included_known worlds id ns s t before known in
+        let there : id < length owners.worlds = slice_get_within owners.worlds id w whose in
+        let t_whole = included_whole law_types owners packages apart given worlds id few there ns s t before known whole in
+        let grown = included_grow worlds id ns s t before in
+        let t_said : AreSaid all given owners t.types worlds = subst (λ (ts : List TypeDef). AreSaid all given owners ts worlds) (sym grown.1) (said_behind given owners s.types grown.0 all worlds said) in
+        let is : IsIncludeMeant one.context owners one.worlds m.name n = meant n (has_right ns (n ∷ []) n (has_here n [])) in
+        let from = t_said n.id at.0 (included_owner one is.written) at.2 is.owner in
+        let into : slice_get owners.worlds id ≡ Some (world_owner one is.text) = whose ∙ ap (λ (v : Owner). Some v) (sym (owner_is one w (string_bytes m.name) me_is place_is is.text is.is_text.named)) in
+        let behind : AreIncludedBehind n.names.items owners given n.id id (included_owner one is.written) (world_owner one is.text) at.0 t.types at.3.own at.1.types.items = record {
+          whole = t_whole;
+          known = t_known;
+          from_is = is.owner;
+          into_is = into;
+          apart = others law_types owners packages apart given n.id (included_owner one is.written) is.owner;
+          are_own = at.3.are_own;
+          included = at.3.brings.types_are;
+        } in
+        let imports = brought law all one among given owners m w me_is place_is n is id at.0 t.types at.3.own at.1.types.items behind Import at.0.imports.entries at.1.imports.items (λ i h. inl h) at.3.brings.imports_are from.imports in
+        let exports = brought law all one among given owners m w me_is place_is n is id at.0 t.types at.3.own at.1.types.items behind Export at.0.exports.entries at.1.exports.items (λ i h. inr h) at.3.brings.exports_are from.exports in
+        subst (AreStateSaid w) (sym at.4) (record {
+          imports = both_said all given owners (t.types ++ at.1.types.items) Import w t.imports at.1.imports.items (side_behind given owners t.types at.1.types.items all Import w t.imports so_far.imports) imports;
+          exports = both_said all given owners (t.types ++ at.1.types.items) Export w t.exports at.1.exports.items (side_behind given owners t.types at.1.types.items all Export w t.exports so_far.exports) exports;
+        })
+
+-- ---- worlds that come
+
+same_owners : (owners : Owners) → HaveMoreOwners owners owners
+same_owners owners = record { interfaces = []; interfaces_are = sym (append-nil owners.interfaces); worlds = []; worlds_are = sym (append-nil owners.worlds) }
+
+-- so it is of worlds that came to a graph of texts
+record AreOfTexts (given : Owner → Name → Tree) (owners : Owners) (one : PackageTexts) (types : List TypeDef) (first : ℕ) (ms : List MovedWorld) : Type 0 where
+  whose : (k : ℕ) (m : MovedWorld) → slice_get ms k ≡ Some m → slice_get owners.worlds (first + k) ≡ Some (record { package_text = one.context.me; place = in_world (string_bytes m.name) })
+  means : (k : ℕ) (m : MovedWorld) → slice_get ms k ≡ Some m → IsWorldMeant given one.context owners types one.worlds m.name m.imports.items m.exports.items m.includes.items
+
+module _ (law_types : IncludedTypesStandForTheSame) (law : IncludedFunctionsStandForTheSame) (all : List PackageTexts) (given : Owner → Name → Tree) (owners : Owners) (packages : List Package) (apart : AreWorldsApart owners packages) (one : PackageTexts) (among : Has all one) where
+  added_said : (interfaces : List Interface) (uses : Rows) (owner : ℕ) (ms : List MovedWorld) (s t : State) → AreAdded interfaces uses owner ms s t → AreOfTexts given owners one s.types (length s.worlds.listed) ms
+      → length t.worlds.listed ≤ length owners.worlds → AreTypesKnown s.types → IsWhole owners given s.types → AreSaid all given owners s.types s.worlds.listed → AreSaid all given owners t.types t.worlds.listed
+  added_said interfaces uses owner _ s _ (none_added _) of_texts few known whole said = said
+  added_said interfaces uses owner _ s u (one_added ms m _ t _ before a) of_texts few known whole said =
+      let one_more : length u.worlds.listed ≡ length t.worlds.listed + 1 = ap length a.listed_are ∙ length-append t.worlds.listed (a.listed ∷ []) in
+      let so_many : length t.worlds.listed ≡ length s.worlds.listed + length ms = worlds_added interfaces uses owner ms s t before in
+      let fewer : length t.worlds.listed ≤ length owners.worlds = omega (arith, few, one_more) in
+      let first_ones : AreOfTexts given owners one s.types (length s.worlds.listed) ms = record {
+        whose = λ k n at. of_texts.whose k n (get_kept ms (m ∷ []) k n at);
+        means = λ k n at. of_texts.means k n (get_kept ms (m ∷ []) k n at);
+      } in
+      let so_far = added_said interfaces uses owner ms s t before first_ones fewer known whole said in
+      let t_known = added_known interfaces uses owner ms s t before known in
+      let t_whole = added_whole law_types owners packages apart given interfaces uses owner ms s t before fewer known whole in
+      let to_t = added_grow interfaces uses owner ms s t before in
+      let w : Owner = record { package_text = one.context.me; place = in_world (string_bytes m.name) } in
+      let whose : slice_get owners.worlds (length t.worlds.listed) ≡ Some w = ap (slice_get owners.worlds) so_many ∙ of_texts.whose (length ms) m (get_last ms m) in
+      let means : IsWorldMeant given one.context owners t.types one.worlds m.name m.imports.items m.exports.items m.includes.items =
+      subst (λ (ts : List TypeDef). IsWorldMeant given one.context owners ts one.worlds m.name m.imports.items m.exports.items m.includes.items) (sym to_t.1)
+      (world_still given owners owners (same_owners owners) s.types to_t.0 refl one.context one.worlds m.name m.imports.items m.exports.items m.includes.items (of_texts.means (length ms) m (get_last ms m))) in
+      let sides = a.is_joined.sides in
+      let own : AreStateSaid law_types law all given owners packages apart w (own_state t.types m) = record { imports = own_imports all one among given owners t.types m w refl refl means; exports = own_exports all one among given owners t.types m w refl refl means } in
+      let state = includes_said law_types law all given owners packages apart one among m w refl refl t.worlds.listed (length t.worlds.listed) (omega arith) whose m.includes.items (own_state t.types m) sides.joined sides.includes means.included t_known t_whole so_far own in
+      let to_u = included_grow t.worlds.listed (length t.worlds.listed) m.includes.items (own_state t.types m) sides.joined sides.includes in
+      let types_are : u.types ≡ t.types ++ to_u.0 = sides.types_are ∙ to_u.1 in
+      let new : IsWorldSaid all given owners u.types w a.listed = subst (λ (ts : List TypeDef). IsWorldSaid all given owners ts w a.listed) (sym sides.types_are) (record {
+        imports = copy_said all given owners sides.joined.types Import w a.joined.imports.entries a.listed.imports.entries a.is_listed.imports (united_said all given owners sides.joined.types Import w sides.joined.imports a.joined.imports.entries sides.imports_are.entries state.imports);
+        exports = copy_said all given owners sides.joined.types Export w a.joined.exports.entries a.listed.exports.entries a.is_listed.exports (united_said all given owners sides.joined.types Export w sides.joined.exports a.joined.exports.entries sides.exports_are.entries state.exports);
+      }) in
+      let kept : AreSaid all given owners u.types t.worlds.listed = subst (λ (ts : List TypeDef). AreSaid all given owners ts t.worlds.listed) (sym types_are) (said_behind given owners t.types to_u.0 all t.worlds.listed so_far) in
+      λ place d v at v_is. elim (get_more t.worlds.listed a.listed d place (subst (λ (ws : List World). slice_get ws place ≡ Some d) a.listed_are at)) as (λ _. IsWorldSaid all given owners u.types v d) [
+        | inl was ↦ kept place d v was v_is
+        | inr last ↦ subst (λ (x : World). IsWorldSaid all given owners u.types v x) (sym last.1) (subst (λ (o : Owner). IsWorldSaid all given owners u.types o a.listed) (same_Some w v (sym whose ∙ ap (slice_get owners.worlds) (sym last.0) ∙ v_is)) new)
+      ]
+
+-- ---- graphs
+
+pub empty_worlds_said : EmptyWorldsAreSaid
+empty_worlds_said given by k d w at whose = absurd cc
+
+module _ (given : Owner → Name → Tree) (old new : Owners) (more_owners : HaveMoreOwners old new) (a more : List TypeDef) (same : trees old given a ≡ trees new given a) (all added : List PackageTexts) where
+  function_still_said : (side : Side) (w : Owner) (f : Function) → IsFunctionSaid all given old a side w f → IsFunctionSaid (all ++ added) given new (a ++ more) side w f
+  function_still_said side w f s = record {
+    params = s.params;
+    result = s.result;
+    trees = record {
+      names_are = refl;
+      params_are = parts_more given new new a more refl (map (λ (p : Param). Some p.ty) f.params.items) s.params (subst (λ (ts : List (Option Tree)). part_trees ts (map (λ (p : Param). Some p.ty) f.params.items) ≡ Some s.params) same s.trees.params_are);
+      result_is = part_kept new given a more f.result s.result (subst (λ (ts : List (Option Tree)). part_tree ts f.result ≡ Some s.result) same s.trees.result_is);
+    };
+    says = function_more all added given side w (string_bytes f.name) (is_async f.kind) (param_names f) s.params s.result s.says;
+  }
+
+  side_still_said : (side : Side) (w : Owner) (es : List (WorldKey × WorldItem)) → IsSideSaid all given old a side w es → IsSideSaid (all ++ added) given new (a ++ more) side w es
+  side_still_said side w es said = record {
+    functions = λ k f has. function_still_said side w f (said.functions k f has);
+    interfaces = λ k i gate span has. (
+        let s = said.interfaces k i gate span has in
+        record { whose = s.whose; owner = ap (λ (os : List Owner). slice_get os i) more_owners.interfaces_are ∙ get_kept old.interfaces more_owners.interfaces i s.whose s.owner; says = interface_more all added given side w s.whose s.says });
+  }
+
+module _ (moved : MovedTypesStandForTheSame) (functions_stand : MovedFunctionsStandForTheSame) (law_types : IncludedTypesStandForTheSame) (law : IncludedFunctionsStandForTheSame)
+    (texts : PackageTexts) (owners : Owners) (eq : PackageName → PackageName → Bool) (features : FeatureSet) (old : Graph) (p : UnresolvedPackage) (new : Graph) (id : ℕ) (tells : TellsNamesApart eq) (stand : NamesOfGraphStand old)
+    (owned : AreOwned owners old.tables) (whole : AreWhole old.tables) (known : AreTypesKnown old.tables.types) (have : HasTrees owners old.tables) (are : AreOwnersOf texts.context.owners p) (own_known : AreOwnTypesKnown p) (of_texts : IsOfTexts texts p)
+    (h : IsPushed eq features old p new id) (o : AreOwnedWith texts.context.owners owners eq features old p new id h) (given : Owner → Name → Tree) (by : IsGivenBy given o.all new.tables)
+    (all : List PackageTexts) (said : AreWorldsSaid all owners old.tables)
+  where
+    before : IsGivenBy given owners old.tables
+    before = by_old texts owners eq features old p new id tells stand owned whole have are of_texts h o given by
+
+    agreed_here : AreAgreed given texts.context.owners o.all old.tables h.foreign h.owners p
+    agreed_here = agreed texts owners eq features old p new id tells stand owned whole have are of_texts h o given by
+
+    abbrev there : List TypeDef
+    there = old.tables.types ++ h.put.added.parts.own_types.defs
+
+    stand_here : StandForTheSame given h.places texts.context.owners p.types o.all there
+    stand_here = stand_then moved given texts.context.owners o.all eq features old p new id h (of_texts.meant.whole given) agreed_here
+
+    -- worlds that were there
+    old_said : AreSaid (all ++ texts ∷ []) given o.all there old.tables.worlds.listed
+    old_said place d w at whose =
+        let within : place < length owners.worlds = (let l : place < length old.tables.worlds.listed = slice_get_within old.tables.worlds.listed place d at in let e = owned.so_many_worlds in omega (arith, l, e)) in
+        let v = got owners.worlds place within in
+        let now : slice_get o.all.worlds place ≡ Some v.0 = ap (λ (os : List Owner). slice_get os place) o.more.worlds_are ∙ get_kept owners.worlds o.more.worlds place v.0 v.1 in
+        let was = said given before place d w at (v.1 ∙ sym now ∙ whose) in
+        let same = same_trees owners o.all o.more given old.tables.types (have given) in
+        record {
+          imports = side_still_said given owners o.all o.more old.tables.types h.put.added.parts.own_types.defs same all (texts ∷ []) Import w d.imports.entries was.imports;
+          exports = side_still_said given owners o.all o.more old.tables.types h.put.added.parts.own_types.defs same all (texts ∷ []) Export w d.exports.entries was.exports;
+        }
+
+    found : AreFoundByName old.tables.packages texts.context.owners h.foreign.interfaces h.foreign.worlds
+    found = asked_found eq features old.names old.tables.packages texts.context.owners p h.foreign.interfaces h.foreign.worlds tells stand are.asks h.are_places.found
+
+    asked_worlds : length h.foreign.worlds ≡ (asked p).worlds
+    asked_worlds = h.are_places.found.worlds_are.all
+
+    -- whose one is that came
+    new_whose : (k : ℕ) (m : MovedWorld) → slice_get h.put.added.parts.own_worlds.moved k ≡ Some m → slice_get o.all.worlds (length old.tables.worlds.listed + k) ≡ Some (record { package_text = texts.context.me; place = in_world (string_bytes m.name) })
+    new_whose k m at =
+        let a = h.put.added.parts.own_worlds in
+        let from = worlds_take_places_alone features (standing h.owners h.places) h.foreign.worlds (length old.tables.worlds.listed) (own_parts p).worlds a.moved
+        (λ i j is. (let f = found.worlds_are i j is in let w = owned.worlds_are f.0 j f.2 in let l : j < length owners.worlds = slice_get_within owners.worlds j f.0 w in let e = owned.so_many_worlds in omega (arith, l, e))) a.are_moved k m at in
+        let i : ℕ = length h.foreign.worlds + from.place in
+        let stands : place_of h.owners.worlds i ≡ Some (length old.tables.worlds.listed + k) = subst (λ (os : OwnerPlaces). place_of os.worlds i ≡ Some (length old.tables.worlds.listed + k)) (sym h.are_places.planned.owners_are) from.stands in
+        let goes_there : to h.owners.worlds i ≡ length old.tables.worlds.listed + k = ap (λ (q : Option ℕ). unwrap_or q i) stands in
+        let whose : slice_get o.all.worlds (to h.owners.worlds i) ≡ slice_get texts.context.owners.worlds i = o.owners_are (belongs.World i) (ap (λ (q : Option ℕ). is_some q) stands) in
+        let own = are.worlds_are from.place from.old from.was in
+        ap (slice_get o.all.worlds) (sym goes_there) ∙ whose ∙ ap (λ (n : ℕ). slice_get texts.context.owners.worlds (n + from.place)) asked_worlds ∙ own
+        ∙ ap (λ (t : PackageText). Some (record { package_text = t; place = in_world (string_bytes from.old.name) })) of_texts.named
+        ∙ ap (λ (x : String Global). Some (record { package_text = texts.context.me; place = in_world (string_bytes x) })) (sym from.moved.name)
+
+    came_of_texts : AreOfTexts given o.all texts there (length old.tables.worlds.listed) h.put.added.parts.own_worlds.moved
+    came_of_texts = record {
+      whose = new_whose;
+      means = λ k m at. worlds_go_at functions_stand given texts.context texts.interfaces texts.worlds o.all eq features old p new id of_texts.meant h agreed_here there stand_here k m at;
+    }
+
+    there_whole : IsWhole o.all given there
+    there_whole =
+        whole_moved moved given texts.context.owners o.all eq features old p new id h (of_texts.meant.whole given) agreed_here
+
+    all_said : AreSaid (all ++ texts ∷ []) given o.all new.tables.types new.tables.worlds.listed
+    all_said =
+        let a = h.put.added.parts in
+        let few : length new.tables.worlds.listed ≤ length o.all.worlds = (let e = o.owned.so_many_worlds in omega (arith, e)) in
+        added_said law_types law (all ++ texts ∷ []) given o.all new.tables.packages o.owned.apart texts (has_right all (texts ∷ []) texts (has_here texts [])) _ _ _ _ _ _ a.own_worlds.added
+        (subst (λ (ts : List TypeDef). AreOfTexts given o.all texts ts (length old.tables.worlds.listed) a.own_worlds.moved) (sym a.own_types.types_are) came_of_texts) few
+        (subst AreTypesKnown (sym a.own_types.types_are) (there_known eq features old p new id h known own_known)) (subst (IsWhole o.all given) (sym a.own_types.types_are) there_whole)
+        (subst (λ (ts : List TypeDef). AreSaid (all ++ texts ∷ []) given o.all ts old.tables.worlds.listed) (sym a.own_types.types_are) old_said)
+
+pub pushed_worlds_said : MovedTypesStandForTheSame → MovedFunctionsStandForTheSame → IncludedTypesStandForTheSame → IncludedFunctionsStandForTheSame → PushedWorldsAreSaid
+pushed_worlds_said moved functions_stand law_types law all texts owners eq features old p new id tells stand owned whole known have are own_known of_texts h o said given by =
+    all_said moved functions_stand law_types law texts owners eq features old p new id tells stand owned whole known have are own_known of_texts h o given by all said

@@ -1,0 +1,118 @@
+-- What worlds import and export by texts: what they have themselves, and what the worlds bring that they include, under names that change (WIT, Item: `world`,
+-- `include`).
+use Rattle.std.specs.Prelude.{◌≡◌, ℕ, Bool, List, [], ◌∷◌, ◌++◌, Some, map, slice_get, string_bytes}
+use Rattle.wit_words.specs.declared.source_map.Span.{Span}
+use Rattle.wit_types.specs.declared.function.Function.{Function}
+use Rattle.wit_types.specs.declared.interface.TypeDef.{TypeDef}
+use Rattle.wit_types.specs.declared.stability.Stability.{Stability}
+use Rattle.wit_types.specs.declared.world.IncludeName.{IncludeName}
+use Rattle.wit_types.specs.declared.world.World.{World}
+use Rattle.wit_types.specs.declared.world.WorldItem.{WorldItem}
+use Rattle.wit_types.specs.declared.world.WorldItem.TheVariants as item
+use Rattle.wit_types.specs.declared.world_key.WorldKey.{WorldKey}
+use Rattle.wit_types.specs.declared.«package».PackageName.{PackageName}
+use Rattle.wit_types.specs.declared.«package».UnresolvedPackage.{UnresolvedPackage}
+use Rattle.wit_features.specs.Features.{FeatureSet}
+use Rattle.wit_rules.specs.Labels.{full_name}
+use Rattle.wit_scopes.specs.declared.worlds.Side.{Side}
+use Rattle.wit_scopes.specs.declared.worlds.Side.TheVariants.{Import, Export}
+use Rattle.wit_scopes.specs.Members.{MemberTree}
+use Rattle.wit_scopes.specs.Scopes as scope
+use Rattle.wit_scopes.specs.Scopes.{WorldScope, WorldMemberTree, ListedTree, IncludedTree}
+use Rattle.wit_sides.specs.Renames.{IsRenamed}
+use Rattle.wit_arena.specs.Tree.{Name, in_world, Owner, Tree, TreeOption, Trees, no_trees, trees_and}
+use Rattle.wit_arena.specs.Unfold.{Owners}
+use Rattle.wit_arena.specs.Meaning.{Has, MeansParts}
+use Rattle.wit_resolved_scopes.specs.InArena.{own_owner}
+use Rattle.wit_resolved_scopes.specs.Meaning.{written_parts}
+use Rattle.wit_resolved_scopes.specs.Texts.{side_members, includes_of}
+use Rattle.wit_worlds.specs.Worlds.{target_owner, include_name, written_name}
+use Rattle.wit_copied_trees.specs.Law.{IsOfTrees}
+use Rattle.wit_copied_trees.specs.Renamed.{IsRenamedPart, AreRenamedTrees}
+use Rattle.wit_graph.specs.Graph.{Graph, AreWhole, nothing}
+use Rattle.wit_graph.specs.Push.{IsPushed}
+use Rattle.wit_graph.specs.declared.tables.Tables.{Tables}
+use Rattle.wit_pushed_trees.specs.Found.{TellsNamesApart, NamesOfGraphStand, IsGivenBy}
+use Rattle.wit_pushed_trees.specs.Known.{AreTypesKnown, AreOwnTypesKnown}
+use Rattle.wit_pushed_trees.specs.Meaning.{is_async, is_written_async, param_names, written_names}
+use Rattle.wit_pushed_trees.specs.Meant.{PackageTexts, IsOfTexts}
+use Rattle.wit_pushed_trees.specs.Owned.{AreOwnersOf, AreOwned, AreOwnedWith}
+use Rattle.wit_pushed_trees.specs.Whole.{HasTrees}
+use Rattle.wit_pushed_trees.specs.Worlds.{IsGiven, extern_owner}
+
+-- what a function gives, behind what it takes
+abbrev pub with_result : Trees → TreeOption → Trees
+with_result no_trees t = trees_and t no_trees
+with_result (trees_and u us) t = trees_and u (with_result us t)
+
+-- a world of texts, and one that it includes with names that change
+abbrev pub world_owner : PackageTexts → WorldScope → Owner
+world_owner one w = own_owner one.context (in_world w.name.text)
+
+abbrev pub included_owner : PackageTexts → IncludedTree → Owner
+included_owner one i = target_owner one.context.me in_world i.world
+
+pub record IsIncludeWritten (all : List PackageTexts) (one : PackageTexts) (w : WorldScope) (i : IncludedTree) (names : List IncludeName) : Type 0 where
+  pub among : Has all one
+  pub text : Has one.worlds w
+  pub there : Has (includes_of w.members) i
+  pub names_are : map include_name names ≡ map written_name i.names
+
+-- the world has a function of that name on that side, which takes these under these names and gives that
+pub data SaysFunction (all : List PackageTexts) (given : Owner → Name → Tree) (side : Side) : Owner → Name → Bool → List Name → Trees → TreeOption → Type 0 where
+  says_function : (one : PackageTexts) (w : WorldScope) (x : WorldMemberTree) (m : MemberTree) (params : Trees) (result : TreeOption)
+      → Has all one → Has one.worlds w → Has (side_members side w.members) x → IsGiven x m
+      → MeansParts one.context.me one.context.scopes given (in_world w.name.text) (written_parts m) (with_result params result)
+      → SaysFunction all given side (world_owner one w) (full_name m.kind m.name) (is_written_async m.kind) (written_names m) params result
+  includes_function : (one : PackageTexts) (w : WorldScope) (i : IncludedTree) (names : List IncludeName) (x y : Name) (asynchronous : Bool) (xs : List Name) (ps qs : Trees) (r q : TreeOption)
+      → IsIncludeWritten all one w i names → SaysFunction all given side (included_owner one i) x asynchronous xs ps r → IsRenamed names x y
+      → AreRenamedTrees names (included_owner one i) (world_owner one w) ps qs → IsRenamedPart names (included_owner one i) (world_owner one w) r q
+      → SaysFunction all given side (world_owner one w) y asynchronous xs qs q
+
+-- the world has an interface on that side
+pub data SaysInterface (all : List PackageTexts) (side : Side) : Owner → Owner → Type 0 where
+  says_interface : (one : PackageTexts) (w : WorldScope) (l : ListedTree) (whose : Owner) → Has all one → Has one.worlds w → Has w.members (scope.listed l) → l.side ≡ side → extern_owner one.context w.name.text l l.kind ≡ Some whose
+      → SaysInterface all side (world_owner one w) whose
+  includes_interface : (one : PackageTexts) (w : WorldScope) (i : IncludedTree) (names : List IncludeName) (whose : Owner) → IsIncludeWritten all one w i names → SaysInterface all side (included_owner one i) whose
+      → SaysInterface all side (world_owner one w) whose
+
+-- ---- in a graph
+
+pub record IsFunctionSaid (all : List PackageTexts) (given : Owner → Name → Tree) (owners : Owners) (types : List TypeDef) (side : Side) (w : Owner) (f : Function) : Type 0 where
+  pub params : Trees
+  pub result : TreeOption
+  pub trees : IsOfTrees owners given types f (param_names f) params result
+  pub says : SaysFunction all given side w (string_bytes f.name) (is_async f.kind) (param_names f) params result
+
+pub record IsInterfaceSaid (all : List PackageTexts) (owners : Owners) (side : Side) (w : Owner) (id : ℕ) : Type 0 where
+  pub whose : Owner
+  pub owner : slice_get owners.interfaces id ≡ Some whose
+  pub says : SaysInterface all side w whose
+
+-- all functions and interfaces of a side are what texts say
+pub record IsSideSaid (all : List PackageTexts) (given : Owner → Name → Tree) (owners : Owners) (types : List TypeDef) (side : Side) (w : Owner) (es : List (WorldKey × WorldItem)) : Type 0 where
+  pub functions : (key : WorldKey) (f : Function) → Has es (key, item.Function f) → IsFunctionSaid all given owners types side w f
+  pub interfaces : (key : WorldKey) (id : ℕ) (gate : Stability) (span : Span) → Has es (key, item.Interface id gate span) → IsInterfaceSaid all owners side w id
+
+pub record IsWorldSaid (all : List PackageTexts) (given : Owner → Name → Tree) (owners : Owners) (types : List TypeDef) (w : Owner) (d : World) : Type 0 where
+  pub imports : IsSideSaid all given owners types Import w d.imports.entries
+  pub exports : IsSideSaid all given owners types Export w d.exports.entries
+
+-- of each of these worlds
+abbrev pub AreSaid : List PackageTexts → (Owner → Name → Tree) → Owners → List TypeDef → List World → Type 0
+AreSaid all given owners types worlds = (place : ℕ) (d : World) (w : Owner) → slice_get worlds place ≡ Some d → slice_get owners.worlds place ≡ Some w → IsWorldSaid all given owners types w d
+
+-- and of all of a graph, where for names of other packages is given what stands in the graph under them
+abbrev pub AreWorldsSaid : List PackageTexts → Owners → Tables → Type 0
+AreWorldsSaid all owners t = (given : Owner → Name → Tree) → IsGivenBy given owners t → AreSaid all given owners t.types t.worlds.listed
+
+abbrev pub EmptyWorldsAreSaid : Type 0
+EmptyWorldsAreSaid = AreWorldsSaid [] (record { interfaces = []; worlds = [] }) nothing
+
+abbrev pub PushedWorldsAreSaid : Type 0
+PushedWorldsAreSaid =
+    (all : List PackageTexts) (texts : PackageTexts) (owners : Owners) (eq : PackageName → PackageName → Bool) (features : FeatureSet) (old : Graph) (p : UnresolvedPackage) (new : Graph) (id : ℕ)
+    → TellsNamesApart eq → NamesOfGraphStand old → AreOwned owners old.tables → AreWhole old.tables → AreTypesKnown old.tables.types → HasTrees owners old.tables
+    → AreOwnersOf texts.context.owners p → AreOwnTypesKnown p → IsOfTexts texts p
+    → (h : IsPushed eq features old p new id) → (o : AreOwnedWith texts.context.owners owners eq features old p new id h)
+    → AreWorldsSaid all owners old.tables → AreWorldsSaid (all ++ texts ∷ []) o.all new.tables
