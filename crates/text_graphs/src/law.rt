@@ -69,7 +69,7 @@ pub fn law_text_names_tell_interfaces_apart()
 /// In such a graph every name means what scope gives it over all texts. Each interface and each world is of the package of one of the texts that were pushed and
 /// means what one of these does: each name stands for what it means there by lexical scope, and each that it takes of another package for what stands in the graph
 /// under that, by the names of the package and of the interface; a world includes the worlds to which its text's paths lead, and has besides its own what these bring
-/// alone: each function and interface that it imports or exports is one that its text says or the text of a world that it includes, and so on, under names that
+/// alone: each function, interface and type that it imports or exports is one that its text says or the text of a world that it includes, and so on, under names that
 /// change. All interfaces and worlds have owners, and each type has a tree (WIT, Packages, Package Names, Items, Use, Types).
 pub fn law_text_graphs_mean_their_texts()
     ensures { TextGraphsMeanTheirTexts }

@@ -272,6 +272,10 @@ module _ (functions_stand : MovedFunctionsStandForTheSame) (given : Owner → Na
       exported_functions = own_function_goes Export old.exports.entries m.exports.items moved.exports exports_kept is.exported_functions;
       imported = interface_listed Import old.imports.entries m.imports.items moved.imports imports_kept is.imported;
       exported = interface_listed Export old.exports.entries m.exports.items moved.exports exports_kept is.exported;
+      no_exported_types = λ k i span has.
+          let was = side_was features s.types s.interfaces old.exports.entries m.exports.items moved.exports k (item.TypeItem i span) has in
+          let from = type_from s.types s.interfaces was.item_was i span was.moved in
+          is.no_exported_types was.first from.0 span (subst (λ (x : WorldItem). Has old.exports.entries (was.first, x)) from.1 was.there);
       included = include_goes includes_kept;
     }
 

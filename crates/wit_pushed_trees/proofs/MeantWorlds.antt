@@ -87,6 +87,7 @@ module _ (given : Owner → Name → Tree) (old new : Owners) (more_owners : Hav
     exported_functions = λ k f has. own_still _ f (is.exported_functions k f has);
     imported = λ k i gate span has. listed_still _ i (is.imported k i gate span has);
     exported = λ k i gate span has. listed_still _ i (is.exported k i gate span has);
+    no_exported_types = is.no_exported_types;
     included = λ n has. include_still n (is.included n has);
   }
 

@@ -1,15 +1,20 @@
 -- Worlds of a graph import and export what texts say.
-use Rattle.std.proofs.Common.{◌≡◌, ◌<◌, ◌≤◌, ℕ, ◌+◌, Bool, true, List, [], ◌∷◌, ◌++◌, length, length-append, map, Option, Some, None, inl, inr, refl, sym, subst, ap, ◌∙◌, arith, append_assoc}
+use Rattle.std.proofs.Common.{◌≡◌, ◌<◌, ◌≤◌, ℕ, ◌+◌, Bool, true, false, List, [], ◌∷◌, ◌++◌, length, length-append, map, Option, Some, None, inl, inr, refl, sym, subst, ap, ◌∙◌, arith, append_assoc}
 use Rattle.std.proofs.lemmas.List.{append-nil}
 use Rattle.std.proofs.lemmas.Option.{same_Some, slice_get_within}
-use Rattle.std.specs.Prelude.{String, is_some, slice_get, string_bytes}
+use Rattle.std.proofs.lemmas.Bool.{cases_Bool}
+use Rattle.std.specs.Prelude.{String, option_map, is_some, slice_get, string_bytes}
 use Rattle.std.specs.Option.{unwrap_or}
 use Rattle.std.specs.List.{AllZip}
 use Rattle.std.specs.declared.alloc.Global.{Global}
 use Rattle.wit_words.specs.declared.source_map.Span.{Span}
 use Rattle.wit_order.specs.Order as order
 use Rattle.wit_order.specs.Places.{Rows}
-use Rattle.wit_types.specs.WorldKey.{key_eq}
+use Rattle.wit_types.specs.WorldKey.{key_eq, known, spelled}
+use Rattle.wit_types.specs.declared.kind.TypeDefKind.{TypeDefKind}
+use Rattle.wit_types.specs.declared.kind.TypeDefKind.TheVariants as kind
+use Rattle.wit_types.specs.declared.kind.«Type».TheVariants as ref
+use Rattle.wit_types.specs.declared.interface.TypeOwner.{TypeOwner}
 use Rattle.wit_types.specs.declared.kind.«Type».{«Type» as Ref}
 use Rattle.wit_types.specs.declared.function.Function.{Function}
 use Rattle.wit_types.specs.declared.function.FunctionKind.{FunctionKind}
@@ -29,15 +34,15 @@ use Rattle.wit_types.specs.declared.«package».PackageName.{PackageName}
 use Rattle.wit_types.specs.declared.«package».UnresolvedPackage.{UnresolvedPackage}
 use Rattle.wit_features.specs.Features.{FeatureSet}
 use Rattle.wit_rules.specs.Labels.{full_name}
-use Rattle.wit_scopes.specs.Scopes.{WorldScope, IncludedTree}
+use Rattle.wit_scopes.specs.Scopes.{ItemScope, WorldScope, IncludedTree}
 use Rattle.wit_scopes.specs.declared.worlds.Side.{Side}
 use Rattle.wit_scopes.specs.declared.worlds.Side.TheVariants.{Import, Export}
 use Rattle.wit_sides.specs.Renames as renames
-use Rattle.wit_sides.specs.Renames.{IsRenamed, AreRenamed, IsRenamedItem}
+use Rattle.wit_sides.specs.Renames.{IsRenamedKey, IsRenamed, AreRenamed, IsRenamedItem}
 use Rattle.wit_sides.specs.Sides.{AreUnited, no_entries, first_of_its_key, key_again}
 use Rattle.wit_copies.specs.Copies as copies
 use Rattle.wit_copies.specs.Copies.{Copies, goes, IsCopiedItem, AreCopiedEntries}
-use Rattle.wit_copies.specs.Same.{IsSameParam, IsSameFunction, IsSameItem, same_interface, same_function, same_type}
+use Rattle.wit_copies.specs.Same.{IsSameKey, same_name, same_key_interface, IsSameParam, IsSameFunction, IsSameItem, same_interface, same_function, same_type}
 use Rattle.wit_moves.specs.Moved.{place_of, to, IsMovedFunction}
 use Rattle.wit_moves.specs.Plan.{OwnerPlaces}
 use Rattle.wit_moved_trees.specs.Law.{StandForTheSame, MovedTypesStandForTheSame, MovedFunctionsStandForTheSame}
@@ -49,16 +54,17 @@ use Rattle.wit_graph.specs.Push.{IsPushed}
 use Rattle.wit_moves.specs.Worlds.{IsMovedItem, moved_interface, moved_function, moved_type}
 use Rattle.wit_includes.specs.Included.{AreIncludedEntries, copies_behind}
 use Rattle.wit_reach.specs.Ids.{signature_ids, function_ids, resource_ids, item_ids, side_ids}
-use Rattle.wit_reach.specs.Types.{IsLocalAt, IsOfItem, AreWorldTypes}
+use Rattle.wit_reach.specs.Types.{is_local, IsLocalAt, IsOfItem, AreWorldTypes}
 use Rattle.wit_order.proofs.Lists.{has_was}
 use Rattle.wit_reach.proofs.Lists.{has_append}
 use Rattle.wit_reach.proofs.Holding.{got}
 use Rattle.wit_interfaces.proofs.Behind.{get_either}
-use Rattle.wit_arena.specs.Tree.{Name, PackageText, Place, in_world, Owner, Tree, TreeOption, Trees}
-use Rattle.wit_arena.specs.Unfold.{Owners, part_tree, part_trees, trees, IsWhole}
-use Rattle.wit_arena.specs.Meaning.{Has, MeansParts}
+use Rattle.wit_arena.specs.Tree.{Name, PackageText, Place, in_world, Owner, Tree, TreeOption, Trees, named_tree, resource_leaf}
+use Rattle.wit_arena.specs.Unfold.{Owners, and_then, part_tree, part_trees, owner_of, kind_tree, named_kind_tree, def_tree, def_tree_of, trees_from, trees, IsWhole}
+use Rattle.wit_arena.specs.Standing.{HasTree}
+use Rattle.wit_arena.specs.Meaning.{Has, MeansParts, MeansName, means_alias_of_name, means_alias, means_record, means_flags, means_enum, means_variant, means_resource, means_used, means_foreign}
 use Rattle.wit_arena.proofs.Lists.{has_none, has_here, has_later, has_cases, has_right, get_kept, get_last, get_more}
-use Rattle.wit_arena.proofs.Unfolding.{part_kept}
+use Rattle.wit_arena.proofs.Unfolding.{part_kept, ref_kept, flat_some, def_at}
 use Rattle.wit_resolved_scopes.specs.InArena.{Context}
 use Rattle.wit_resolved_scopes.specs.Meaning.{written_parts, function_refs}
 use Rattle.wit_joined.specs.Joined as joined
@@ -67,6 +73,8 @@ use Rattle.wit_plans.specs.declared.moves.MovedWorld.{MovedWorld}
 use Rattle.wit_graph_worlds.specs.Added.{AreAdded, none_added, one_added}
 use Rattle.wit_graph_worlds.specs.Copies.{IsSameEntry, AreSameEntries}
 use Rattle.wit_graph_worlds.specs.Worlds.{State}
+use Rattle.wit_copied_trees.proofs.Members.{has_place, goes_own}
+use Rattle.wit_copied_trees.specs.Renamed.{IsRenamedTree, same_primitive, renamed_list, renamed_fixed_length_list, renamed_option, renamed_tuple, renamed_result, renamed_future, renamed_stream, renamed_own, renamed_borrow, renamed_record, same_flags, same_enum, renamed_variant, renamed_name, renamed_leaf, other_name, other_leaf}
 use Rattle.wit_copied_trees.specs.Law.{IsOfTrees, AreIncludedBehind, IncludedTypesStandForTheSame, IncludedFunctionsStandForTheSame}
 use Rattle.wit_pushed_trees.specs.Apart.{AreWorldsApart}
 use Rattle.wit_pushed_trees.specs.Found.{TellsNamesApart, NamesOfGraphStand, AreFoundByName, IsGivenBy}
@@ -76,13 +84,13 @@ use Rattle.wit_pushed_trees.specs.Whole.{HasTrees}
 use Rattle.wit_pushed_trees.specs.Meaning.{is_async, is_written_async, param_names, written_names}
 use Rattle.wit_pushed_trees.specs.Meant.{PackageTexts, IsOfTexts}
 use Rattle.wit_pushed_trees.specs.Owned.{AreOwnersOf, AreOwned, AreOwnedWith, HaveMoreOwners}
-use Rattle.wit_pushed_trees.specs.Said.{with_result, world_owner, included_owner, IsIncludeWritten, SaysFunction, says_function, includes_function, SaysInterface, says_interface, includes_interface, IsFunctionSaid, IsInterfaceSaid, IsSideSaid, IsWorldSaid, AreSaid, AreWorldsSaid, EmptyWorldsAreSaid, PushedWorldsAreSaid}
-use Rattle.wit_pushed_trees.specs.Worlds.{IsOwnFunctionMeant, IsInterfaceListed, IsIncludeMeant, IsWorldMeant}
+use Rattle.wit_pushed_trees.specs.Said.{with_result, world_owner, included_owner, IsIncludeWritten, SaysFunction, says_function, includes_function, SaysType, says_type, includes_type, SaysInterface, says_interface, includes_interface, IsFunctionSaid, IsInterfaceSaid, IsTypeSaid, IsSideSaid, IsWorldSaid, AreSaid, AreWorldsSaid, EmptyWorldsAreSaid, PushedWorldsAreSaid}
+use Rattle.wit_pushed_trees.specs.Worlds.{IsTypeMeant, IsOwnFunctionMeant, IsInterfaceListed, IsIncludeMeant, IsWorldMeant}
 use Rattle.wit_pushed_trees.proofs.Agreeing.{same_trees}
 use Rattle.wit_pushed_trees.proofs.Finding.{asked_found}
 use Rattle.wit_pushed_trees.proofs.Graphs.{async_moved, worlds_go_at}
 use Rattle.wit_pushed_trees.proofs.Knowing.{included_known, added_known, there_known}
-use Rattle.wit_pushed_trees.proofs.Meant.{parts_more, by_old, agreed}
+use Rattle.wit_pushed_trees.proofs.Meant.{tree_still, parts_more, by_old, agreed}
 use Rattle.wit_pushed_trees.proofs.Parts.{parts_split}
 use Rattle.wit_pushed_trees.proofs.MeantWorlds.{world_still}
 use Rattle.wit_pushed_trees.proofs.Owned.{worlds_added}
@@ -102,6 +110,10 @@ module _ (all more : List PackageTexts) (given : Owner → Name → Tree) (side 
   function_more _ _ _ _ _ _ (says_function one w x m ps r among text on gives means) = says_function one w x m ps r (among_more one among) text on gives means
   function_more _ _ _ _ _ _ (includes_function one w i names x y b xs ps qs r q is says renamed trees part) =
       includes_function one w i names x y b xs ps qs r q (written_more one w i names is) (function_more (included_owner one i) x b xs ps r says) renamed trees part
+
+  type_more : (w : Owner) (x : Name) (t : Tree) → SaysType all given w x t → SaysType (all ++ more) given w x t
+  type_more _ _ _ (says_type one w x t among text means) = says_type one w x t (among_more one among) text means
+  type_more _ _ _ (includes_type one w i names x y t u is says renamed tree) = includes_type one w i names x y t u (written_more one w i names is) (type_more (included_owner one i) x t says) renamed tree
 
   interface_more : (w whose : Owner) → SaysInterface all side w whose → SaysInterface (all ++ more) side w whose
   interface_more _ _ (says_interface one w l whose among text there on is) = says_interface one w l whose (among_more one among) text there on is
@@ -124,6 +136,7 @@ module _ (given : Owner → Name → Tree) (owners : Owners) (a more : List Type
   side_behind all side w es is = record {
     functions = λ k f has. (let s = is.functions k f has in record { params = s.params; result = s.result; trees = of_trees_behind f (param_names f) s.params s.result s.trees; says = s.says });
     interfaces = is.interfaces;
+    types = λ k i span has. (let s = is.types k i span has in record { spelling = s.spelling; known_by = s.known_by; tree = s.tree; stands = ref_kept owners given a more (ref.Id i) s.tree s.stands; says = s.says });
   }
 
   said_behind : (all : List PackageTexts) (worlds : List World) → AreSaid all given owners a worlds → AreSaid all given owners (a ++ more) worlds
@@ -164,11 +177,117 @@ module _ (all : List PackageTexts) (one : PackageTexts) (among : Has all one) (g
       says = subst (λ (v : Owner). SaysInterface all side v is.whose) (owner_is one w (string_bytes m.name) me_is place_is is.text is.is_text.named) (says_interface one is.text is.listed is.whose among is.is_text.there is.there is.side_is is.listed_as);
     }
 
+    own_type : (k : WorldKey) (i : ℕ) → IsTypeMeant given one.context owners types one.worlds m.name k i → IsTypeSaid all given owners types w k i
+    own_type k i is = record {
+      spelling = is.spelling;
+      known_by = is.known_by;
+      tree = is.means.0;
+      stands = is.means.1;
+      says = subst (λ (v : Owner). SaysType all given v is.spelling is.means.0) (owner_is one w (string_bytes m.name) me_is place_is is.text is.is_text.named) (says_type one is.text is.spelling is.means.0 among is.is_text.there is.means.2);
+    }
+
     own_imports : IsSideSaid all given owners types Import w m.imports.items
-    own_imports = record { functions = λ k f has. own_function Import f (means.imported_functions k f has); interfaces = λ k i gate span has. own_interface Import i (means.imported k i gate span has) }
+    own_imports = record {
+      functions = λ k f has. own_function Import f (means.imported_functions k f has);
+      interfaces = λ k i gate span has. own_interface Import i (means.imported k i gate span has);
+      types = λ k i span has. own_type k i (means.own_types k i span has);
+    }
 
     own_exports : IsSideSaid all given owners types Export w m.exports.items
-    own_exports = record { functions = λ k f has. own_function Export f (means.exported_functions k f has); interfaces = λ k i gate span has. own_interface Export i (means.exported k i gate span has) }
+    own_exports = record {
+      functions = λ k f has. own_function Export f (means.exported_functions k f has);
+      interfaces = λ k i gate span has. own_interface Export i (means.exported k i gate span has);
+      types = λ k i span has. absurd (means.no_exported_types k i span has);
+    }
+
+-- ---- types of one owner
+
+abbrev IsOf : Owner → Tree → Type 0
+IsOf w (named_tree o x t) = o ≡ w
+IsOf w (resource_leaf o x) = o ≡ w
+IsOf w _ = ⊥
+
+of_meaning : (me : PackageText) (scopes : List ItemScope) (given : Owner → Name → Tree) (o : Place) (x : Name) (t : Tree) → MeansName me scopes given o x t → IsOf (record { package_text = me; place = o }) t
+of_meaning me scopes given _ _ _ (means_alias_of_name o x s y t declared means) = refl
+of_meaning me scopes given _ _ _ (means_alias o x e t declared bare means) = refl
+of_meaning me scopes given _ _ _ (means_record o x fs ts declared means) = refl
+of_meaning me scopes given _ _ _ (means_flags o x ls declared) = refl
+of_meaning me scopes given _ _ _ (means_enum o x ls declared) = refl
+of_meaning me scopes given _ _ _ (means_variant o x cs ts declared means) = refl
+of_meaning me scopes given _ _ _ (means_resource o x fs declared) = refl
+of_meaning me scopes given _ _ _ (means_used o x i y t declared means) = refl
+of_meaning me scopes given _ _ _ (means_foreign o x p i y declared) = refl
+
+of_renamed : (names : List IncludeName) (v w : Owner) (t u : Tree) → IsRenamedTree names v w t u → IsOf v t → IsOf w u
+of_renamed names v w _ _ (same_primitive p) is = absurd is
+of_renamed names v w _ _ (renamed_list t u r) is = absurd is
+of_renamed names v w _ _ (renamed_fixed_length_list t u n r) is = absurd is
+of_renamed names v w _ _ (renamed_option t u r) is = absurd is
+of_renamed names v w _ _ (renamed_tuple ts us r) is = absurd is
+of_renamed names v w _ _ (renamed_result t u x y r q) is = absurd is
+of_renamed names v w _ _ (renamed_future t u r) is = absurd is
+of_renamed names v w _ _ (renamed_stream t u r) is = absurd is
+of_renamed names v w _ _ (renamed_own t u r) is = absurd is
+of_renamed names v w _ _ (renamed_borrow t u r) is = absurd is
+of_renamed names v w _ _ (renamed_record xs ts us r) is = absurd is
+of_renamed names v w _ _ (same_flags xs) is = absurd is
+of_renamed names v w _ _ (same_enum xs) is = absurd is
+of_renamed names v w _ _ (renamed_variant xs ts us r) is = absurd is
+of_renamed names v w _ _ (renamed_name x y t u r q) is = refl
+of_renamed names v w _ _ (renamed_leaf x y r) is = refl
+of_renamed names v w _ _ (other_name o x t other) is = absurd (other is)
+of_renamed names v w _ _ (other_leaf o x other) is = absurd (other is)
+
+of_saying : (all : List PackageTexts) (given : Owner → Name → Tree) (w : Owner) (x : Name) (t : Tree) → SaysType all given w x t → IsOf w t
+of_saying all given _ _ _ (says_type one w x t among text means) = of_meaning one.context.me one.context.scopes given (in_world w.name.text) x t means
+of_saying all given _ _ _ (includes_type one w i names x y t u is says renamed tree) = of_renamed names (included_owner one i) (world_owner one w) t u tree (of_saying all given (included_owner one i) x t says)
+
+module _ (given : Owner → Name → Tree) (done : List (Option Tree)) (v w : Owner) (x : Name) (t : Tree) (is : IsOf v t) where
+  named_whose : (o : Option Tree) → option_map (named_tree w x) o ≡ Some t → w ≡ v
+  named_whose None e = absurd (let bad : None ≡ Some t = e in cc)
+  named_whose (Some u) e = subst (IsOf v) (sym (same_Some (named_tree w x u) t e)) is
+
+  kind_whose : (k : TypeDefKind) → (k ≡ kind.Unknown → ⊥) → named_kind_tree given done w x k ≡ Some t → w ≡ v
+  kind_whose (kind.Record r) known e = named_whose (kind_tree done (kind.Record r)) e
+  kind_whose kind.Resource known e = subst (IsOf v) (sym (same_Some (resource_leaf w x) t e)) is
+  kind_whose (kind.Handle h) known e = named_whose (kind_tree done (kind.Handle h)) e
+  kind_whose (kind.Flags f) known e = named_whose (kind_tree done (kind.Flags f)) e
+  kind_whose (kind.Tuple r) known e = named_whose (kind_tree done (kind.Tuple r)) e
+  kind_whose (kind.Variant r) known e = named_whose (kind_tree done (kind.Variant r)) e
+  kind_whose (kind.Enum r) known e = named_whose (kind_tree done (kind.Enum r)) e
+  kind_whose (kind.Option r) known e = named_whose (kind_tree done (kind.Option r)) e
+  kind_whose (kind.Result r) known e = named_whose (kind_tree done (kind.Result r)) e
+  kind_whose (kind.List r) known e = named_whose (kind_tree done (kind.List r)) e
+  kind_whose (kind.FixedLengthList r n) known e = named_whose (kind_tree done (kind.FixedLengthList r n)) e
+  kind_whose (kind.Future r) known e = named_whose (kind_tree done (kind.Future r)) e
+  kind_whose (kind.Stream r) known e = named_whose (kind_tree done (kind.Stream r)) e
+  kind_whose (kind.Alias r) known e = named_whose (kind_tree done (kind.Alias r)) e
+  kind_whose kind.Unknown known e = absurd (known refl)
+
+-- what stands for a type of a world belongs to it, or nowhere
+module _ (owners : Owners) (given : Owner → Name → Tree) (from : ℕ) (v : Owner) (theirs : (o : TypeOwner) (u : Owner) → is_local from o ≡ false → owner_of owners o ≡ Some u → u ≡ v → ⊥) where
+  local_of : (done : List (Option Tree)) (n : Option (String Global)) (o : TypeOwner) (k : TypeDefKind) (t : Tree) (w : Option Owner) → owner_of owners o ≡ w → (k ≡ kind.Unknown → ⊥) → IsOf v t → def_tree_of owners given done n o k ≡ Some t → is_local from o ≡ true
+  local_of done None belongs.None k t w whose known is e = refl
+  local_of done None (belongs.World j) k t w whose known is e = absurd (let bad : None ≡ Some t = e in cc)
+  local_of done None (belongs.Interface j) k t w whose known is e = absurd (let bad : None ≡ Some t = e in cc)
+  local_of done (Some x) o k t None whose known is e =
+      absurd (let bad : and_then (λ (u : Owner). named_kind_tree given done u (string_bytes x) k) None ≡ Some t = ap (and_then (λ (u : Owner). named_kind_tree given done u (string_bytes x) k)) (sym whose) ∙ e in cc)
+  local_of done (Some x) o k t (Some u) whose known is e =
+      let one : named_kind_tree given done u (string_bytes x) k ≡ Some t = ap (and_then (λ (u : Owner). named_kind_tree given done u (string_bytes x) k)) (sym whose) ∙ e in
+      let mine : u ≡ v = kind_whose given done v u (string_bytes x) t is k known one in
+      elim (cases_Bool (is_local from o)) as (λ _. is_local from o ≡ true) [ inl local ↦ local | inr distant ↦ absurd (theirs o u distant whose mine) ]
+
+  size : (done : List (Option Tree)) (xs : List TypeDef) → length (trees_from owners given done xs) ≡ length done + length xs
+  size done [] = omega arith
+  size done (x ∷ xs) = (let e = size (done ++ def_tree owners given done x ∷ []) xs in let l = length-append done (def_tree owners given done x ∷ []) in omega (arith, e, l))
+
+  local_at : (a : List TypeDef) → IsWhole owners given a → AreTypesKnown a → (i : ℕ) (t : Tree) → HasTree owners given a i t → IsOf v t → IsLocalAt from a i
+  local_at a whole known i t has is =
+      let within : i < length a = (let l : i < length (trees owners given a) = slice_get_within (trees owners given a) i (Some t) (flat_some (slice_get (trees owners given a) i) t has) in let e = size [] a in omega (arith, l, e)) in
+      let d = got a i within in
+      let def = def_at owners given a i d.0 whole d.1 in
+      let same : def.0 ≡ t = same_Some def.0 t (sym def.1 ∙ has) in
+      (d.0, d.1, local_of (trees owners given a) d.0.name d.0.owner d.0.kind t (owner_of owners d.0.owner) refl (known i d.0 d.1) is (def.2 ∙ ap (λ (u : Tree). Some u) same))
 
 -- ---- what included worlds bring
 
@@ -180,26 +299,29 @@ record Came (names : List IncludeName) (c : Copies) (es : List (WorldKey × Worl
   copied : WorldItem
   is_copied : IsCopiedItem c item_was copied
   is_renamed : IsRenamedItem names copied i
+  between : WorldKey
+  same_key : IsSameKey first between
+  renamed_key : IsRenamedKey names between k
 
-renamed_at : (names : List IncludeName) (es fs : List (WorldKey × WorldItem)) → AreRenamed names es fs → (k : WorldKey) (i : WorldItem) → Has fs (k, i) → (l : WorldKey) × (j : WorldItem) × Has es (l, j) × IsRenamedItem names j i
+renamed_at : (names : List IncludeName) (es fs : List (WorldKey × WorldItem)) → AreRenamed names es fs → (k : WorldKey) (i : WorldItem) → Has fs (k, i) → (l : WorldKey) × (j : WorldItem) × Has es (l, j) × IsRenamedItem names j i × IsRenamedKey names l k
 renamed_at names _ _ renames.no_entries k i has = absurd (has_none (k, i) has)
-renamed_at names _ _ (renames.one_more l m j i0 es fs key renamed rest) k i has = elim (has_cases (m, i0) fs (k, i) has) as (λ _. (n : WorldKey) × (x : WorldItem) × Has ((l, j) ∷ es) (n, x) × IsRenamedItem names x i) [
-  | inl here ↦ (l, j, has_here (l, j) es, subst (IsRenamedItem names j) (sym (ap (λ (e : WorldKey × WorldItem). e.1) here)) renamed)
-  | inr later ↦ (let r = renamed_at names es fs rest k i later in (r.0, r.1, has_later (l, j) es (r.0, r.1) r.2, r.3))
+renamed_at names _ _ (renames.one_more l m j i0 es fs key renamed rest) k i has = elim (has_cases (m, i0) fs (k, i) has) as (λ _. (n : WorldKey) × (x : WorldItem) × Has ((l, j) ∷ es) (n, x) × IsRenamedItem names x i × IsRenamedKey names n k) [
+  | inl here ↦ (l, j, has_here (l, j) es, subst (IsRenamedItem names j) (sym (ap (λ (e : WorldKey × WorldItem). e.1) here)) renamed, subst (IsRenamedKey names l) (sym (ap (λ (e : WorldKey × WorldItem). e.0) here)) key)
+  | inr later ↦ (let r = renamed_at names es fs rest k i later in (r.0, r.1, has_later (l, j) es (r.0, r.1) r.2, r.3, r.4))
 ]
 
-copied_at : (c : Copies) (es fs : List (WorldKey × WorldItem)) → AreCopiedEntries c es fs → (k : WorldKey) (i : WorldItem) → Has fs (k, i) → (l : WorldKey) × (j : WorldItem) × Has es (l, j) × IsCopiedItem c j i
+copied_at : (c : Copies) (es fs : List (WorldKey × WorldItem)) → AreCopiedEntries c es fs → (k : WorldKey) (i : WorldItem) → Has fs (k, i) → (l : WorldKey) × (j : WorldItem) × Has es (l, j) × IsCopiedItem c j i × IsSameKey l k
 copied_at c _ _ copies.no_entries k i has = absurd (has_none (k, i) has)
-copied_at c _ _ (copies.one_entry_more l m j i0 es fs key copied rest) k i has = elim (has_cases (m, i0) fs (k, i) has) as (λ _. (n : WorldKey) × (x : WorldItem) × Has ((l, j) ∷ es) (n, x) × IsCopiedItem c x i) [
-  | inl here ↦ (l, j, has_here (l, j) es, subst (IsCopiedItem c j) (sym (ap (λ (e : WorldKey × WorldItem). e.1) here)) copied)
-  | inr later ↦ (let r = copied_at c es fs rest k i later in (r.0, r.1, has_later (l, j) es (r.0, r.1) r.2, r.3))
+copied_at c _ _ (copies.one_entry_more l m j i0 es fs key copied rest) k i has = elim (has_cases (m, i0) fs (k, i) has) as (λ _. (n : WorldKey) × (x : WorldItem) × Has ((l, j) ∷ es) (n, x) × IsCopiedItem c x i × IsSameKey n k) [
+  | inl here ↦ (l, j, has_here (l, j) es, subst (IsCopiedItem c j) (sym (ap (λ (e : WorldKey × WorldItem). e.1) here)) copied, subst (IsSameKey l) (sym (ap (λ (e : WorldKey × WorldItem). e.0) here)) key)
+  | inr later ↦ (let r = copied_at c es fs rest k i later in (r.0, r.1, has_later (l, j) es (r.0, r.1) r.2, r.3, r.4))
 ]
 
 came : (names : List IncludeName) (c : Copies) (es fs : List (WorldKey × WorldItem)) → AreIncludedEntries names c es fs → (k : WorldKey) (i : WorldItem) → Has fs (k, i) → Came names c es k i
 came names c es fs (between, copied, renamed) k i has =
     let r = renamed_at names between fs renamed k i has in
     let o = copied_at c es between copied r.0 r.1 r.2 in
-    record { first = o.0; item_was = o.1; there = o.2; copied = r.1; is_copied = o.3; is_renamed = r.3 }
+    record { first = o.0; item_was = o.1; there = o.2; copied = r.1; is_copied = o.3; is_renamed = r.3; between = r.0; same_key = o.4; renamed_key = r.4 }
 
 -- a function comes of a function
 record CameFunction (names : List IncludeName) (c : Copies) (es : List (WorldKey × WorldItem)) (h : Function) : Type 0 where
@@ -245,6 +367,43 @@ came_function names c es k h r = by r.copied refl r.is_renamed
     by (item.Interface i gate span) is renamed = absurd cc
     by (item.TypeItem i span) is renamed = absurd cc
 
+-- a type of one
+type_eq : (i j : ℕ) (s t : Span) → item.TypeItem i s ≡ item.TypeItem j t → i ≡ j
+type_eq i j s t e = cc
+
+moved_type_from : (c : Copies) (v : WorldItem) (i : ℕ) (s : Span) → IsMovedItem (goes c) (λ (i : ℕ). i) v (item.TypeItem i s) → (j : ℕ) × (v ≡ item.TypeItem j s) × (i ≡ goes c j)
+moved_type_from c _ _ _ (moved_type j s) = (j, refl, refl)
+
+same_type_from : (v : WorldItem) (i : ℕ) (s : Span) → IsSameItem v (item.TypeItem i s) → v ≡ item.TypeItem i s
+same_type_from _ _ _ (same_type i s) = refl
+
+came_type : (names : List IncludeName) (c : Copies) (es : List (WorldKey × WorldItem)) (k : WorldKey) (i : ℕ) (span : Span) → (r : Came names c es k (item.TypeItem i span)) → (j : ℕ) × (s : Span) × Has es (r.first, item.TypeItem j s) × (i ≡ goes c j)
+came_type names c es k i span r = by r.copied refl r.is_renamed
+  where
+    by : (x : WorldItem) → r.copied ≡ x → IsRenamedItem names x (item.TypeItem i span) → (j : ℕ) × (s : Span) × Has es (r.first, item.TypeItem j s) × (i ≡ goes c j)
+    by (item.Function b) is renamed = absurd (let bad : item.TypeItem i span ≡ item.Function (record b { name = renamed.0 }) = renamed.1 in cc)
+    by (item.Interface j g s) is renamed = absurd (let bad : item.TypeItem i span ≡ item.Interface j g s = renamed in cc)
+    by (item.TypeItem j s) is renamed =
+        let moved = moved_type_from c r.is_copied.0 j s (subst (λ (x : WorldItem). IsMovedItem (goes c) (λ (i : ℕ). i) r.is_copied.0 x) is r.is_copied.2) in
+        let same = same_type_from r.item_was moved.0 s (subst (IsSameItem r.item_was) moved.1 r.is_copied.1) in
+        (moved.0, s, subst (λ (x : WorldItem). Has es (r.first, x)) same r.there, type_eq i j span s renamed ∙ moved.2)
+
+-- by its key
+key_came : (names : List IncludeName) (k l n : WorldKey) (x : Name) → IsSameKey k l → IsRenamedKey names l n → known k ≡ spelled x → (y : Name) × (known n ≡ spelled y) × IsRenamed names x y
+key_came names _ _ n x (same_name a b same) renamed by = (
+  string_bytes renamed.0,
+  ap known renamed.1,
+  subst (λ (z : Name). IsRenamed names z (string_bytes renamed.0)) (same ∙ spelled_eq (string_bytes a) x by) renamed.2,
+)
+  where
+    spelled_eq : (p q : Name) → spelled p ≡ spelled q → p ≡ q
+    spelled_eq p q e = cc
+key_came names _ _ n x (same_key_interface id) renamed by = absurd cc
+
+key_same : (k l : WorldKey) (x : Name) → IsSameKey k l → known k ≡ spelled x → known l ≡ spelled x
+key_same _ _ x (same_name a b same) by = ap spelled same ∙ by
+key_same _ _ x (same_key_interface id) by = by
+
 -- and an interface of the same
 interface_eq : (i j : ℕ) (g d : Stability) (s t : Span) → item.Interface i g s ≡ item.Interface j d t → i ≡ j
 interface_eq i j g d s t e = cc
@@ -276,7 +435,7 @@ side_has (e ∷ es) k x i has of = elim (has_cases e es (k, x) has) as (λ _. or
   | inr later ↦ has_append (item_ids e.1) (side_ids es) i (side_has es k x i later of)
 ]
 
-module _ (law : IncludedFunctionsStandForTheSame) (all : List PackageTexts) (one : PackageTexts) (among : Has all one) (given : Owner → Name → Tree) (owners : Owners) (m : MovedWorld) (w : Owner)
+module _ (law_types : IncludedTypesStandForTheSame) (law : IncludedFunctionsStandForTheSame) (all : List PackageTexts) (one : PackageTexts) (among : Has all one) (given : Owner → Name → Tree) (owners : Owners) (m : MovedWorld) (w : Owner)
     (me_is : w.package_text ≡ one.context.me) (place_is : w.place ≡ in_world (string_bytes m.name))
     (n : WorldInclude) (is : IsIncludeMeant one.context owners one.worlds m.name n) (into : ℕ) (d : World) (a : List TypeDef) (own : List ℕ) (new : List TypeDef)
     (behind : AreIncludedBehind n.names.items owners given n.id into (included_owner one is.written) (world_owner one is.text) d a own new)
@@ -314,9 +473,28 @@ module _ (law : IncludedFunctionsStandForTheSame) (all : List PackageTexts) (one
             let was = said.interfaces c.0 i c.1 c.2 c.3 in
             record { whose = was.whose; owner = was.owner; says = includes_interface one is.text is.written n.names.items was.whose written was.says }
 
+        brought_type : (k : WorldKey) (i : ℕ) (span : Span) → Has fs (k, item.TypeItem i span) → IsTypeSaid all given owners (a ++ new) (world_owner one is.text) k i
+        brought_type k i span has =
+            let r = came n.names.items (copies_behind a own) es fs entries k (item.TypeItem i span) has in
+            let c = came_type n.names.items (copies_behind a own) es k i span r in
+            let was = said.types r.first c.0 c.1 c.2 in
+            let key = key_came n.names.items r.first r.between k was.spelling r.same_key r.renamed_key was.known_by in
+            let local : IsLocalAt n.id a c.0 = local_at owners given n.id (included_owner one is.written) behind.apart a behind.whole behind.known c.0 was.tree was.stands (of_saying all given (included_owner one is.written) was.spelling was.tree was.says) in
+            let mine : order.Has own c.0 = behind.are_own.all c.0 c.0 ((of_world c.0 (side_has es r.first (item.TypeItem c.0 c.1) c.0 c.2 (inl refl))), local) ([], refl) in
+            let at = has_place own c.0 mine in
+            let stands = (law_types n.names.items owners given n.id into (included_owner one is.written) (world_owner one is.text) d a own new behind).1 at.0 c.0 was.tree at.1 was.stands in
+            let place : i ≡ length a + at.0 = c.3 ∙ goes_own a own at.0 c.0 behind.are_own.rising at.1 in
+            record {
+              spelling = key.0;
+              known_by = key.1;
+              tree = stands.0;
+              stands = subst (λ (j : ℕ). HasTree owners given (a ++ new) j stands.0) (sym place) stands.2;
+              says = includes_type one is.text is.written n.names.items was.spelling key.0 was.tree stands.0 written was.says key.2 stands.1;
+            }
+
         brought : IsSideSaid all given owners (a ++ new) side w fs
         brought = subst (λ (v : Owner). IsSideSaid all given owners (a ++ new) side v fs) (owner_is one w (string_bytes m.name) me_is place_is is.text is.is_text.named)
-            (record { functions = brought_function; interfaces = brought_interface })
+            (record { functions = brought_function; interfaces = brought_interface; types = brought_type })
 
 -- two rows of entries
 both_said : (all : List PackageTexts) (given : Owner → Name → Tree) (owners : Owners) (types : List TypeDef) (side : Side) (w : Owner) (es fs : List (WorldKey × WorldItem)) → IsSideSaid all given owners types side w es → IsSideSaid all given owners types side w fs
@@ -324,6 +502,7 @@ both_said : (all : List PackageTexts) (given : Owner → Name → Tree) (owners 
 both_said all given owners types side w es fs first second = record {
   functions = λ k f has. elim (get_either es fs has.0 (k, item.Function f) has.1) as (λ _. IsFunctionSaid all given owners types side w f) [ inl here ↦ first.functions k f (has.0, here) | inr there ↦ second.functions k f (there.0, there.2) ];
   interfaces = λ k i gate span has. elim (get_either es fs has.0 (k, item.Interface i gate span) has.1) as (λ _. IsInterfaceSaid all owners side w i) [ inl here ↦ first.interfaces k i gate span (has.0, here) | inr there ↦ second.interfaces k i gate span (there.0, there.2) ];
+  types = λ k i span has. elim (get_either es fs has.0 (k, item.TypeItem i span) has.1) as (λ _. IsTypeSaid all given owners types w k i) [ inl here ↦ first.types k i span (has.0, here) | inr there ↦ second.types k i span (there.0, there.2) ];
 }
 
 -- ---- what is joined, and copied
@@ -336,13 +515,13 @@ united_was eq _ _ (first_of_its_key es side x rest new) e has = elim (get_more s
 ]
 united_was eq _ _ (key_again es side x rest known) e has = (let r = united_was eq es side rest e has in (r.0, get_kept es (x ∷ []) r.0 e r.1))
 
-zip_was : (es fs : List (WorldKey × WorldItem)) → AreSameEntries es fs → (k : WorldKey) (x : WorldItem) → Has fs (k, x) → (l : WorldKey) × (y : WorldItem) × Has es (l, y) × IsSameItem y x
+zip_was : (es fs : List (WorldKey × WorldItem)) → AreSameEntries es fs → (k : WorldKey) (x : WorldItem) → Has fs (k, x) → (l : WorldKey) × (y : WorldItem) × Has es (l, y) × IsSameItem y x × IsSameKey l k
 zip_was [] [] zip k x has = absurd (has_none (k, x) has)
 zip_was [] (f ∷ fs) zip k x has = absurd zip
 zip_was (e ∷ es) [] zip k x has = absurd zip
-zip_was (e ∷ es) (f ∷ fs) zip k x has = elim (has_cases f fs (k, x) has) as (λ _. (l : WorldKey) × (y : WorldItem) × Has (e ∷ es) (l, y) × IsSameItem y x) [
-  | inl here ↦ (e.0, e.1, has_here e es, subst (IsSameItem e.1) (sym (ap (λ (z : WorldKey × WorldItem). z.1) here)) zip.0.1)
-  | inr later ↦ (let r = zip_was es fs zip.1 k x later in (r.0, r.1, has_later e es (r.0, r.1) r.2, r.3))
+zip_was (e ∷ es) (f ∷ fs) zip k x has = elim (has_cases f fs (k, x) has) as (λ _. (l : WorldKey) × (y : WorldItem) × Has (e ∷ es) (l, y) × IsSameItem y x × IsSameKey l k) [
+  | inl here ↦ (e.0, e.1, has_here e es, subst (IsSameItem e.1) (sym (ap (λ (z : WorldKey × WorldItem). z.1) here)) zip.0.1, subst (IsSameKey e.0) (sym (ap (λ (z : WorldKey × WorldItem). z.0) here)) zip.0.0)
+  | inr later ↦ (let r = zip_was es fs zip.1 k x later in (r.0, r.1, has_later e es (r.0, r.1) r.2, r.3, r.4))
 ]
 
 zip_map : {X Y : Type 0} (R : X → X → Type 0) (g : X → Y) → ((x y : X) → R x y → g y ≡ g x) → (xs ys : List X) → AllZip R xs ys → map g ys ≡ map g xs
@@ -369,6 +548,7 @@ module _ (all : List PackageTexts) (given : Owner → Name → Tree) (owners : O
   united_said es fs united said = record {
     functions = λ k f has. said.functions k f (united_was key_eq es fs united (k, item.Function f) has);
     interfaces = λ k i gate span has. said.interfaces k i gate span (united_was key_eq es fs united (k, item.Interface i gate span) has);
+    types = λ k i span has. said.types k i span (united_was key_eq es fs united (k, item.TypeItem i span) has);
   }
 
   copy_said : (es fs : List (WorldKey × WorldItem)) → AreSameEntries es fs → IsSideSaid all given owners types side w es → IsSideSaid all given owners types side w fs
@@ -381,6 +561,10 @@ module _ (all : List PackageTexts) (given : Owner → Name → Tree) (owners : O
         let r = zip_was es fs zip k (item.Interface i gate span) has in
         let from = same_interface_from r.1 i gate span r.3 in
         said.interfaces r.0 i from.0 span (subst (λ (x : WorldItem). Has es (r.0, x)) from.1 r.2));
+    types = λ k i span has. (
+        let r = zip_was es fs zip k (item.TypeItem i span) has in
+        let t = said.types r.0 i span (subst (λ (x : WorldItem). Has es (r.0, x)) (same_type_from r.1 i span r.3) r.2) in
+        record { spelling = t.spelling; known_by = key_same r.0 k t.spelling r.4 t.known_by; tree = t.tree; stands = t.stands; says = t.says });
   }
 
 -- ---- all that a world includes
@@ -414,8 +598,8 @@ module _ (law_types : IncludedTypesStandForTheSame) (law : IncludedFunctionsStan
           are_own = at.3.are_own;
           included = at.3.brings.types_are;
         } in
-        let imports = brought law all one among given owners m w me_is place_is n is id at.0 t.types at.3.own at.1.types.items behind Import at.0.imports.entries at.1.imports.items (λ i h. inl h) at.3.brings.imports_are from.imports in
-        let exports = brought law all one among given owners m w me_is place_is n is id at.0 t.types at.3.own at.1.types.items behind Export at.0.exports.entries at.1.exports.items (λ i h. inr h) at.3.brings.exports_are from.exports in
+        let imports = brought law_types law all one among given owners m w me_is place_is n is id at.0 t.types at.3.own at.1.types.items behind Import at.0.imports.entries at.1.imports.items (λ i h. inl h) at.3.brings.imports_are from.imports in
+        let exports = brought law_types law all one among given owners m w me_is place_is n is id at.0 t.types at.3.own at.1.types.items behind Export at.0.exports.entries at.1.exports.items (λ i h. inr h) at.3.brings.exports_are from.exports in
         subst (AreStateSaid w) (sym at.4) (record {
           imports = both_said all given owners (t.types ++ at.1.types.items) Import w t.imports at.1.imports.items (side_behind given owners t.types at.1.types.items all Import w t.imports so_far.imports) imports;
           exports = both_said all given owners (t.types ++ at.1.types.items) Export w t.exports at.1.exports.items (side_behind given owners t.types at.1.types.items all Export w t.exports so_far.exports) exports;
@@ -491,6 +675,9 @@ module _ (given : Owner → Name → Tree) (old new : Owners) (more_owners : Hav
     interfaces = λ k i gate span has. (
         let s = said.interfaces k i gate span has in
         record { whose = s.whose; owner = ap (λ (os : List Owner). slice_get os i) more_owners.interfaces_are ∙ get_kept old.interfaces more_owners.interfaces i s.whose s.owner; says = interface_more all added given side w s.whose s.says });
+    types = λ k i span has. (
+        let s = said.types k i span has in
+        record { spelling = s.spelling; known_by = s.known_by; tree = s.tree; stands = tree_still given old new a more same i s.tree s.stands; says = type_more all added given side w s.spelling s.tree s.says });
   }
 
 module _ (moved : MovedTypesStandForTheSame) (functions_stand : MovedFunctionsStandForTheSame) (law_types : IncludedTypesStandForTheSame) (law : IncludedFunctionsStandForTheSame)

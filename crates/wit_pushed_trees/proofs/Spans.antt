@@ -203,6 +203,10 @@ module _ (f : Span → Span) where
       exported_functions = side_function Export exports is.exported_functions;
       imported = interface_side (IsInterfaceListed c owners ws name Import) imports is.imported;
       exported = interface_side (IsInterfaceListed c owners ws name Export) exports is.exported;
+      no_exported_types = λ k i span has.
+          let e = map_has (λ (e : WorldKey × WorldItem). (e.0, item_by f e.1)) exports (k, item.TypeItem i span) has in
+          let of = item_type e.0.1 i span (ap (λ (y : WorldKey × WorldItem). y.1) e.2) in
+          is.no_exported_types e.0.0 i of.0 (subst (λ (x : WorldItem). Has exports (e.0.0, x)) of.1 e.1);
       included = λ n has.
           let e = map_has (include_by f) includes n has in
           let i : IsIncludeMeant c owners ws name e.0 = is.included e.0 e.1 in

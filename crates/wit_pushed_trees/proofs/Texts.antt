@@ -277,6 +277,9 @@ module _ (given : Owner → Name → Tree) (c : Context) (a : List TypeDef) (w :
     exported_functions = λ k f has. side_function Export d.exports.entries is.lists_are.exports_are has.0 k f has.1;
     imported = import_listed;
     exported = λ k i gate span has. side_interface Export d.exports.entries is.lists_are.exports_are has.0 k i gate span has.1;
+    no_exported_types = λ k i span has.
+        let e = each_right (IsEntryOf c o a is.table) (side_members Export w.members) d.exports.entries is.lists_are.exports_are has.0 (k, item.TypeItem i span) has.1 in
+        no_type c o a is.table e.0 (k, item.TypeItem i span) e.2 i span refl;
     included = include_meant;
   }
 
@@ -288,6 +291,7 @@ nothing_meant given c a d ws no_imports no_exports no_includes = record {
   exported_functions = λ k f has. absurd (has_none (k, item.Function f) (subst (λ es. Has es (k, item.Function f)) no_exports has));
   imported = λ k i gate span has. absurd (has_none (k, item.Interface i gate span) (subst (λ es. Has es (k, item.Interface i gate span)) no_imports has));
   exported = λ k i gate span has. absurd (has_none (k, item.Interface i gate span) (subst (λ es. Has es (k, item.Interface i gate span)) no_exports has));
+  no_exported_types = λ k i span has. has_none (k, item.TypeItem i span) (subst (λ es. Has es (k, item.TypeItem i span)) no_exports has);
   included = λ n has. absurd (has_none n (subst (λ ns. Has ns n) no_includes has));
 }
 

@@ -9,6 +9,7 @@ use Rattle.wit_types.specs.declared.world.IncludeName.{IncludeName}
 use Rattle.wit_types.specs.declared.world.World.{World}
 use Rattle.wit_types.specs.declared.world.WorldItem.{WorldItem}
 use Rattle.wit_types.specs.declared.world.WorldItem.TheVariants as item
+use Rattle.wit_types.specs.WorldKey.{spelled, known}
 use Rattle.wit_types.specs.declared.world_key.WorldKey.{WorldKey}
 use Rattle.wit_types.specs.declared.«package».PackageName.{PackageName}
 use Rattle.wit_types.specs.declared.«package».UnresolvedPackage.{UnresolvedPackage}
@@ -22,13 +23,14 @@ use Rattle.wit_scopes.specs.Scopes.{WorldScope, WorldMemberTree, ListedTree, Inc
 use Rattle.wit_sides.specs.Renames.{IsRenamed}
 use Rattle.wit_arena.specs.Tree.{Name, in_world, Owner, Tree, TreeOption, Trees, no_trees, trees_and}
 use Rattle.wit_arena.specs.Unfold.{Owners}
-use Rattle.wit_arena.specs.Meaning.{Has, MeansParts}
+use Rattle.wit_arena.specs.Standing.{HasTree}
+use Rattle.wit_arena.specs.Meaning.{Has, MeansParts, MeansName}
 use Rattle.wit_resolved_scopes.specs.InArena.{own_owner}
 use Rattle.wit_resolved_scopes.specs.Meaning.{written_parts}
 use Rattle.wit_resolved_scopes.specs.Texts.{side_members, includes_of}
 use Rattle.wit_worlds.specs.Worlds.{target_owner, include_name, written_name}
 use Rattle.wit_copied_trees.specs.Law.{IsOfTrees}
-use Rattle.wit_copied_trees.specs.Renamed.{IsRenamedPart, AreRenamedTrees}
+use Rattle.wit_copied_trees.specs.Renamed.{IsRenamedTree, IsRenamedPart, AreRenamedTrees}
 use Rattle.wit_graph.specs.Graph.{Graph, AreWhole, nothing}
 use Rattle.wit_graph.specs.Push.{IsPushed}
 use Rattle.wit_graph.specs.declared.tables.Tables.{Tables}
@@ -69,6 +71,12 @@ pub data SaysFunction (all : List PackageTexts) (given : Owner → Name → Tree
       → AreRenamedTrees names (included_owner one i) (world_owner one w) ps qs → IsRenamedPart names (included_owner one i) (world_owner one w) r q
       → SaysFunction all given side (world_owner one w) y asynchronous xs qs q
 
+-- the world has a type of that name, which stands for that
+pub data SaysType (all : List PackageTexts) (given : Owner → Name → Tree) : Owner → Name → Tree → Type 0 where
+  says_type : (one : PackageTexts) (w : WorldScope) (x : Name) (t : Tree) → Has all one → Has one.worlds w → MeansName one.context.me one.context.scopes given (in_world w.name.text) x t → SaysType all given (world_owner one w) x t
+  includes_type : (one : PackageTexts) (w : WorldScope) (i : IncludedTree) (names : List IncludeName) (x y : Name) (t u : Tree)
+      → IsIncludeWritten all one w i names → SaysType all given (included_owner one i) x t → IsRenamed names x y → IsRenamedTree names (included_owner one i) (world_owner one w) t u → SaysType all given (world_owner one w) y u
+
 -- the world has an interface on that side
 pub data SaysInterface (all : List PackageTexts) (side : Side) : Owner → Owner → Type 0 where
   says_interface : (one : PackageTexts) (w : WorldScope) (l : ListedTree) (whose : Owner) → Has all one → Has one.worlds w → Has w.members (scope.listed l) → l.side ≡ side → extern_owner one.context w.name.text l l.kind ≡ Some whose
@@ -89,10 +97,18 @@ pub record IsInterfaceSaid (all : List PackageTexts) (owners : Owners) (side : S
   pub owner : slice_get owners.interfaces id ≡ Some whose
   pub says : SaysInterface all side w whose
 
--- all functions and interfaces of a side are what texts say
-pub record IsSideSaid (all : List PackageTexts) (given : Owner → Name → Tree) (owners : Owners) (types : List TypeDef) (side : Side) (w : Owner) (es : List (WorldKey × WorldItem)) : Type 0 where
-  pub functions : (key : WorldKey) (f : Function) → Has es (key, item.Function f) → IsFunctionSaid all given owners types side w f
+pub record IsTypeSaid (all : List PackageTexts) (given : Owner → Name → Tree) (owners : Owners) (types : List TypeDef) (w : Owner) (key : WorldKey) (id : ℕ) : Type 0 where
+  pub spelling : Name
+  pub known_by : known key ≡ spelled spelling
+  pub tree : Tree
+  pub stands : HasTree owners given types id tree
+  pub says : SaysType all given w spelling tree
+
+-- all functions, interfaces and types of a side are what texts say
+pub record IsSideSaid (all : List PackageTexts) (given : Owner → Name → Tree) (owners : Owners) (arena : List TypeDef) (side : Side) (w : Owner) (es : List (WorldKey × WorldItem)) : Type 0 where
+  pub functions : (key : WorldKey) (f : Function) → Has es (key, item.Function f) → IsFunctionSaid all given owners arena side w f
   pub interfaces : (key : WorldKey) (id : ℕ) (gate : Stability) (span : Span) → Has es (key, item.Interface id gate span) → IsInterfaceSaid all owners side w id
+  pub types : (key : WorldKey) (id : ℕ) (span : Span) → Has es (key, item.TypeItem id span) → IsTypeSaid all given owners arena w key id
 
 pub record IsWorldSaid (all : List PackageTexts) (given : Owner → Name → Tree) (owners : Owners) (types : List TypeDef) (w : Owner) (d : World) : Type 0 where
   pub imports : IsSideSaid all given owners types Import w d.imports.entries

@@ -86,4 +86,5 @@ pub record IsWorldMeant (given : Owner → Name → Tree) (c : Context) (owners 
   pub exported_functions : (key : WorldKey) (f : Function) → Has exports (key, item.Function f) → IsOwnFunctionMeant given c owners types ws name Export f
   pub imported : (key : WorldKey) (id : ℕ) (gate : Stability) (span : Span) → Has imports (key, item.Interface id gate span) → IsInterfaceListed c owners ws name Import id
   pub exported : (key : WorldKey) (id : ℕ) (gate : Stability) (span : Span) → Has exports (key, item.Interface id gate span) → IsInterfaceListed c owners ws name Export id
+  pub no_exported_types : (key : WorldKey) (id : ℕ) (span : Span) → Has exports (key, item.TypeItem id span) → ⊥
   pub included : (n : WorldInclude) → Has includes n → IsIncludeMeant c owners ws name n

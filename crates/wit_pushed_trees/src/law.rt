@@ -221,7 +221,7 @@ pub fn law_empty_worlds_are_said()
     ensures { EmptyWorldsAreSaid }
 {}
 
-/// Each function and each interface that a world of a graph imports or exports is one that texts say: its own text, or the text of a world that it includes,
+/// Each function, interface and type that a world of a graph imports or exports is one that texts say: its own text, or the text of a world that it includes,
 /// and so on, under names that change, types of an included world being the including one's. A function takes, under the names of the text, and gives what
 /// is written there, each name standing for what it means there by lexical scope. So it is, with one package's texts more, when `Graph::push` has answered for
 /// that package (WIT, Item: `world`, `include`, Use, Types).
