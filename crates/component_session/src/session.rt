@@ -3,7 +3,9 @@
 ghost use Rattle.std.specs.Prelude.{◌≡◌, ℕ, ◌<◌, ◌∷◌, [], length, Some, Err, IfOk, OnOk, OnErr, IfErr, MatchResult, option_map};
 ghost use Rattle.component_session.specs.Refusals.{IsModuleCause};
 ghost use Rattle.component_session.specs.Coming.{files_of_groups};
+ghost use Rattle.text_graphs.specs.Coming as coming;
 ghost use Rattle.text_graphs.specs.Coming.{ComeOfTexts};
+ghost use Rattle.text_graphs.specs.Meant.{MeansItsTexts};
 ghost use Rattle.component_session.specs.Handed.{pairs_of};
 ghost use Rattle.wasm_format.specs.Grammar.{IsModule};
 ghost use Rattle.wasm_format.specs.Module.{ModuleValue};
@@ -22,6 +24,9 @@ use crate::options::Options;
 use std::alloc::{AllocError, Global};
 use std::collections::HashMap;
 use std::marker::Model;
+use text_graphs::{
+    law_equal_names_are_the_same, law_same_names_are_equal, law_text_graphs_mean_their_texts,
+};
 use wasm_format::read_module;
 use wit_component::StringEncoding;
 use wit_resolution::{
@@ -118,6 +123,19 @@ impl<'a> Session<'a> {
         ensures { ComeOfTexts ⟦<PackageName as PartialEq>⟧.eq self.now.resolved }
     {
         let _ = &self.resolve;
+    }
+
+    /// What holds of each session: every name of its packages means what scope gives it over all texts that were pushed. Each interface and each world is
+    /// of the package of one of these and means what its text does; what is taken of another package is what stands here under the names of that package
+    /// and of its interface; and all that a world imports and exports is what texts say, its own or those of worlds that it includes (WIT, Packages, Items,
+    /// Use, Types).
+    pub fn law_packages_mean_their_texts(&self)
+        ensures { (come : ComeOfTexts ⟦<PackageName as PartialEq>⟧.eq self.now.resolved) × MeansItsTexts (coming.pushes ⟦<PackageName as PartialEq>⟧.eq self.now.resolved come) self.now.resolved.graph }
+    {
+        self.law_packages_come_of_texts();
+        law_same_names_are_equal();
+        law_equal_names_are_the_same();
+        law_text_graphs_mean_their_texts();
     }
 
     /// What holds of each session: the chosen world is there.
