@@ -6,6 +6,7 @@ ghost use Rattle.component_session.specs.Coming.{files_of_groups};
 ghost use Rattle.text_graphs.specs.Coming as coming;
 ghost use Rattle.text_graphs.specs.Coming.{ComeOfTexts};
 ghost use Rattle.text_graphs.specs.Meant.{MeansItsTexts};
+ghost use Rattle.text_graphs.specs.There.{AreAllThere};
 ghost use Rattle.component_session.specs.Handed.{pairs_of};
 ghost use Rattle.wasm_format.specs.Grammar.{IsModule};
 ghost use Rattle.wasm_format.specs.Module.{ModuleValue};
@@ -26,6 +27,7 @@ use std::collections::HashMap;
 use std::marker::Model;
 use text_graphs::{
     law_equal_names_are_the_same, law_same_names_are_equal, law_text_graphs_mean_their_texts,
+    law_text_packages_are_there,
 };
 use wasm_format::read_module;
 use wit_component::StringEncoding;
@@ -127,15 +129,17 @@ impl<'a> Session<'a> {
 
     /// What holds of each session: every name of its packages means what scope gives it over all texts that were pushed. Each interface and each world is
     /// of the package of one of these and means what its text does; what is taken of another package is what stands here under the names of that package
-    /// and of its interface; and all that a world imports and exports is what texts say, its own or those of worlds that it includes (WIT, Packages, Items,
-    /// Use, Types).
+    /// and of its interface; and all that a world imports and exports is what texts say, its own or those of worlds that it includes. All packages of the texts
+    /// are there under their names, also nested ones, with each interface that stays by the features that were active when they were pushed (WIT, Packages,
+    /// Nested Packages, Items, Feature Gates, Use, Types).
     pub fn law_packages_mean_their_texts(&self)
-        ensures { (come : ComeOfTexts ⟦<PackageName as PartialEq>⟧.eq self.now.resolved) × MeansItsTexts (coming.pushes ⟦<PackageName as PartialEq>⟧.eq self.now.resolved come) self.now.resolved.graph }
+        ensures { (come : ComeOfTexts ⟦<PackageName as PartialEq>⟧.eq self.now.resolved) × MeansItsTexts (coming.pushes ⟦<PackageName as PartialEq>⟧.eq self.now.resolved come) self.now.resolved.graph × AreAllThere (coming.pushes_with ⟦<PackageName as PartialEq>⟧.eq self.now.resolved come) self.now.resolved.graph.tables.packages }
     {
         self.law_packages_come_of_texts();
         law_same_names_are_equal();
         law_equal_names_are_the_same();
         law_text_graphs_mean_their_texts();
+        law_text_packages_are_there();
     }
 
     /// What holds of each session: the chosen world is there.

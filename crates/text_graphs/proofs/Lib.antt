@@ -1,3 +1,4 @@
 pub mod Induction
 pub mod Named
 pub mod Meant
+pub mod There

@@ -1,5 +1,5 @@
 -- Packages that are resolved come of texts alone (WIT, Packages).
-use Rattle.std.specs.Prelude.{◌≡◌, ◌++◌, [], ℕ, Bool, List}
+use Rattle.std.specs.Prelude.{◌≡◌, ◌++◌, [], ℕ, Bool, List, map}
 use Rattle.wit_features.specs.Features.{FeatureSet}
 use Rattle.wit_resolution.specs.Pushes.{Resolved, nothing_resolved, AreTextsPushed, AreTextsRefused}
 use Rattle.wit_types.specs.declared.«package».PackageName.{PackageName}
@@ -26,3 +26,13 @@ module _ (eq : PackageName → PackageName → Bool) where
   abbrev pub pushes : (r : Resolved) → ComeOfTexts r → List (List SourceText)
   pushes _ nothing = []
   pushes _ (after old new come call) = pushes old come ++ pushed_by old new call
+
+  -- and with each the features that were active then
+  abbrev pub pushed_with : (old new : Resolved) → IsCall old new → List (FeatureSet × List SourceText)
+  pushed_with old new (features set is) = []
+  pushed_with old new (pushed files id is) = map (λ (source : List SourceText). (old.features, source)) files
+  pushed_with old new (refused files is) = []
+
+  abbrev pub pushes_with : (r : Resolved) → ComeOfTexts r → List (FeatureSet × List SourceText)
+  pushes_with _ nothing = []
+  pushes_with _ (after old new come call) = pushes_with old come ++ pushed_with old new call

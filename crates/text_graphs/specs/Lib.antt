@@ -2,3 +2,4 @@ pub mod Coming
 pub mod Graphs
 pub mod Owned
 pub mod Meant
+pub mod There

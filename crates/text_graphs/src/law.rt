@@ -3,6 +3,7 @@
 ghost use Rattle.text_graphs.specs.Graphs.{NamesTellInterfacesApart, TextGraphsAreNamed};
 ghost use Rattle.text_graphs.specs.Meant.{TextGraphsMeanTheirTexts};
 ghost use Rattle.text_graphs.specs.Owned.{TextGraphsHaveOwners};
+ghost use Rattle.text_graphs.specs.There.{TextPackagesAreThere};
 
 use wit_item_names::law_names_tell_interfaces_apart;
 use wit_labelled_graphs::{
@@ -20,12 +21,13 @@ use wit_pushed_trees::{
     law_empty_graphs_are_meant, law_empty_graphs_are_owned, law_empty_graphs_have_names_stand,
     law_empty_graphs_have_types_known, law_empty_worlds_are_meant, law_empty_worlds_are_said,
     law_graphs_give_their_names, law_moved_packages_have_owners,
-    law_moved_packages_mean_their_texts, law_moved_types_are_known,
-    law_moved_worlds_are_named_apart, law_pushed_graphs_are_owned,
+    law_moved_packages_have_their_interfaces, law_moved_packages_mean_their_texts,
+    law_moved_types_are_known, law_moved_worlds_are_named_apart, law_pushed_graphs_are_owned,
     law_pushed_graphs_have_names_stand, law_pushed_graphs_have_trees,
-    law_pushed_graphs_mean_their_texts, law_pushed_types_are_known, law_pushed_worlds_are_meant,
-    law_pushed_worlds_are_said, law_resolved_packages_are_of_texts,
-    law_resolved_packages_have_owners, law_resolved_types_are_known,
+    law_pushed_graphs_mean_their_texts, law_pushed_packages_list_their_interfaces,
+    law_pushed_types_are_known, law_pushed_worlds_are_meant, law_pushed_worlds_are_said,
+    law_resolved_packages_are_of_texts, law_resolved_packages_have_owners,
+    law_resolved_packages_have_their_interfaces, law_resolved_types_are_known,
     law_resolved_worlds_are_named_apart,
 };
 use wit_well_formed::{
@@ -108,4 +110,15 @@ pub fn law_text_graphs_have_owners()
     ensures { TextGraphsHaveOwners }
 {
     law_text_graphs_mean_their_texts();
+}
+
+/// All packages of the texts that were pushed are there: each of these is read, and its files, and each package that is nested in one, are resolved to a package
+/// of which the name is there; and of the interfaces of the files each that stays, by the features that were active then, stands there under its name (WIT, Packages,
+/// Nested Packages, Package Names, Feature Gates).
+pub fn law_text_packages_are_there()
+    ensures { TextPackagesAreThere }
+{
+    law_resolved_packages_have_their_interfaces();
+    law_moved_packages_have_their_interfaces();
+    law_pushed_packages_list_their_interfaces();
 }

@@ -5,7 +5,7 @@ mod Graphs
 mod Spans
 mod Asking
 mod Names
-mod Finding
+pub mod Finding
 mod Given
 mod Owning
 mod Tables
@@ -19,3 +19,4 @@ mod Wholes
 mod Meant
 mod MeantWorlds
 mod Said
+mod There

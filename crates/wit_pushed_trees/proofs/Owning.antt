@@ -42,7 +42,7 @@ place_last : (ps : Places) (q : Option ℕ) → place_of (ps ++ q ∷ []) (lengt
 place_last [] q = refl
 place_last (p ∷ ps) q = place_last ps q
 
-rest : (n i : ℕ) → n ≤ i → (k : ℕ) × (i ≡ n + k)
+pub rest : (n i : ℕ) → n ≤ i → (k : ℕ) × (i ≡ n + k)
 rest zero i l = (i, omega arith)
 rest (suc n) zero l = absurd (omega (arith, l))
 rest (suc n) (suc i) l = (let r = rest n i (omega (arith, l)) in (r.0, (let e : i ≡ n + r.0 = r.1 in omega (arith, e))))

@@ -13,3 +13,4 @@ pub mod Whole
 pub mod Meant
 pub mod MeantWorlds
 pub mod Said
+pub mod There

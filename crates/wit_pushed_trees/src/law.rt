@@ -12,6 +12,7 @@ ghost use Rattle.wit_pushed_trees.specs.Owned.{EmptyGraphsAreOwned, MovedPackage
 ghost use Rattle.wit_pushed_trees.specs.Packages.{MovedPackagesMeanTheirTexts, ResolvedPackagesMeanTheirTexts};
 ghost use Rattle.wit_pushed_trees.specs.Pushed.{PushedInterfacesMeanTheirTexts, PushedTypesStandForTheSame, PushedWorldsMeanTheirTexts};
 ghost use Rattle.wit_pushed_trees.specs.Said.{EmptyWorldsAreSaid, PushedWorldsAreSaid};
+ghost use Rattle.wit_pushed_trees.specs.There.{MovedPackagesHaveTheirInterfaces, PushedPackagesListTheirInterfaces, ResolvedPackagesHaveTheirInterfaces};
 ghost use Rattle.wit_pushed_trees.specs.Whole.{PushedGraphsHaveTrees, PushedGraphsKeepWhatWas};
 
 use wit_copied_trees::{
@@ -233,3 +234,18 @@ pub fn law_pushed_worlds_are_said()
     law_included_types_stand_for_the_same();
     law_included_functions_stand_for_the_same();
 }
+
+/// Each interface that has a name in the texts of a package is one of the package's own, if files are resolved to it (WIT, Item: `interface`).
+pub fn law_resolved_packages_have_their_interfaces()
+    ensures { ResolvedPackagesHaveTheirInterfaces }
+{}
+
+/// It is wherever the texts stand among others.
+pub fn law_moved_packages_have_their_interfaces()
+    ensures { MovedPackagesHaveTheirInterfaces }
+{}
+
+/// And it is there under its name when `Graph::push` has answered for the package, if it stays by the features that are active (WIT, Feature Gates).
+pub fn law_pushed_packages_list_their_interfaces()
+    ensures { PushedPackagesListTheirInterfaces }
+{}
