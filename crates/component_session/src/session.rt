@@ -129,11 +129,13 @@ impl<'a> Session<'a> {
 
     /// What holds of each session: every name of its packages means what scope gives it over all texts that were pushed. Each interface and each world is
     /// of the package of one of these and means what its text does; what is taken of another package is what stands here under the names of that package
-    /// and of its interface; and all that a world imports and exports is what texts say, its own or those of worlds that it includes. All packages of the texts
-    /// are there under their names, also nested ones, with each interface that stays by the features that were active when they were pushed (WIT, Packages,
-    /// Nested Packages, Items, Feature Gates, Use, Types).
+    /// and of its interface; a function of a resource is of that for which the resource's name stands; and all that a world imports and exports is what texts say,
+    /// its own or those of worlds that it includes. All packages of the texts are there under their names, also nested ones, with each interface and each world that
+    /// has a name and stays by the features that were active when they were pushed, and with what of its own text stays: types and functions under their names; what
+    /// a world imports and exports, under labels or, by paths, as the interfaces that have these names, with the members of an interface that stands in it; and all
+    /// that the worlds bring that it includes, under names that change (WIT, Packages, Nested Packages, Items, Feature Gates, Use, Types).
     pub fn law_packages_mean_their_texts(&self)
-        ensures { (come : ComeOfTexts ⟦<PackageName as PartialEq>⟧.eq self.now.resolved) × MeansItsTexts (coming.pushes ⟦<PackageName as PartialEq>⟧.eq self.now.resolved come) self.now.resolved.graph × AreAllThere (coming.pushes_with ⟦<PackageName as PartialEq>⟧.eq self.now.resolved come) self.now.resolved.graph.tables.packages }
+        ensures { (come : ComeOfTexts ⟦<PackageName as PartialEq>⟧.eq self.now.resolved) × MeansItsTexts (coming.pushes ⟦<PackageName as PartialEq>⟧.eq self.now.resolved come) self.now.resolved.graph × AreAllThere (coming.pushes_with ⟦<PackageName as PartialEq>⟧.eq self.now.resolved come) self.now.resolved.graph.tables }
     {
         self.law_packages_come_of_texts();
         law_same_names_are_equal();

@@ -4,6 +4,7 @@ ghost use Rattle.std.specs.Prelude.{◌≡◌, List, ℕ, [], ◌∷◌, ◌++�
 ghost use Rattle.name_places.specs.FirstPlaces.{place_of, AreFirst, IsTable};
 
 use indexmap::IndexMap;
+use smallvec::SmallVec;
 use std::alloc::{AllocError, Global};
 use std::marker::Model;
 
@@ -14,7 +15,8 @@ const FEW: usize = 8;
 #[derive(Drop)]
 pub struct FirstPlaces<'a> {
     alloc: Global,
-    names: Vec<&'a str>,
+    /// Most scopes have few names, which take no memory of their own.
+    names: SmallVec<&'a str, 4>,
     table: Option<IndexMap<&'a str, usize>>,
 }
 
@@ -36,7 +38,7 @@ impl<'a> FirstPlaces<'a> {
     {
         FirstPlaces {
             alloc,
-            names: Vec::new(alloc),
+            names: SmallVec::new(alloc),
             table: None,
         }
     }
@@ -58,7 +60,7 @@ impl<'a> FirstPlaces<'a> {
     {
         self.names.reserve(1)?;
         note(self.alloc, &mut self.table, self.names.as_slice(), name)?;
-        self.names.push(name).unwrap();
+        self.names.push_reserved(name);
         Ok(())
     }
 }

@@ -1,5 +1,6 @@
 -- What each package of texts keeps of a graph is so of each graph that comes of texts.
 use Rattle.std.proofs.Common.{◌≡◌, ℕ, Bool, inl, inr, Some, List, [], ◌∷◌, ◌++◌, map, refl, sym, subst, ap, ◌∙◌}
+use Rattle.std.proofs.lemmas.List.{map-append}
 use Rattle.std.specs.Prelude.{slice_get}
 use Rattle.std.specs.List.{AllZip}
 use Rattle.wit_words.specs.Sources.{SourceText, total}
@@ -20,7 +21,7 @@ use Rattle.wit_package_order.proofs.Rows.{has_there}
 use Rattle.wit_resolution.specs.Groups.{packages_of, packages_behind}
 use Rattle.wit_resolution.specs.Texts.{IsGroupOf}
 use Rattle.wit_resolution.specs.Pushes.{Resolved, AreTextsPushed}
-use Rattle.text_graphs.specs.Coming.{IsCall, features, pushed, refused, ComeOfTexts, nothing, after, pushed_by, pushes}
+use Rattle.text_graphs.specs.Coming.{IsCall, features, pushed, refused, ComeOfTexts, nothing, after, pushed_with, pushes_with, pushes}
 
 -- ---- packages
 
@@ -108,11 +109,21 @@ module _ (eq : PackageName → PackageName → Bool) (P : List (List SourceText)
         let all : Each (IsAmong Q (before ++ files)) (packages_behind old.texts h.groups) = λ p has. (let e = each p has in (e.0, has_back before files e.0 e.1, e.2)) in
         pushed_each kept (before ++ files) old.features old.graph t.sorted new.graph (λ p has. all p (sorted_has (packages_behind old.texts h.groups) t.order t.sorted p t.are_sorted has)) t.pushed whole (behind before files old.graph so)
 
-    of_call : (before : List (List SourceText)) (old new : Resolved) (call : IsCall eq old new) → IsGraph old.graph → P before old.graph → IsGraph new.graph × P (before ++ pushed_by eq old new call) new.graph
+    abbrev texts_of : List (FeatureSet × List SourceText) → List (List SourceText)
+    texts_of es = map (λ (e : FeatureSet × List SourceText). e.1) es
+
+    texts_alone : (set : FeatureSet) (files : List (List SourceText)) → files ≡ texts_of (map (λ (source : List SourceText). (set, source)) files)
+    texts_alone set [] = refl
+    texts_alone set (f ∷ files) = ap (λ (fs : List (List SourceText)). f ∷ fs) (texts_alone set files)
+
+    of_call : (before : List (List SourceText)) (old new : Resolved) (call : IsCall eq old new) → IsGraph old.graph → P before old.graph → IsGraph new.graph × P (before ++ texts_of (pushed_with eq old new call)) new.graph
     of_call before old new (features set is) whole so = (let same : new.graph ≡ old.graph = ap (λ (r : Resolved). r.graph) is in (subst IsGraph (sym same) whole, subst (P (before ++ [])) (sym same) (behind before [] old.graph so)))
-    of_call before old new (pushed files id is) whole so = of_pushed before old new files id is whole so
+    of_call before old new (pushed files id is) whole so = (let r = of_pushed before old new files id is whole so in (r.0, subst (λ (fs : List (List SourceText)). P (before ++ fs) new.graph) (texts_alone old.features files) r.1))
     of_call before old new (refused files is) whole so = (subst IsGraph (sym is.kept.graph) whole, subst (P (before ++ [])) (sym is.kept.graph) (behind before [] old.graph so))
 
     pub of_texts_all : P [] (record { tables = graph.nothing; names = [] }) → (r : Resolved) (come : ComeOfTexts eq r) → IsGraph r.graph × P (pushes eq r come) r.graph
     of_texts_all first r nothing = (nothing_is_graph graph.nothing [] refl refl, first)
-    of_texts_all first r (after old new come call) = (let was = of_texts_all first old come in of_call (pushes eq old come) old new call was.0 was.1)
+    of_texts_all first r (after old new come call) =
+        let was = of_texts_all first old come in
+        let now = of_call (pushes eq old come) old new call was.0 was.1 in
+        (now.0, subst (λ (fs : List (List SourceText)). P fs new.graph) (sym (map-append (λ (e : FeatureSet × List SourceText). e.1) (pushes_with eq old come) (pushed_with eq old new call))) now.1)

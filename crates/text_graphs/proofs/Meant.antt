@@ -11,7 +11,6 @@ use Rattle.wit_types.specs.Package.{package_text, with_version}
 use Rattle.wit_types.specs.declared.«package».Package.{Package}
 use Rattle.wit_types.specs.declared.«package».PackageName.{PackageName}
 use Rattle.wit_types.specs.declared.«package».UnresolvedPackage.{UnresolvedPackage}
-use Rattle.wit_features.specs.Features.{FeatureSet}
 use Rattle.wit_arena.specs.Tree as tree
 use Rattle.wit_arena.specs.Tree.{PackageText}
 use Rattle.wit_arena.specs.Meaning.{Has}
@@ -19,7 +18,7 @@ use Rattle.wit_arena.proofs.Lists.{has_none, get_more}
 use Rattle.wit_arena.proofs.Unfolding.{whole_none}
 use Rattle.wit_item_names.specs.Placed.{IsNewName}
 use Rattle.wit_nested.specs.Nested.{own_files, nested_files}
-use Rattle.wit_package.specs.Group.{AreRead, AreParsed}
+use Rattle.wit_package.specs.Group.{AreRead}
 use Rattle.wit_package.specs.Steps.{Resolves}
 use Rattle.wit_labelled_packages.specs.Names.{ParsedNamesReadBack, MovedNamesReadBack}
 use Rattle.wit_new_names.specs.Names.{IsReadName, SeesSameNames}
@@ -37,9 +36,10 @@ use Rattle.wit_pushed_trees.specs.Owned.{AreOwnersOf, ResolvedPackagesHaveOwners
 use Rattle.wit_pushed_trees.specs.Packages.{MovedPackagesMeanTheirTexts}
 use Rattle.wit_pushed_trees.specs.Said.{AreWorldsSaid, EmptyWorldsAreSaid, PushedWorldsAreSaid}
 use Rattle.wit_pushed_trees.specs.Whole.{HasTrees, PushedGraphsHaveTrees}
+use Rattle.text_graphs.specs.Graphs.{TextGraphsAreNamed}
 use Rattle.text_graphs.specs.Meant.{AreFilesOf, own, nested, IsSaidBy, TextGraphsMeanTheirTexts}
 use Rattle.text_graphs.specs.Owned.{HasOwners}
-use Rattle.text_graphs.proofs.Induction.{Each, OfTexts, Moved, IsKept, IsKeptBehind, has_front, of_texts_all}
+use Rattle.text_graphs.proofs.Induction.{OfTexts, Moved, IsKept, IsKeptBehind, has_front, of_texts_all}
 
 -- ---- texts of names
 
@@ -190,8 +190,8 @@ module _ (laws : Laws) where
     worlds_said = so.worlds_said;
   }
 
-  pub text_graphs_meant : TextGraphsMeanTheirTexts
-  text_graphs_meant eq r tells sees come =
+  pub text_graphs_meant : TextGraphsAreNamed → TextGraphsMeanTheirTexts
+  text_graphs_meant named eq r tells sees come =
       let first : IsMeantGraph [] (record { tables = graph.nothing; names = [] }) = record {
         has = record { names_stand = laws.empty_stand; owners = _; owned = laws.empty_owned; known = laws.empty_known };
         trees = λ given. whole_none (record { interfaces = []; worlds = [] }) given;
@@ -204,6 +204,7 @@ module _ (laws : Laws) where
       } in
       let all = of_texts_all eq IsMeantGraph IsMeantPackage of_texts moved (kept eq tells sees) (behind eq) first r come in
       record {
+        named = named eq r sees come;
         has = all.1.has;
         trees = all.1.trees;
         gives = laws.give all.1.has.owners r.graph.tables (λ w x. tree.primitive tree.bool) all.1.has.owned all.0.whole all.1.has.known (all.1.trees (λ w x. tree.primitive tree.bool));

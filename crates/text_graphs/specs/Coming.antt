@@ -17,17 +17,7 @@ module _ (eq : PackageName → PackageName → Bool) where
     nothing : ComeOfTexts nothing_resolved
     after : (old new : Resolved) → ComeOfTexts old → IsCall old new → ComeOfTexts new
 
-  -- the texts that calls pushed, those of each package together
-  abbrev pub pushed_by : (old new : Resolved) → IsCall old new → List (List SourceText)
-  pushed_by old new (features set is) = []
-  pushed_by old new (pushed files id is) = files
-  pushed_by old new (refused files is) = []
-
-  abbrev pub pushes : (r : Resolved) → ComeOfTexts r → List (List SourceText)
-  pushes _ nothing = []
-  pushes _ (after old new come call) = pushes old come ++ pushed_by old new call
-
-  -- and with each the features that were active then
+  -- the texts that calls pushed, those of each package together, with the features that were active then
   abbrev pub pushed_with : (old new : Resolved) → IsCall old new → List (FeatureSet × List SourceText)
   pushed_with old new (features set is) = []
   pushed_with old new (pushed files id is) = map (λ (source : List SourceText). (old.features, source)) files
@@ -36,3 +26,7 @@ module _ (eq : PackageName → PackageName → Bool) where
   abbrev pub pushes_with : (r : Resolved) → ComeOfTexts r → List (FeatureSet × List SourceText)
   pushes_with _ nothing = []
   pushes_with _ (after old new come call) = pushes_with old come ++ pushed_with old new call
+
+  -- the texts alone
+  abbrev pub pushes : (r : Resolved) → ComeOfTexts r → List (List SourceText)
+  pushes r come = map (λ (e : FeatureSet × List SourceText). e.1) (pushes_with r come)

@@ -1,5 +1,5 @@
 -- Names of a graph of texts mean what scope gives them in these (WIT, Packages, Items, Use, Types).
-use Rattle.std.specs.Prelude.{◌≡◌, ℕ, Bool, List, [], ◌∷◌}
+use Rattle.std.specs.Prelude.{◌≡◌, Bool, List, [], ◌∷◌}
 use Rattle.wit_words.specs.Sources.{SourceText}
 use Rattle.wit_order.specs.Order as order
 use Rattle.wit_syntax.specs.Ast.{FileTree}
@@ -19,6 +19,7 @@ use Rattle.wit_pushed_trees.specs.MeantWorlds.{AreWorldsMeantBy}
 use Rattle.wit_pushed_trees.specs.Said.{AreWorldsSaid}
 use Rattle.wit_pushed_trees.specs.Whole.{HasTrees}
 use Rattle.text_graphs.specs.Coming.{ComeOfTexts, pushes}
+use Rattle.text_graphs.specs.Graphs.{IsTextGraph}
 use Rattle.text_graphs.specs.Owned.{HasOwners}
 
 -- the files of one package: all without what is nested in them, or a nested one
@@ -36,10 +37,11 @@ pub record IsSaidBy (source : List SourceText) (texts : PackageTexts) : Type 0 w
   pub resolves : Resolves files «package»
   pub is : texts ≡ texts_of files «package» resolves
 
--- all that a graph holds has an owner, and each type stands for something; for each name of an interface the graph gives what stands in it under that; and where
--- that is given for names that a text takes of another package, each interface and each world means what its text does, which is one of those pushed, and what a world
--- imports and exports in all is what texts say of it and of those that it includes
+-- functions of worlds stand under their names, and names tell apart what they have to; all that a graph holds has an owner, and each type stands for something; for
+-- each name of an interface the graph gives what stands in it under that; and where that is given for names that a text takes of another package, each interface and
+-- each world means what its text does, which is one of those pushed, and what a world imports and exports in all is what texts say of it and of those that it includes
 pub record MeansItsTexts (files : List (List SourceText)) (g : Graph) : Type 0 where
+  pub named : IsTextGraph g
   pub has : HasOwners g
   pub trees : HasTrees has.owners g.tables
   pub gives : Gives has.owners g.tables

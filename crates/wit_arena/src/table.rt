@@ -4,12 +4,13 @@ ghost use Rattle.std.specs.Prelude.{◌≡◌, ℕ, ◌<◌, ◌∷◌, ◌++◌
 ghost use Rattle.wit_arena.specs.Meaning.{Has};
 
 use name_places::FirstPlaces;
+use smallvec::SmallVec;
 use std::alloc::{AllocError, Global};
 use std::marker::Model;
 use wit_types::TypeId;
 
 /// A type under its name.
-#[derive(Drop)]
+#[derive(Default, Drop)]
 struct Entry<'a> {
     name: &'a str,
     index: usize,
@@ -19,7 +20,7 @@ struct Entry<'a> {
 #[derive(Drop)]
 pub struct Table<'a> {
     names: FirstPlaces<'a>,
-    entries: Vec<Entry<'a>>,
+    entries: SmallVec<Entry<'a>, 4>,
 }
 
 impl<'a> Model for Table<'a> {
@@ -40,7 +41,7 @@ impl<'a> Table<'a> {
     {
         Table {
             names: FirstPlaces::new(alloc),
-            entries: Vec::new(alloc),
+            entries: SmallVec::new(alloc),
         }
     }
 
@@ -50,7 +51,8 @@ impl<'a> Table<'a> {
         ensures none { IfNone result ((i : ℕ) → Has self.now (name.now, i) → ⊥) }
     {
         let place = self.names.first(name)?;
-        Some(TypeId::from_index(self.entries[place].index))
+        let (_, id) = self.entry(place);
+        Some(id)
     }
 
     /// Puts a type under a name that isn't there; it goes last. Where memory is wanting nothing changes.
@@ -59,14 +61,10 @@ impl<'a> Table<'a> {
         ensures ok { OnOk result (self.new ≡ self.old ++ (name.entry.now, id) ∷ []) }
         ensures err { OnErr result (self.new ≡ self.old) }
     {
+        let index = id.index();
         self.entries.reserve(1)?;
         self.names.push(name)?;
-        self.entries
-            .push(Entry {
-                name,
-                index: id.index(),
-            })
-            .unwrap();
+        self.entries.push_reserved(Entry { name, index });
         Ok(())
     }
 
@@ -74,7 +72,7 @@ impl<'a> Table<'a> {
     pub fn len(&self) -> usize
         ensures { result ≡ length self.now }
     {
-        self.entries.len()
+        self.entries.as_slice().len()
     }
 
     /// The name at a place below that number, and what stands under it.
@@ -82,7 +80,7 @@ impl<'a> Table<'a> {
         requires { place < length self.now }
         ensures { slice_get self.now place ≡ Some (result.0.now, result.1) }
     {
-        let Entry { name, index } = &self.entries[place];
+        let Entry { name, index } = &self.entries.as_slice()[place];
         (*name, TypeId::from_index(*index))
     }
 }

@@ -11,7 +11,7 @@ ghost use Rattle.wit_resolved_scopes.specs.InArena.{Context};
 ghost use Rattle.wit_interfaces.specs.Adding as spec;
 
 use wit_arena::Types;
-use wit_orders::scope_types;
+use wit_orders::{are_types, scope_types};
 use wit_package_types::Known;
 use wit_resolved_scopes::{ResolvedScope, resolve_scope};
 use wit_resources::Natures;
@@ -36,6 +36,10 @@ pub fn bring_members<'a>(
     ensures kept { (c : Context) (o : Place) → spec.MayBring c o owner known.now types.old (scope_view.members members.now) → OnOk result (IsKept (spec.MembersBreak c o (scope_view.members members.now))) }
     ensures cause { (c : Context) (o : Place) → spec.MayBring c o owner known.now types.old (scope_view.members members.now) → IfErr result (IsFaultOf (spec.MembersBreak c o (scope_view.members members.now))) }
 {
+    // An interface of types alone, as there are many, needs no copies of them.
+    if are_types(members) {
+        return resolve_scope(types, natures, known, owner, members, members);
+    }
     let declared = scope_types(types.allocator(), members)?;
     resolve_scope(types, natures, known, owner, declared.as_slice(), members)
 }

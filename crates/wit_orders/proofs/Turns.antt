@@ -1,5 +1,5 @@
 -- Types of which none names another stand in their order.
-use Rattle.std.proofs.Common.{◌≡◌, ℕ, ◌<◌, ◌≤◌, ◌+◌, zero, suc, List, [], ◌∷◌, Option, Some, None, map, length, refl, sym, subst, ap, ◌∙◌, arith}
+use Rattle.std.proofs.Common.{◌≡◌, ℕ, ◌<◌, ◌+◌, suc, List, [], ◌∷◌, Option, Some, map, length, refl, subst, ap, ◌∙◌, arith}
 use Rattle.std.specs.Prelude.{slice_get}
 use Rattle.std.specs.List.{range_with_len}
 use Rattle.std.proofs.lemmas.List.{length-map}
@@ -8,7 +8,7 @@ use Rattle.wit_order.specs.Order.{Has}
 use Rattle.wit_order.proofs.InTurn.{in_turn_least, no_way_back}
 use Rattle.wit_rules.specs.Breaks.{IsKept}
 use Rattle.wit_scopes.specs.Members.{MemberTree}
-use Rattle.wit_orders.specs.Needs.{Entry, NeedsIn, CircleBreaks, IsOrderOf, AreAt, AreSorted, type_entry}
+use Rattle.wit_orders.specs.Needs.{Entry, NeedsIn, CircleBreaks, AreAt, AreSorted, type_entry}
 use Rattle.wit_orders.specs.Rows.{AreWithoutNeeds}
 
 -- what stands at the places in turn

@@ -8,4 +8,4 @@ mod types;
 
 pub use items::item_order;
 pub use order::{Entry, order_of};
-pub use types::{name_nothing, scope_types, sorted_types, type_order, world_types};
+pub use types::{are_types, name_nothing, scope_types, sorted_types, type_order, world_types};

@@ -1,7 +1,8 @@
 //! The types of scopes, and their orders.
 
-ghost use Rattle.std.specs.Prelude.{◌≡◌, ◌<◌, ℕ, ◌++◌, true, false, Some, map, length, slice_get, IfOk, OnOk, IfErr};
+ghost use Rattle.std.specs.Prelude.{◌≡◌, ◌<◌, ℕ, [], ◌∷◌, ◌++◌, true, false, Some, map, length, slice_get, IfOk, OnOk, IfErr};
 ghost use Rattle.wit_order.specs.Order.{Has};
+ghost use Rattle.wit_scopes.specs.Members.{MemberTree};
 ghost use Rattle.wit_scopes.specs.View as scope_view;
 ghost use Rattle.wit_rules.specs.Breaks.{IsKept, IsFaultOf};
 ghost use Rattle.wit_orders.specs.Needs as spec;
@@ -14,11 +15,19 @@ use wit_rules::PackageFault;
 use wit_scopes::{Member, MemberKind, WorldMember};
 use wit_type_names::member_type_names;
 
+/// Whether a member is a type.
+fn is_type(kind: &MemberKind<'_>) -> bool
+    ensures yes { result ≡ true → (m : MemberTree) → spec.type_of (scope_view.member_kind kind.now) m ≡ m ∷ [] }
+    ensures no { result ≡ false → (m : MemberTree) → spec.type_of (scope_view.member_kind kind.now) m ≡ [] }
+{
+    matches!(kind, MemberKind::Used { .. } | MemberKind::Defined(_))
+}
+
 /// Adds a member where it is a type.
 fn add_type<'a>(found: &mut Vec<Member<'a>>, member: &Member<'a>) -> Result<(), AllocError>
     ensures { OnOk result (scope_view.members found.new.items ≡ scope_view.members found.old.items ++ spec.member_type (scope_view.member member.now)) }
 {
-    if let MemberKind::Used { .. } | MemberKind::Defined(_) = &member.kind {
+    if is_type(&member.kind) {
         let copy = member.clone()?;
         found.push(copy)?;
     }
@@ -47,6 +56,19 @@ fn add_world_type<'a>(
         WorldMember::Member(member) => add_type(found, member),
         WorldMember::Listed(_) | WorldMember::Included(_) => Ok(()),
     }
+}
+
+/// Whether all members of an interface are types.
+pub fn are_types(members: &[Member<'_>]) -> bool
+    ensures yes { result ≡ true → spec.types_of (scope_view.members members.now) ≡ scope_view.members members.now }
+    ensures no { result ≡ false → spec.types_of (scope_view.members members.now) ≡ scope_view.members members.now → ⊥ }
+{
+    for member in members {
+        if !is_type(&member.kind) {
+            return false;
+        }
+    }
+    true
 }
 
 /// The types among the members of a world, in their order.

@@ -1,5 +1,5 @@
 -- Names of worlds tell them apart.
-use Rattle.std.proofs.Common.{◌≡◌, ◌<◌, ℕ, ◌+◌, suc, zero, Bool, true, false, List, [], ◌∷◌, ◌++◌, length, Some, None, inl, inr, refl, sym, subst, ap, ◌∙◌, arith}
+use Rattle.std.proofs.Common.{◌≡◌, ◌<◌, ℕ, ◌+◌, suc, zero, Bool, true, false, List, [], ◌∷◌, ◌++◌, length, Some, inl, inr, refl, sym, subst, ap, ◌∙◌, arith}
 use Rattle.std.proofs.lemmas.Option.{same_Some, slice_get_within}
 use Rattle.std.specs.Prelude.{if◌then◌else◌, flat_map, string_bytes, slice_get, map}
 use Rattle.wit_syntax.specs.Ast.{FileTree}
@@ -10,7 +10,7 @@ use Rattle.wit_features.specs.Features.{FeatureSet, stays}
 use Rattle.wit_offsets.specs.Offsets.{world_by, span_at}
 use Rattle.wit_scopes.specs.Scopes as scope
 use Rattle.wit_scopes.specs.Scopes.{WorldScope, ItemScope, WorldMemberTree, ListedTree, ExternKind}
-use Rattle.wit_arena.specs.Tree.{Name, Place, in_world, Owner}
+use Rattle.wit_arena.specs.Tree.{Name, in_world, Owner}
 use Rattle.wit_arena.specs.Meaning.{Has}
 use Rattle.wit_arena.proofs.Lists.{has_none, has_here, has_later, map_has}
 use Rattle.wit_foreign.specs.Items.{worlds_in}

@@ -1,6 +1,6 @@
 -- Packages ask of others by names.
 use Rattle.std.proofs.Common.{◌≡◌, ◌<◌, ℕ, List, [], ◌∷◌, ◌++◌, map, take, length, Option, Some, None, inl, inr, refl, sym, subst, ap, ◌∙◌, arith, ◌≤◌}
-use Rattle.std.proofs.lemmas.List.{length-map, take-map}
+use Rattle.std.proofs.lemmas.List.{take-map}
 use Rattle.std.proofs.lemmas.Option.{same_Some, slice_get_within, slice_get_cases}
 use Rattle.std.specs.declared.alloc.Global.{Global}
 use Rattle.std.specs.Prelude.{String, option_map, slice_get, string_bytes}
@@ -24,7 +24,6 @@ use Rattle.wit_arena.proofs.Lists.{has_none, has_left, get_more, get_last}
 use Rattle.wit_resolved_scopes.specs.Texts.{interface_texts, worlds_of}
 use Rattle.wit_scopes.specs.Scopes.{ItemScope}
 use Rattle.wit_well_formed.proofs.Lists.{got_mapped}
-use Rattle.wit_well_formed.proofs.Offsets.{items_are}
 use Rattle.wit_graph_parts.specs.Own.{asked_types, own_parts}
 use Rattle.wit_package_types.specs.Stability.{IsVersionWhere, no_version, a_version}
 use Rattle.wit_foreign.specs.Needs.{NeedTree}
@@ -37,6 +36,7 @@ use Rattle.wit_package.specs.Resolved.{IsResolved, owner_in, owners_of}
 use Rattle.wit_package.specs.Steps.{Resolves}
 use Rattle.wit_syntax.specs.Ast.{FileTree}
 use Rattle.wit_types.specs.declared.kind.TypeDefKind.TheVariants as kind
+use Rattle.wit_pushed_trees.proofs.Knowing.{same_count}
 use Rattle.wit_pushed_trees.specs.Asked.{text_of, owner_asked, IsWhose, IsName, ResolvedPackagesAskByName, MovedPackagesAskByName}
 
 -- ---- lists
@@ -50,9 +50,6 @@ take_front {X} (x ∷ xs) ys = ap (λ (zs : List X). x ∷ zs) (take_front xs ys
 
 got_front : {X Y : Type 0} (f : X → Y) (n : ℕ) (xs : List X) (k : ℕ) (y : Y) → slice_get (take n (map f xs)) k ≡ Some y → (x : X) × (slice_get (take n xs) k ≡ Some x) × (f x ≡ y)
 got_front {X} {Y} f n xs k y at = got_mapped f (take n xs) k y (ap (λ (ys : List Y). slice_get ys k) (sym (take-map f n xs)) ∙ at)
-
-same_count : (n : ℕ) (p : UnresolvedPackage) → asked_types p ≡ asked_types (package_at n p)
-same_count n p = sym (ap length (items_are (span_at n) p.unknown_type_spans) ∙ length-map p.unknown_type_spans.items (span_at n))
 
 -- ---- names
 
@@ -165,5 +162,5 @@ moved_ask owners p n asks = record {
   items = asks.items;
   types = λ k d at.
       let r = got_front (type_def_by (span_at n)) (asked_types (package_at n p)) p.types k d at in
-      subst IsName r.2 (moved_name n r.0 (asks.types k r.0 (ap (λ (m : ℕ). slice_get (take m p.types) k) (same_count n p) ∙ r.1)));
+      subst IsName r.2 (moved_name n r.0 (asks.types k r.0 (ap (λ (m : ℕ). slice_get (take m p.types) k) (sym (same_count n p)) ∙ r.1)));
 }

@@ -1,6 +1,5 @@
 -- Names are looked up in the tables of a graph.
-use Rattle.std.proofs.Common.{◌≡◌, ◌<◌, ℕ, zero, suc, Bool, true, false, List, [], ◌∷◌, ◌++◌, ◌&&◌, map, length, Option, Some, None, bytes_eq, inl, inr, refl, sym, subst, ap, ◌∙◌, arith}
-use Rattle.std.proofs.lemmas.Bool.{cases_Bool}
+use Rattle.std.proofs.Common.{◌≡◌, ◌<◌, ℕ, zero, suc, Bool, true, false, List, [], ◌∷◌, ◌++◌, ◌&&◌, map, length, Option, Some, None, bytes_eq, refl, sym, subst, ap, ◌∙◌, arith}
 use Rattle.std.proofs.lemmas.Option.{same_Some, slice_get-map}
 use Rattle.std.proofs.lemmas.Slice.Eq.{bytes_eq-Decides}
 use Rattle.std.specs.Prelude.{String, if◌then◌else◌, option_map, string_bytes, slice_get}
@@ -18,7 +17,7 @@ use Rattle.wit_arena.specs.Tree.{Name, PackageText, Place, in_interface, in_worl
 use Rattle.wit_arena.specs.Unfold.{Owners, and_then, flat, named_kind_tree, owner_of, def_tree, def_tree_of, trees_from, trees, ref_tree, IsWhole}
 use Rattle.wit_arena.specs.Standing.{HasTree}
 use Rattle.wit_arena.specs.Meaning.{Has}
-use Rattle.wit_arena.proofs.Lists.{has_none, has_map}
+use Rattle.wit_arena.proofs.Lists.{has_none}
 use Rattle.wit_order.specs.Order as order
 use Rattle.wit_placed.specs.Naming.{AreNamesApart}
 use Rattle.wit_placed.proofs.Members.{has_get}

@@ -1,7 +1,7 @@
 -- Packages that were pushed mean in the graph what they meant.
 use Rattle.std.proofs.Common.{◌≡◌, ℕ, ◌+◌, Bool, true, false, List, [], ◌∷◌, ◌++◌, zero, suc, length, map, Some, String, inl, inr, refl, sym, subst, ap, ◌∙◌, arith}
 use Rattle.std.proofs.lemmas.Option.{same_Some}
-use Rattle.std.specs.Prelude.{if◌then◌else◌, slice_get, string_bytes}
+use Rattle.std.specs.Prelude.{◌&&◌, if◌then◌else◌, slice_get, string_bytes}
 use Rattle.std.specs.declared.alloc.Global.{Global}
 use Rattle.wit_words.specs.declared.source_map.Span.{Span}
 use Rattle.wit_types.specs.declared.function.Param.{Param}
@@ -20,7 +20,7 @@ use Rattle.wit_types.specs.declared.world_key.WorldKey.{WorldKey}
 use Rattle.wit_types.specs.declared.world_key.WorldKey.TheVariants as key
 use Rattle.wit_types.specs.WorldKey.{spelled, known}
 use Rattle.wit_features.specs.Features.{FeatureSet, stays}
-use Rattle.wit_scopes.specs.Members.{MemberTree}
+use Rattle.wit_scopes.specs.Members.{MemberKind, MemberTree, used, defined, function, method, static, constructor}
 use Rattle.wit_scopes.specs.declared.worlds.Side.{Side}
 use Rattle.wit_scopes.specs.declared.worlds.Side.TheVariants.{Import, Export}
 use Rattle.wit_scopes.specs.Scopes.{WorldScope}
@@ -30,7 +30,7 @@ use Rattle.wit_arena.specs.Standing.{Stands}
 use Rattle.wit_arena.specs.Meaning.{Has}
 use Rattle.wit_arena.proofs.Lists.{has_none, has_here, has_later, has_cases, map_has}
 use Rattle.wit_moves.specs.Breaks.{AnyOf, IsKept}
-use Rattle.wit_moves.specs.Moved.{moved_function_kind, Places, place_of, is_placed, is_signature_placed, to, IsMovedFunction}
+use Rattle.wit_moves.specs.Moved.{moved_function_kind, Places, place_of, is_placed, is_resource_placed, is_signature_placed, resource_of, to, IsMovedFunction}
 use Rattle.wit_moves.specs.Interfaces.{AreKept, no_entries, one_goes, one_stays, FunctionsBreak, function_stays, IsMovedInterface}
 use Rattle.wit_moves.specs.Worlds.{item_stays, IsMovedItem, moved_interface, moved_function, moved_type, moved_key, moved_entry, IsMovedSide, SideBreaks}
 use Rattle.wit_moved_trees.specs.Law.{StandForTheSame, MovedNamesStandForTheSame, MovedFunctionsStandForTheSame}
@@ -49,7 +49,7 @@ use Rattle.wit_types.specs.declared.«package».PackageName.{PackageName}
 use Rattle.wit_types.specs.declared.«package».UnresolvedPackage.{UnresolvedPackage}
 use Rattle.wit_graph.specs.Graph.{Graph}
 use Rattle.wit_graph.specs.Push.{IsPushed}
-use Rattle.wit_pushed_trees.specs.Meaning.{is_async, IsFunctionMeant, IsInterfaceMeant, IsOfText}
+use Rattle.wit_pushed_trees.specs.Meaning.{sort_of, IsKindMeant, IsFunctionMeant, IsInterfaceMeant, IsOfText}
 use Rattle.wit_pushed_trees.specs.Worlds.{IsTextOf, IsTypeMeant, IsOwnFunctionMeant, IsInterfaceListed, IsIncludeMeant, IsWorldMeant}
 use Rattle.wit_pushed_trees.specs.Packages.{IsPackageMeant}
 use Rattle.wit_pushed_trees.specs.Pushed.{AreAgreed, PushedTypesStandForTheSame, PushedInterfacesMeanTheirTexts, PushedWorldsMeanTheirTexts}
@@ -75,22 +75,49 @@ kept_was {K} {V} stays changes _ _ (one_stays k v u es fs st change rest) x w ha
 
 -- ---- types and functions
 
-pub async_moved : (goes : ℕ → ℕ) (k : FunctionKind) → is_async (moved_function_kind goes k) ≡ is_async k
-async_moved goes of.Freestanding = refl
-async_moved goes of.AsyncFreestanding = refl
-async_moved goes (of.Method r) = refl
-async_moved goes (of.AsyncMethod r) = refl
-async_moved goes (of.Static r) = refl
-async_moved goes (of.AsyncStatic r) = refl
-async_moved goes (of.Constructor r) = refl
+pub sort_moved : (goes : ℕ → ℕ) (k : FunctionKind) → sort_of (moved_function_kind goes k) ≡ sort_of k
+sort_moved goes of.Freestanding = refl
+sort_moved goes of.AsyncFreestanding = refl
+sort_moved goes (of.Method r) = refl
+sort_moved goes (of.AsyncMethod r) = refl
+sort_moved goes (of.Static r) = refl
+sort_moved goes (of.AsyncStatic r) = refl
+sort_moved goes (of.Constructor r) = refl
+
+-- of a function that stays the resource does that it is of
+and_right : (a b : Bool) → (a && b) ≡ true → b ≡ true
+and_right true b h = h
+and_right false b h = absurd cc
+
+resource_stays : (features : FeatureSet) (places : Places) (f : Function) → function_stays features places f ≡ true → is_resource_placed places (resource_of f.kind) ≡ true
+resource_stays features places f h = and_right (stays features f.stability) (is_resource_placed places (resource_of f.kind)) h
+
+-- the resource that a function is of goes where its name does
+module _ (old new : Name → ℕ → Type 0) (places : Places) (goes : (x : Name) (i j : ℕ) → place_of places i ≡ Some j → old x i → new x j) where
+  resource_goes : (x : Name) (k l : FunctionKind) (b : Bool) (i : ℕ) (fk : FunctionKind) → resource_of k ≡ Some i → resource_of l ≡ Some i → fk ≡ (if b then k else l) → is_resource_placed places (resource_of fk) ≡ true → old x i → new x (to places i)
+  resource_goes x k l true i fk k_of l_of is there was = goes x i (to places i) (goes_to places i (to places i) (ap (is_resource_placed places) (sym (ap resource_of is ∙ k_of)) ∙ there) refl) was
+  resource_goes x k l false i fk k_of l_of is there was = goes x i (to places i) (goes_to places i (to places i) (ap (is_resource_placed places) (sym (ap resource_of is ∙ l_of)) ∙ there) refl) was
+
+  moved_if : (b : Bool) (k l fk : FunctionKind) → fk ≡ (if b then k else l) → moved_function_kind (to places) fk ≡ (if b then moved_function_kind (to places) k else moved_function_kind (to places) l)
+  moved_if true k l fk is = ap (moved_function_kind (to places)) is
+  moved_if false k l fk is = ap (moved_function_kind (to places)) is
+
+  kind_goes : (m : MemberKind) (fk : FunctionKind) → is_resource_placed places (resource_of fk) ≡ true → IsKindMeant old m fk → IsKindMeant new m (moved_function_kind (to places) fk)
+  kind_goes (used t n) fk there is = absurd is
+  kind_goes (defined t) fk there is = absurd is
+  kind_goes (function f) fk there is = moved_if f.is_async of.AsyncFreestanding of.Freestanding fk is
+  kind_goes (method r f) fk there is = (to places is.0, resource_goes r.text (of.AsyncMethod is.0) (of.Method is.0) f.is_async is.0 fk refl refl is.2 there is.1, moved_if f.is_async (of.AsyncMethod is.0) (of.Method is.0) fk is.2)
+  kind_goes (static r f) fk there is = (to places is.0, resource_goes r.text (of.AsyncStatic is.0) (of.Static is.0) f.is_async is.0 fk refl refl is.2 there is.1, moved_if f.is_async (of.AsyncStatic is.0) (of.Static is.0) fk is.2)
+  kind_goes (constructor r ps t) fk there is = (to places is.0, resource_goes r.text (of.Constructor is.0) (of.Constructor is.0) true is.0 fk refl refl is.2 there is.1, ap (moved_function_kind (to places)) is.2)
 
 module _ (given : Owner → Name → Tree) (c : Context) (graph_owners : Owners) (places : Places) (a b : List TypeDef) (stand : StandForTheSame given places c.owners a graph_owners b) where
   type_goes : (o : Place) (x : Name) (i j : ℕ) → place_of places i ≡ Some j → Stands c.me c.scopes given c.owners a o x i → Stands c.me c.scopes given graph_owners b o x j
   type_goes o x i j at means = (means.0, stand i j means.0 at means.1, means.2)
 
-  abbrev function_goes : MovedFunctionsStandForTheSame → (o : Place) (ms : List MemberTree) (f g : Function) → IsMovedFunction (to places) f g → is_signature_placed places f.params.items f.result ≡ true → IsFunctionMeant given c c.owners a o ms f
+  abbrev function_goes : MovedFunctionsStandForTheSame → (o : Place) (ms : List MemberTree) (f g : Function) → IsMovedFunction (to places) f g → is_resource_placed places (resource_of f.kind) ≡ true → is_signature_placed places f.params.items f.result ≡ true
+      → IsFunctionMeant given c c.owners a o ms f
       → IsFunctionMeant given c graph_owners b o ms g
-  function_goes functions_stand o ms f g moved all_placed is =
+  function_goes functions_stand o ms f g moved resource_placed all_placed is =
       let split = parts_split (trees c.owners given a) (map (λ (q : Param). Some q.ty) f.params.items) f.result is.means.parts is.means.unfolds in
       let there =
       functions_stand given places c.owners graph_owners a b f g (map (λ (q : Param). string_bytes q.name) f.params.items) split.front split.last stand moved all_placed record { names_are = refl; params_are = split.front_is; result_is = split.last_is } in
@@ -99,7 +126,8 @@ module _ (given : Owner → Name → Tree) (c : Context) (graph_owners : Owners)
         written = is.written;
         named = ap (λ (n : String Global). string_bytes n) moved.name ∙ is.named;
         params_named = there.names_are ∙ is.params_named;
-        asynchronous = ap is_async moved.kind ∙ async_moved (to places) f.kind ∙ is.asynchronous;
+        kind = subst (IsKindMeant (λ (x : Name) (i : ℕ). Stands c.me c.scopes given graph_owners b o x i) is.member.kind) (sym moved.kind)
+            (kind_goes (λ (x : Name) (i : ℕ). Stands c.me c.scopes given c.owners a o x i) (λ (x : Name) (i : ℕ). Stands c.me c.scopes given graph_owners b o x i) places (λ x i j at means. type_goes o x i j at means) is.member.kind f.kind resource_placed is.kind);
         means = record {
           parts = is.means.parts;
           unfolds = parts_joined (trees graph_owners given b) (map (λ (q : Param). Some q.ty) g.params.items) g.result split.front split.last there.params_are there.result_is ∙ ap (λ (ts : Trees). Some ts) (sym split.are);
@@ -131,7 +159,7 @@ module _ (names_stand : MovedNamesStandForTheSame) (functions_stand : MovedFunct
       names = name_goes;
       functions = λ x g has.
           let was = kept_was (function_stays features places) (IsMovedFunction (to places)) old.functions.entries new.functions.entries moved.functions x g has in
-          function_goes given c graph_owners places a b stand functions_stand t.place t.members was.0 g was.3 (all_placed was.1.0 x was.0 was.1.1 was.2) (is.functions x was.0 was.1);
+          function_goes given c graph_owners places a b stand functions_stand t.place t.members was.0 g was.3 (resource_stays features places was.0 was.2) (all_placed was.1.0 x was.0 was.1.1 was.2) (is.functions x was.0 was.1);
     }
 
 -- ---- a world
@@ -220,7 +248,7 @@ module _ (functions_stand : MovedFunctionsStandForTheSame) (given : Owner → Na
         let there : Has es (was.first, item.Function from.0) = subst (λ (x : WorldItem). Has es (was.first, x)) from.1 was.there in
         let stays_there = subst (λ (x : WorldItem). item_stays features s.types x ≡ true) from.1 was.stayed in
         let f = meant was.first from.0 there in
-        record { text = f.text; is_text = text_goes f.text f.is_text; is = function_goes given c graph_owners s.types a b stand functions_stand (in_world f.text.name.text) (own_members f.text.members) from.0 g from.2 (all_go es kept there.0 was.first from.0 there.1 stays_there) f.is; giver = f.giver; on_side = f.on_side; gives = f.gives }
+        record { text = f.text; is_text = text_goes f.text f.is_text; is = function_goes given c graph_owners s.types a b stand functions_stand (in_world f.text.name.text) (own_members f.text.members) from.0 g from.2 (resource_stays features s.types from.0 stays_there) (all_go es kept there.0 was.first from.0 there.1 stays_there) f.is; giver = f.giver; on_side = f.on_side; gives = f.gives }
 
     interface_placed : (es : List (WorldKey × WorldItem)) → IsKept (SideBreaks features s.types s.interfaces es) → (n : ℕ) (k : WorldKey) (j : ℕ) (gate : Stability) (span : Span) → slice_get es n ≡ Some (k, item.Interface j gate span)
         → item_stays features s.types (item.Interface j gate span) ≡ true → is_placed s.interfaces j ≡ true

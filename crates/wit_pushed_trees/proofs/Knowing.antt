@@ -201,7 +201,7 @@ unknown_by f (kind.Stream r) e = absurd cc
 unknown_by f (kind.Alias r) e = absurd cc
 unknown_by f kind.Unknown e = refl
 
-same_count : (n : ℕ) (p : UnresolvedPackage) → asked_types (package_at n p) ≡ asked_types p
+pub same_count : (n : ℕ) (p : UnresolvedPackage) → asked_types (package_at n p) ≡ asked_types p
 same_count n p = ap length (items_are (span_at n) p.unknown_type_spans) ∙ length-map p.unknown_type_spans.items (span_at n)
 
 pub moved_known : MovedTypesAreKnown

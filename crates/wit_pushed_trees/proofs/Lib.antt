@@ -17,6 +17,12 @@ mod Knowing
 mod Giving
 mod Wholes
 mod Meant
-mod MeantWorlds
+pub mod MeantWorlds
+mod SaidResources
 mod Said
+mod Staying
+mod StayingWorlds
+mod StayingPaths
+mod StayingIncludes
+mod StayingInner
 mod There

@@ -1,9 +1,8 @@
 -- Interfaces of a graph still mean what they did when a package came to it, and those that came mean what its texts do.
-use Rattle.std.proofs.Common.{◌≡◌, ◌<◌, ℕ, ◌+◌, Bool, List, [], ◌∷◌, ◌++◌, length, map, Option, Some, String, inl, inr, refl, sym, subst, ap, ◌∙◌, arith, append_assoc}
+use Rattle.std.proofs.Common.{◌≡◌, ◌<◌, ℕ, ◌+◌, Bool, List, [], ◌∷◌, ◌++◌, length, map, Option, Some, String, inl, inr, sym, subst, ap, ◌∙◌}
 use Rattle.std.proofs.lemmas.Option.{same_Some, slice_get-map}
 use Rattle.std.specs.Prelude.{option_map, slice_get, string_bytes}
 use Rattle.std.specs.declared.alloc.Global.{Global}
-use Rattle.wit_syntax.specs.Ast.{FileTree}
 use Rattle.wit_types.specs.declared.function.Function.{Function}
 use Rattle.wit_types.specs.declared.interface.Interface.{Interface}
 use Rattle.wit_types.specs.declared.interface.TypeDef.{TypeDef}
@@ -13,13 +12,12 @@ use Rattle.wit_types.specs.declared.«package».Package.{Package}
 use Rattle.wit_types.specs.declared.«package».PackageName.{PackageName}
 use Rattle.wit_types.specs.declared.«package».UnresolvedPackage.{UnresolvedPackage}
 use Rattle.wit_features.specs.Features.{FeatureSet}
-use Rattle.wit_order.specs.Order as order
 use Rattle.wit_scopes.specs.Members.{MemberTree}
-use Rattle.wit_arena.specs.Tree.{Name, Place, Owner, Tree, TreeOption, Trees, trees_and}
-use Rattle.wit_arena.specs.Unfold.{Owners, part_tree, part_trees, ref_tree, trees, IsWhole}
-use Rattle.wit_arena.specs.Standing.{HasTree, Stands}
-use Rattle.wit_arena.specs.Meaning.{Has}
-use Rattle.wit_arena.proofs.Lists.{has_none, has_here, has_right, get_kept, get_last}
+use Rattle.wit_arena.specs.Tree.{Name, Place, Owner, Tree, Trees, trees_and}
+use Rattle.wit_arena.specs.Standing.{Stands}
+use Rattle.wit_arena.specs.Unfold.{Owners, part_tree, part_trees, ref_tree, trees}
+use Rattle.wit_arena.specs.Standing.{HasTree}
+use Rattle.wit_arena.proofs.Lists.{has_here, has_right, get_kept, get_last}
 use Rattle.wit_arena.proofs.Unfolding.{ref_kept, part_kept, kept_map, kept_then}
 use Rattle.wit_interfaces.proofs.Behind.{get_either}
 use Rattle.wit_placed.proofs.Members.{has_get}
@@ -28,14 +26,12 @@ use Rattle.wit_plans.specs.Plans.{standing}
 use Rattle.wit_resolved_scopes.specs.InArena.{Context}
 use Rattle.wit_resolved_scopes.specs.Meaning.{function_refs}
 use Rattle.wit_resolved_scopes.specs.Texts.{InterfaceText}
-use Rattle.wit_package.specs.Steps.{Resolves}
 use Rattle.wit_graph_parts.specs.Own.{own_parts}
 use Rattle.wit_graph.specs.Graph.{Graph, AreWhole}
 use Rattle.wit_graph.specs.Push.{IsPushed}
 use Rattle.wit_pushed_trees.specs.Asked.{text_of}
 use Rattle.wit_pushed_trees.specs.Found.{TellsNamesApart, NamesOfGraphStand, IsInterfaceOf, IsGivenBy}
-use Rattle.wit_pushed_trees.specs.Known.{AreTypesKnown}
-use Rattle.wit_pushed_trees.specs.Meaning.{IsFunctionMeant, IsInterfaceMeant, IsOfText}
+use Rattle.wit_pushed_trees.specs.Meaning.{IsFunctionMeant, IsInterfaceMeant}
 use Rattle.wit_pushed_trees.specs.Meant.{PackageTexts, IsOfTexts, ResolvedPackagesAreOfTexts, IsMeantBy, AreMeantBy, EmptyGraphsAreMeant, PushedGraphsMeanTheirTexts}
 use Rattle.wit_pushed_trees.specs.Owned.{AreOwnersOf, AreOwned, AreOwnedWith}
 use Rattle.wit_pushed_trees.specs.Packages.{ResolvedPackagesMeanTheirTexts}
@@ -45,6 +41,7 @@ use Rattle.wit_pushed_trees.proofs.Agreeing.{same_trees, pushed_agreed}
 use Rattle.wit_pushed_trees.proofs.Asking.{text_is}
 use Rattle.wit_pushed_trees.proofs.Finding.{same_text}
 use Rattle.wit_pushed_trees.proofs.Types.{all_grow}
+use Rattle.wit_pushed_trees.proofs.Texts.{member_kind_same}
 
 -- ---- more types and owners
 
@@ -68,7 +65,7 @@ module _ (given : Owner → Name → Tree) (old new : Owners) (a more : List Typ
     written = is.written;
     named = is.named;
     params_named = is.params_named;
-    asynchronous = is.asynchronous;
+    kind = member_kind_same (λ (x : Name) (i : ℕ). Stands c.me c.scopes given old a o x i) (λ (x : Name) (i : ℕ). Stands c.me c.scopes given new (a ++ more) o x i) (λ x i s. (s.0, tree_still i s.0 s.1, s.2)) is.member.kind f.kind is.kind;
     means = record { parts = is.means.parts; unfolds = parts_still (function_refs f) is.means.parts is.means.unfolds; mean = is.means.mean };
   }
 

@@ -1,5 +1,5 @@
 -- Worlds of a graph still mean what they did when a package came to it, and those that came mean what its texts do.
-use Rattle.std.proofs.Common.{◌≡◌, ◌<◌, ◌≤◌, ℕ, ◌+◌, Bool, List, [], ◌∷◌, ◌++◌, length, length-append, take, Option, Some, inl, inr, refl, sym, subst, ap, ◌∙◌, arith, append_assoc}
+use Rattle.std.proofs.Common.{◌≡◌, ◌<◌, ◌≤◌, ℕ, ◌+◌, Bool, List, [], ◌∷◌, ◌++◌, length, take, Some, inl, inr, refl, sym, subst, ap, ◌∙◌, arith, append_assoc}
 use Rattle.std.proofs.lemmas.List.{take-append-le, append-nil}
 use Rattle.std.proofs.lemmas.Option.{slice_get_within}
 use Rattle.std.specs.Prelude.{slice_get}
@@ -19,7 +19,6 @@ use Rattle.wit_scopes.specs.declared.worlds.Side.{Side}
 use Rattle.wit_arena.specs.Tree.{Name, in_world, Owner, Tree}
 use Rattle.wit_arena.specs.Unfold.{Owners, trees}
 use Rattle.wit_arena.specs.Standing.{HasTree}
-use Rattle.wit_arena.specs.Meaning.{Has}
 use Rattle.wit_arena.proofs.Lists.{has_here, has_right, get_kept, get_last, get_more}
 use Rattle.wit_interfaces.proofs.Behind.{get_either}
 use Rattle.wit_resolved_scopes.specs.InArena.{Context}
@@ -37,7 +36,7 @@ use Rattle.wit_pushed_trees.specs.MeantWorlds.{IsBuiltOf, IsWorldMeantBy, AreWor
 use Rattle.wit_pushed_trees.specs.Owned.{AreOwnersOf, AreOwned, AreOwnedWith, HaveMoreOwners}
 use Rattle.wit_pushed_trees.specs.Pushed.{PushedWorldsMeanTheirTexts}
 use Rattle.wit_pushed_trees.specs.Whole.{HasTrees, PushedGraphsKeepWhatWas}
-use Rattle.wit_pushed_trees.specs.Worlds.{IsTypeMeant, IsOwnFunctionMeant, IsInterfaceListed, IsIncludeMeant, IsWorldMeant}
+use Rattle.wit_pushed_trees.specs.Worlds.{IsOwnFunctionMeant, IsInterfaceListed, IsIncludeMeant, IsWorldMeant}
 use Rattle.wit_pushed_trees.proofs.Agreeing.{same_trees}
 use Rattle.wit_pushed_trees.proofs.Meant.{tree_still, function_still, grown, same, package_there, by_old, agreed, come_there, come_named}
 use Rattle.wit_pushed_trees.proofs.Owned.{worlds_added}
@@ -104,7 +103,7 @@ built_still own number place worlds more types later w within b = record {
 
 -- ---- worlds that come
 
-worlds_grow : (interfaces : List Interface) (uses : Rows) (owner : ℕ) (ms : List MovedWorld) (s t : State) → AreAdded interfaces uses owner ms s t → (more : List World) × (t.worlds.listed ≡ s.worlds.listed ++ more)
+pub worlds_grow : (interfaces : List Interface) (uses : Rows) (owner : ℕ) (ms : List MovedWorld) (s t : State) → AreAdded interfaces uses owner ms s t → (more : List World) × (t.worlds.listed ≡ s.worlds.listed ++ more)
 worlds_grow interfaces uses owner _ s _ (none_added _) = ([], sym (append-nil s.worlds.listed))
 worlds_grow interfaces uses owner _ s u (one_added ms m _ t _ before a) =
     let r = worlds_grow interfaces uses owner ms s t before in

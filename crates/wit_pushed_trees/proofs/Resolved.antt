@@ -72,7 +72,7 @@ module _ (files : List FileTree) (p : UnresolvedPackage) (r : Resolves files p) 
   abbrev owners : Owners
   owners = (context_of s.me files s.items s.sorted).owners
 
-  asked_interfaces : length s.foreign_interfaces ≡ length (foreign_owners s.items).interfaces
+  pub asked_interfaces : length s.foreign_interfaces ≡ length (foreign_owners s.items).interfaces
   asked_interfaces = s.foreign_are.so_many_interfaces ∙ sym (interface_owners_length s.items)
 
   asked_worlds : length s.foreign_worlds ≡ length (foreign_owners s.items).worlds

@@ -1,5 +1,5 @@
 -- Worlds of a graph import and export what texts say.
-use Rattle.std.proofs.Common.{◌≡◌, ◌<◌, ◌≤◌, ℕ, ◌+◌, Bool, true, false, List, [], ◌∷◌, ◌++◌, length, length-append, map, Option, Some, None, inl, inr, refl, sym, subst, ap, ◌∙◌, arith, append_assoc}
+use Rattle.std.proofs.Common.{◌≡◌, ◌<◌, ◌≤◌, ℕ, ◌+◌, Bool, true, false, List, [], ◌∷◌, ◌++◌, length, length-append, map, Option, Some, None, inl, inr, refl, sym, subst, ap, ◌∙◌, arith}
 use Rattle.std.proofs.lemmas.List.{append-nil}
 use Rattle.std.proofs.lemmas.Option.{same_Some, slice_get_within}
 use Rattle.std.proofs.lemmas.Bool.{cases_Bool}
@@ -18,6 +18,7 @@ use Rattle.wit_types.specs.declared.interface.TypeOwner.{TypeOwner}
 use Rattle.wit_types.specs.declared.kind.«Type».{«Type» as Ref}
 use Rattle.wit_types.specs.declared.function.Function.{Function}
 use Rattle.wit_types.specs.declared.function.FunctionKind.{FunctionKind}
+use Rattle.wit_types.specs.declared.function.FunctionKind.TheVariants as function_kind
 use Rattle.wit_types.specs.declared.function.Param.{Param}
 use Rattle.wit_types.specs.declared.interface.Interface.{Interface}
 use Rattle.wit_types.specs.declared.interface.TypeDef.{TypeDef}
@@ -34,7 +35,7 @@ use Rattle.wit_types.specs.declared.«package».PackageName.{PackageName}
 use Rattle.wit_types.specs.declared.«package».UnresolvedPackage.{UnresolvedPackage}
 use Rattle.wit_features.specs.Features.{FeatureSet}
 use Rattle.wit_rules.specs.Labels.{full_name}
-use Rattle.wit_scopes.specs.Scopes.{ItemScope, WorldScope, IncludedTree}
+use Rattle.wit_scopes.specs.Scopes.{WorldScope, IncludedTree}
 use Rattle.wit_scopes.specs.declared.worlds.Side.{Side}
 use Rattle.wit_scopes.specs.declared.worlds.Side.TheVariants.{Import, Export}
 use Rattle.wit_sides.specs.Renames as renames
@@ -43,7 +44,7 @@ use Rattle.wit_sides.specs.Sides.{AreUnited, no_entries, first_of_its_key, key_a
 use Rattle.wit_copies.specs.Copies as copies
 use Rattle.wit_copies.specs.Copies.{Copies, goes, IsCopiedItem, AreCopiedEntries}
 use Rattle.wit_copies.specs.Same.{IsSameKey, same_name, same_key_interface, IsSameParam, IsSameFunction, IsSameItem, same_interface, same_function, same_type}
-use Rattle.wit_moves.specs.Moved.{place_of, to, IsMovedFunction}
+use Rattle.wit_moves.specs.Moved.{moved_function_kind, place_of, resource_of, to, IsMovedFunction}
 use Rattle.wit_moves.specs.Plan.{OwnerPlaces}
 use Rattle.wit_moved_trees.specs.Law.{StandForTheSame, MovedTypesStandForTheSame, MovedFunctionsStandForTheSame}
 use Rattle.wit_placed.proofs.Own.{worlds_take_places_alone}
@@ -53,42 +54,40 @@ use Rattle.wit_graph.specs.Graph.{Graph, AreWhole}
 use Rattle.wit_graph.specs.Push.{IsPushed}
 use Rattle.wit_moves.specs.Worlds.{IsMovedItem, moved_interface, moved_function, moved_type}
 use Rattle.wit_includes.specs.Included.{AreIncludedEntries, copies_behind}
-use Rattle.wit_reach.specs.Ids.{signature_ids, function_ids, resource_ids, item_ids, side_ids}
-use Rattle.wit_reach.specs.Types.{is_local, IsLocalAt, IsOfItem, AreWorldTypes}
+use Rattle.wit_reach.specs.Ids.{signature_ids, resource_ids, item_ids, side_ids}
+use Rattle.wit_reach.specs.Types.{is_local, IsLocalAt, IsOfItem}
 use Rattle.wit_order.proofs.Lists.{has_was}
 use Rattle.wit_reach.proofs.Lists.{has_append}
 use Rattle.wit_reach.proofs.Holding.{got}
 use Rattle.wit_interfaces.proofs.Behind.{get_either}
 use Rattle.wit_arena.specs.Tree.{Name, PackageText, Place, in_world, Owner, Tree, TreeOption, Trees, named_tree, resource_leaf}
 use Rattle.wit_arena.specs.Unfold.{Owners, and_then, part_tree, part_trees, owner_of, kind_tree, named_kind_tree, def_tree, def_tree_of, trees_from, trees, IsWhole}
-use Rattle.wit_arena.specs.Standing.{HasTree}
-use Rattle.wit_arena.specs.Meaning.{Has, MeansParts, MeansName, means_alias_of_name, means_alias, means_record, means_flags, means_enum, means_variant, means_resource, means_used, means_foreign}
+use Rattle.wit_arena.specs.Standing.{HasTree, Stands}
+use Rattle.wit_arena.specs.Meaning.{Has, MeansParts}
 use Rattle.wit_arena.proofs.Lists.{has_none, has_here, has_later, has_cases, has_right, get_kept, get_last, get_more}
 use Rattle.wit_arena.proofs.Unfolding.{part_kept, ref_kept, flat_some, def_at}
-use Rattle.wit_resolved_scopes.specs.InArena.{Context}
-use Rattle.wit_resolved_scopes.specs.Meaning.{written_parts, function_refs}
+use Rattle.wit_resolved_scopes.specs.Meaning.{written_parts}
 use Rattle.wit_joined.specs.Joined as joined
 use Rattle.wit_joined.specs.Joined.{Includes, includes_none, includes_one, own_state}
 use Rattle.wit_plans.specs.declared.moves.MovedWorld.{MovedWorld}
 use Rattle.wit_graph_worlds.specs.Added.{AreAdded, none_added, one_added}
-use Rattle.wit_graph_worlds.specs.Copies.{IsSameEntry, AreSameEntries}
+use Rattle.wit_graph_worlds.specs.Copies.{AreSameEntries}
 use Rattle.wit_graph_worlds.specs.Worlds.{State}
 use Rattle.wit_copied_trees.proofs.Members.{has_place, goes_own}
-use Rattle.wit_copied_trees.specs.Renamed.{IsRenamedTree, same_primitive, renamed_list, renamed_fixed_length_list, renamed_option, renamed_tuple, renamed_result, renamed_future, renamed_stream, renamed_own, renamed_borrow, renamed_record, same_flags, same_enum, renamed_variant, renamed_name, renamed_leaf, other_name, other_leaf}
 use Rattle.wit_copied_trees.specs.Law.{IsOfTrees, AreIncludedBehind, IncludedTypesStandForTheSame, IncludedFunctionsStandForTheSame}
 use Rattle.wit_pushed_trees.specs.Apart.{AreWorldsApart}
 use Rattle.wit_pushed_trees.specs.Found.{TellsNamesApart, NamesOfGraphStand, AreFoundByName, IsGivenBy}
 use Rattle.wit_pushed_trees.specs.Known.{AreTypesKnown, AreOwnTypesKnown}
 use Rattle.wit_pushed_trees.specs.Pushed.{AreAgreed}
 use Rattle.wit_pushed_trees.specs.Whole.{HasTrees}
-use Rattle.wit_pushed_trees.specs.Meaning.{is_async, is_written_async, param_names, written_names}
+use Rattle.wit_pushed_trees.specs.Meaning.{FunctionSort, sort_of, written_sort, param_names, written_names}
 use Rattle.wit_pushed_trees.specs.Meant.{PackageTexts, IsOfTexts}
 use Rattle.wit_pushed_trees.specs.Owned.{AreOwnersOf, AreOwned, AreOwnedWith, HaveMoreOwners}
-use Rattle.wit_pushed_trees.specs.Said.{with_result, world_owner, included_owner, IsIncludeWritten, SaysFunction, says_function, includes_function, SaysType, says_type, includes_type, SaysInterface, says_interface, includes_interface, IsFunctionSaid, IsInterfaceSaid, IsTypeSaid, IsSideSaid, IsWorldSaid, AreSaid, AreWorldsSaid, EmptyWorldsAreSaid, PushedWorldsAreSaid}
+use Rattle.wit_pushed_trees.specs.Said.{world_owner, included_owner, IsIncludeWritten, SaysFunction, says_function, includes_function, SaysType, says_type, includes_type, SaysInterface, says_interface, includes_interface, IsFunctionSaid, IsInterfaceSaid, IsTypeSaid, IsSideSaid, IsWorldSaid, AreSaid, AreWorldsSaid, EmptyWorldsAreSaid, PushedWorldsAreSaid, IsRenamedResource, IsResourceSaid, HasResourceSaid}
 use Rattle.wit_pushed_trees.specs.Worlds.{IsTypeMeant, IsOwnFunctionMeant, IsInterfaceListed, IsIncludeMeant, IsWorldMeant}
 use Rattle.wit_pushed_trees.proofs.Agreeing.{same_trees}
 use Rattle.wit_pushed_trees.proofs.Finding.{asked_found}
-use Rattle.wit_pushed_trees.proofs.Graphs.{async_moved, worlds_go_at}
+use Rattle.wit_pushed_trees.proofs.Graphs.{sort_moved, worlds_go_at}
 use Rattle.wit_pushed_trees.proofs.Knowing.{included_known, added_known, there_known}
 use Rattle.wit_pushed_trees.proofs.Meant.{tree_still, parts_more, by_old, agreed}
 use Rattle.wit_pushed_trees.proofs.Parts.{parts_split}
@@ -96,6 +95,9 @@ use Rattle.wit_pushed_trees.proofs.MeantWorlds.{world_still}
 use Rattle.wit_pushed_trees.proofs.Owned.{worlds_added}
 use Rattle.wit_pushed_trees.proofs.Types.{included_grow, added_grow, stand_then, whole_moved}
 use Rattle.wit_pushed_trees.proofs.Wholes.{others, included_whole, added_whole}
+use Rattle.wit_pushed_trees.proofs.Texts.{sort_is}
+use Rattle.wit_pushed_trees.specs.Staying.{resource_text}
+use Rattle.wit_pushed_trees.proofs.SaidResources.{IsOf, of_saying, own_is, own_meaning, own_renamed, kind_resource, resource_so, meant_resource}
 
 -- ---- more texts
 
@@ -106,10 +108,10 @@ module _ (all more : List PackageTexts) (given : Owner → Name → Tree) (side 
   written_more : (one : PackageTexts) (w : WorldScope) (i : IncludedTree) (names : List IncludeName) → IsIncludeWritten all one w i names → IsIncludeWritten (all ++ more) one w i names
   written_more one w i names is = record { among = among_more one is.among; text = is.text; there = is.there; names_are = is.names_are }
 
-  function_more : (w : Owner) (x : Name) (b : Bool) (xs : List Name) (ps : Trees) (r : TreeOption) → SaysFunction all given side w x b xs ps r → SaysFunction (all ++ more) given side w x b xs ps r
-  function_more _ _ _ _ _ _ (says_function one w x m ps r among text on gives means) = says_function one w x m ps r (among_more one among) text on gives means
-  function_more _ _ _ _ _ _ (includes_function one w i names x y b xs ps qs r q is says renamed trees part) =
-      includes_function one w i names x y b xs ps qs r q (written_more one w i names is) (function_more (included_owner one i) x b xs ps r says) renamed trees part
+  function_more : (w : Owner) (x : Name) (b : FunctionSort) (o : Option Name) (xs : List Name) (ps : Trees) (r : TreeOption) → SaysFunction all given side w x b o xs ps r → SaysFunction (all ++ more) given side w x b o xs ps r
+  function_more _ _ _ _ _ _ _ (says_function one w x m ps r among text on gives means) = says_function one w x m ps r (among_more one among) text on gives means
+  function_more _ _ _ _ _ _ _ (includes_function one w i names x y b o p xs ps qs r q is says renamed of trees part) =
+      includes_function one w i names x y b o p xs ps qs r q (written_more one w i names is) (function_more (included_owner one i) x b o xs ps r says) renamed of trees part
 
   type_more : (w : Owner) (x : Name) (t : Tree) → SaysType all given w x t → SaysType (all ++ more) given w x t
   type_more _ _ _ (says_type one w x t among text means) = says_type one w x t (among_more one among) text means
@@ -134,7 +136,14 @@ module _ (given : Owner → Name → Tree) (owners : Owners) (a more : List Type
 
   side_behind : (all : List PackageTexts) (side : Side) (w : Owner) (es : List (WorldKey × WorldItem)) → IsSideSaid all given owners a side w es → IsSideSaid all given owners (a ++ more) side w es
   side_behind all side w es is = record {
-    functions = λ k f has. (let s = is.functions k f has in record { params = s.params; result = s.result; trees = of_trees_behind f (param_names f) s.params s.result s.trees; says = s.says });
+    functions = λ k f has. (let s = is.functions k f has in record {
+      params = s.params;
+      result = s.result;
+      trees = of_trees_behind f (param_names f) s.params s.result s.trees;
+      of = s.of;
+      resource = resource_so all all given owners owners a (a ++ more) w (λ i x r. record { tree = r.tree; stands = ref_kept owners given a more (ref.Id i) r.tree r.stands; own = r.own; says = r.says }) (resource_of f.kind) s.of s.resource;
+      says = s.says;
+    });
     interfaces = is.interfaces;
     types = λ k i span has. (let s = is.types k i span has in record { spelling = s.spelling; known_by = s.known_by; tree = s.tree; stands = ref_kept owners given a more (ref.Id i) s.tree s.stands; says = s.says });
   }
@@ -157,17 +166,23 @@ module _ (all : List PackageTexts) (one : PackageTexts) (among : Has all one) (g
     own_function : (side : Side) (f : Function) → IsOwnFunctionMeant given one.context owners types one.worlds m.name side f → IsFunctionSaid all given owners types side w f
     own_function side f is =
         let split = parts_split (trees owners given types) (map (λ (q : Param). Some q.ty) f.params.items) f.result is.is.means.parts is.is.means.unfolds in
-        let says : SaysFunction all given side (world_owner one is.text) (full_name is.is.member.kind is.is.member.name) (is_written_async is.is.member.kind) (written_names is.is.member) split.front split.last =
+        let of : Option Name = resource_text is.is.member.kind in
+        let says : SaysFunction all given side (world_owner one is.text) (full_name is.is.member.kind is.is.member.name) (written_sort is.is.member.kind) of (written_names is.is.member) split.front split.last =
         says_function one is.text is.giver is.is.member split.front split.last among is.is_text.there is.on_side is.gives
         (subst (MeansParts one.context.me one.context.scopes given (in_world is.text.name.text) (written_parts is.is.member)) split.are is.is.means.mean) in
         record {
           params = split.front;
           result = split.last;
           trees = record { names_are = refl; params_are = split.front_is; result_is = split.last_is };
-          says = subst (λ (v : Owner). SaysFunction all given side v (string_bytes f.name) (is_async f.kind) (param_names f) split.front split.last) (owner_is one w (string_bytes m.name) me_is place_is is.text is.is_text.named)
-              (subst (λ (x : Name). SaysFunction all given side (world_owner one is.text) x (is_async f.kind) (param_names f) split.front split.last) (sym is.is.named)
-              (subst (λ (b : Bool). SaysFunction all given side (world_owner one is.text) (full_name is.is.member.kind is.is.member.name) b (param_names f) split.front split.last) (sym is.is.asynchronous)
-              (subst (λ (xs : List Name). SaysFunction all given side (world_owner one is.text) (full_name is.is.member.kind is.is.member.name) (is_written_async is.is.member.kind) xs split.front split.last) (sym is.is.params_named) says)));
+          of = of;
+          resource = subst (λ (v : Owner). HasResourceSaid all given owners types v (resource_of f.kind) of) (owner_is one w (string_bytes m.name) me_is place_is is.text is.is_text.named)
+              (meant_resource all given owners types (world_owner one is.text) (λ (x : Name) (i : ℕ). Stands one.context.me one.context.scopes given owners types (in_world is.text.name.text) x i)
+              (λ i x s. record { tree = s.0; stands = s.1; own = own_meaning one.context.me one.context.scopes given (in_world is.text.name.text) x s.0 s.2; says = says_type one is.text x s.0 among is.is_text.there s.2 })
+              (resource_of f.kind) of (kind_resource (λ (x : Name) (i : ℕ). Stands one.context.me one.context.scopes given owners types (in_world is.text.name.text) x i) is.is.member.kind f.kind is.is.kind));
+          says = subst (λ (v : Owner). SaysFunction all given side v (string_bytes f.name) (sort_of f.kind) of (param_names f) split.front split.last) (owner_is one w (string_bytes m.name) me_is place_is is.text is.is_text.named)
+              (subst (λ (x : Name). SaysFunction all given side (world_owner one is.text) x (sort_of f.kind) of (param_names f) split.front split.last) (sym is.is.named)
+              (subst (λ (b : FunctionSort). SaysFunction all given side (world_owner one is.text) (full_name is.is.member.kind is.is.member.name) b of (param_names f) split.front split.last) (sym (sort_is _ is.is.member.kind f.kind is.is.kind))
+              (subst (λ (xs : List Name). SaysFunction all given side (world_owner one is.text) (full_name is.is.member.kind is.is.member.name) (written_sort is.is.member.kind) of xs split.front split.last) (sym is.is.params_named) says)));
         }
 
     own_interface : (side : Side) (i : ℕ) → IsInterfaceListed one.context owners one.worlds m.name side i → IsInterfaceSaid all owners side w i
@@ -201,46 +216,6 @@ module _ (all : List PackageTexts) (one : PackageTexts) (among : Has all one) (g
     }
 
 -- ---- types of one owner
-
-abbrev IsOf : Owner → Tree → Type 0
-IsOf w (named_tree o x t) = o ≡ w
-IsOf w (resource_leaf o x) = o ≡ w
-IsOf w _ = ⊥
-
-of_meaning : (me : PackageText) (scopes : List ItemScope) (given : Owner → Name → Tree) (o : Place) (x : Name) (t : Tree) → MeansName me scopes given o x t → IsOf (record { package_text = me; place = o }) t
-of_meaning me scopes given _ _ _ (means_alias_of_name o x s y t declared means) = refl
-of_meaning me scopes given _ _ _ (means_alias o x e t declared bare means) = refl
-of_meaning me scopes given _ _ _ (means_record o x fs ts declared means) = refl
-of_meaning me scopes given _ _ _ (means_flags o x ls declared) = refl
-of_meaning me scopes given _ _ _ (means_enum o x ls declared) = refl
-of_meaning me scopes given _ _ _ (means_variant o x cs ts declared means) = refl
-of_meaning me scopes given _ _ _ (means_resource o x fs declared) = refl
-of_meaning me scopes given _ _ _ (means_used o x i y t declared means) = refl
-of_meaning me scopes given _ _ _ (means_foreign o x p i y declared) = refl
-
-of_renamed : (names : List IncludeName) (v w : Owner) (t u : Tree) → IsRenamedTree names v w t u → IsOf v t → IsOf w u
-of_renamed names v w _ _ (same_primitive p) is = absurd is
-of_renamed names v w _ _ (renamed_list t u r) is = absurd is
-of_renamed names v w _ _ (renamed_fixed_length_list t u n r) is = absurd is
-of_renamed names v w _ _ (renamed_option t u r) is = absurd is
-of_renamed names v w _ _ (renamed_tuple ts us r) is = absurd is
-of_renamed names v w _ _ (renamed_result t u x y r q) is = absurd is
-of_renamed names v w _ _ (renamed_future t u r) is = absurd is
-of_renamed names v w _ _ (renamed_stream t u r) is = absurd is
-of_renamed names v w _ _ (renamed_own t u r) is = absurd is
-of_renamed names v w _ _ (renamed_borrow t u r) is = absurd is
-of_renamed names v w _ _ (renamed_record xs ts us r) is = absurd is
-of_renamed names v w _ _ (same_flags xs) is = absurd is
-of_renamed names v w _ _ (same_enum xs) is = absurd is
-of_renamed names v w _ _ (renamed_variant xs ts us r) is = absurd is
-of_renamed names v w _ _ (renamed_name x y t u r q) is = refl
-of_renamed names v w _ _ (renamed_leaf x y r) is = refl
-of_renamed names v w _ _ (other_name o x t other) is = absurd (other is)
-of_renamed names v w _ _ (other_leaf o x other) is = absurd (other is)
-
-of_saying : (all : List PackageTexts) (given : Owner → Name → Tree) (w : Owner) (x : Name) (t : Tree) → SaysType all given w x t → IsOf w t
-of_saying all given _ _ _ (says_type one w x t among text means) = of_meaning one.context.me one.context.scopes given (in_world w.name.text) x t means
-of_saying all given _ _ _ (includes_type one w i names x y t u is says renamed tree) = of_renamed names (included_owner one i) (world_owner one w) t u tree (of_saying all given (included_owner one i) x t says)
 
 module _ (given : Owner → Name → Tree) (done : List (Option Tree)) (v w : Owner) (x : Name) (t : Tree) (is : IsOf v t) where
   named_whose : (o : Option Tree) → option_map (named_tree w x) o ≡ Some t → w ≡ v
@@ -428,6 +403,26 @@ came_interface names c es k i gate span r = by r.copied refl r.is_renamed
 
 -- ---- an include
 
+-- of what is moved the resource is
+resource_moved : (goes : ℕ → ℕ) (k : FunctionKind) → resource_of (moved_function_kind goes k) ≡ option_map goes (resource_of k)
+resource_moved goes function_kind.Freestanding = refl
+resource_moved goes function_kind.AsyncFreestanding = refl
+resource_moved goes (function_kind.Method r) = refl
+resource_moved goes (function_kind.AsyncMethod r) = refl
+resource_moved goes (function_kind.Static r) = refl
+resource_moved goes (function_kind.AsyncStatic r) = refl
+resource_moved goes (function_kind.Constructor r) = refl
+
+-- it is among the types of the function
+resource_among : (k : FunctionKind) (i : ℕ) → resource_of k ≡ Some i → order.Has (resource_ids k) i
+resource_among function_kind.Freestanding i e = absurd cc
+resource_among function_kind.AsyncFreestanding i e = absurd cc
+resource_among (function_kind.Method r) i e = inl (sym (same_Some r i e))
+resource_among (function_kind.AsyncMethod r) i e = inl (sym (same_Some r i e))
+resource_among (function_kind.Static r) i e = inl (sym (same_Some r i e))
+resource_among (function_kind.AsyncStatic r) i e = inl (sym (same_Some r i e))
+resource_among (function_kind.Constructor r) i e = inl (sym (same_Some r i e))
+
 side_has : (es : List (WorldKey × WorldItem)) (k : WorldKey) (x : WorldItem) (i : ℕ) → Has es (k, x) → order.Has (item_ids x) i → order.Has (side_ids es) i
 side_has [] k x i has of = absurd (has_none (k, x) has)
 side_has (e ∷ es) k x i has of = elim (has_cases e es (k, x) has) as (λ _. order.Has (side_ids (e ∷ es)) i) [
@@ -446,6 +441,32 @@ module _ (law_types : IncludedTypesStandForTheSame) (law : IncludedFunctionsStan
     module _ (side : Side) (es fs : List (WorldKey × WorldItem)) (of_world : (i : ℕ) → order.Has (side_ids es) i → IsOfItem d i) (entries : AreIncludedEntries n.names.items (copies_behind a own) es fs)
         (said : IsSideSaid all given owners a side (included_owner one is.written) es)
       where
+        -- the resource that a function is of comes with it
+        brought_resource : (k l : FunctionKind) → resource_of l ≡ option_map (goes (copies_behind a own)) (resource_of k) → (x : Option Name) → HasResourceSaid all given owners a (included_owner one is.written) (resource_of k) x
+            → ((i : ℕ) → resource_of k ≡ Some i → IsOfItem d i)
+            → (y : Option Name) × IsRenamedResource n.names.items x y × HasResourceSaid all given owners (a ++ new) (world_owner one is.text) (resource_of l) y
+        brought_resource k l goes_with x has listed = by (resource_of k) refl x has
+          where
+            by : (o : Option ℕ) → resource_of k ≡ o → (z : Option Name) → HasResourceSaid all given owners a (included_owner one is.written) o z
+                → (y : Option Name) × IsRenamedResource n.names.items z y × HasResourceSaid all given owners (a ++ new) (world_owner one is.text) (resource_of l) y
+            by None none None has = (None, tt, subst (λ (o : Option ℕ). HasResourceSaid all given owners (a ++ new) (world_owner one is.text) o None) (sym (goes_with ∙ ap (option_map (goes (copies_behind a own))) none)) tt)
+            by None none (Some z) has = absurd has
+            by (Some i) some None has = absurd has
+            by (Some i) some (Some z) has =
+                let local : IsLocalAt n.id a i = local_at owners given n.id (included_owner one is.written) behind.apart a behind.whole behind.known i has.tree has.stands (own_is (included_owner one is.written) z has.tree has.own) in
+                let mine : order.Has own i = behind.are_own.all i i (listed i some, local) ([], refl) in
+                let at = has_place own i mine in
+                let stands = (law_types n.names.items owners given n.id into (included_owner one is.written) (world_owner one is.text) d a own new behind).1 at.0 i has.tree at.1 has.stands in
+                let place : goes (copies_behind a own) i ≡ length a + at.0 = goes_own a own at.0 i behind.are_own.rising at.1 in
+                let y = own_renamed n.names.items (included_owner one is.written) (world_owner one is.text) z has.tree stands.0 stands.1 has.own in
+                let there : IsResourceSaid all given owners (a ++ new) (world_owner one is.text) (goes (copies_behind a own) i) y.0 = record {
+                  tree = stands.0;
+                  stands = subst (λ (j : ℕ). HasTree owners given (a ++ new) j stands.0) (sym place) stands.2;
+                  own = y.2;
+                  says = includes_type one is.text is.written n.names.items z y.0 has.tree stands.0 written has.says y.1 stands.1;
+                } in
+                (Some y.0, y.1, subst (λ (o : Option ℕ). HasResourceSaid all given owners (a ++ new) (world_owner one is.text) o (Some y.0)) (sym (goes_with ∙ ap (option_map (goes (copies_behind a own))) some)) there)
+
         brought_function : (k : WorldKey) (h : Function) → Has fs (k, item.Function h) → IsFunctionSaid all given owners (a ++ new) side (world_owner one is.text) h
         brought_function k h has =
             let c = came_function n.names.items (copies_behind a own) es k h (came n.names.items (copies_behind a own) es fs entries k (item.Function h) has) in
@@ -453,17 +474,21 @@ module _ (law_types : IncludedTypesStandForTheSame) (law : IncludedFunctionsStan
             let within : (i : ℕ) → order.Has (signature_ids c.f) i → IsLocalAt n.id a i → order.Has own i =
             λ i here local. behind.are_own.all i i (of_world i (side_has es c.key (item.Function c.f) i c.there (has_append (resource_ids c.f.kind) (signature_ids c.f) i here)), local) ([], refl) in
             let r = law n.names.items owners given n.id into (included_owner one is.written) (world_owner one is.text) d a own new c.f c.g c.between (param_names c.f) was.params was.result behind within c.is_same c.is_moved was.trees in
-            let kind_is : is_async c.between.kind ≡ is_async c.f.kind = ap is_async c.is_moved.kind ∙ async_moved (goes (copies_behind a own)) c.g.kind ∙ ap is_async c.is_same.kind in
+            let kind_is : sort_of c.between.kind ≡ sort_of c.f.kind = ap sort_of c.is_moved.kind ∙ sort_moved (goes (copies_behind a own)) c.g.kind ∙ ap sort_of c.is_same.kind in
             let name_is : string_bytes c.between.name ≡ string_bytes c.f.name = ap (λ (x : String Global). string_bytes x) c.is_moved.name ∙ c.is_same.name in
-            let says : SaysFunction all given side (world_owner one is.text) (string_bytes c.to) (is_async c.f.kind) (param_names c.f) r.0 r.1 =
-            includes_function one is.text is.written n.names.items (string_bytes c.f.name) (string_bytes c.to) (is_async c.f.kind) (param_names c.f) was.params r.0 was.result r.1 written was.says
-            (subst (λ (x : Name). IsRenamed n.names.items x (string_bytes c.to)) name_is c.renamed) r.2 r.3 in
+            let o = brought_resource c.f.kind c.between.kind (ap resource_of c.is_moved.kind ∙ resource_moved (goes (copies_behind a own)) c.g.kind ∙ ap (λ (k : FunctionKind). option_map (goes (copies_behind a own)) (resource_of k)) c.is_same.kind) was.of was.resource
+            (λ i here. of_world i (side_has es c.key (item.Function c.f) i c.there (has_was (resource_ids c.f.kind) (signature_ids c.f) i (resource_among c.f.kind i here)))) in
+            let says : SaysFunction all given side (world_owner one is.text) (string_bytes c.to) (sort_of c.f.kind) o.0 (param_names c.f) r.0 r.1 =
+            includes_function one is.text is.written n.names.items (string_bytes c.f.name) (string_bytes c.to) (sort_of c.f.kind) was.of o.0 (param_names c.f) was.params r.0 was.result r.1 written was.says
+            (subst (λ (x : Name). IsRenamed n.names.items x (string_bytes c.to)) name_is c.renamed) o.1 r.2 r.3 in
             let there : IsFunctionSaid all given owners (a ++ new) side (world_owner one is.text) (record c.between { name = c.to }) = record {
               params = r.0;
               result = r.1;
               trees = record { names_are = refl; params_are = r.4.params_are; result_is = r.4.result_is };
-              says = subst (λ (b : Bool). SaysFunction all given side (world_owner one is.text) (string_bytes c.to) b (param_names c.between) r.0 r.1) (sym kind_is)
-                  (subst (λ (xs : List Name). SaysFunction all given side (world_owner one is.text) (string_bytes c.to) (is_async c.f.kind) xs r.0 r.1) (sym r.4.names_are) says);
+              of = o.0;
+              resource = o.2;
+              says = subst (λ (b : FunctionSort). SaysFunction all given side (world_owner one is.text) (string_bytes c.to) b o.0 (param_names c.between) r.0 r.1) (sym kind_is)
+                  (subst (λ (xs : List Name). SaysFunction all given side (world_owner one is.text) (string_bytes c.to) (sort_of c.f.kind) o.0 xs r.0 r.1) (sym r.4.names_are) says);
             } in
             subst (IsFunctionSaid all given owners (a ++ new) side (world_owner one is.text)) (sym c.is) there
 
@@ -539,9 +564,11 @@ module _ (all : List PackageTexts) (given : Owner → Name → Tree) (owners : O
         params = said.params;
         result = said.result;
         trees = record { names_are = refl; params_are = ap (part_trees (trees owners given types)) refs ∙ said.trees.params_are; result_is = ap (part_tree (trees owners given types)) same.result ∙ said.trees.result_is };
-        says = subst (λ (x : Name). SaysFunction all given side w x (is_async g.kind) (param_names g) said.params said.result) (sym same.name)
-            (subst (λ (b : Bool). SaysFunction all given side w (string_bytes f.name) b (param_names g) said.params said.result) (sym (ap is_async same.kind))
-            (subst (λ (xs : List Name). SaysFunction all given side w (string_bytes f.name) (is_async f.kind) xs said.params said.result) (sym names) said.says));
+        of = said.of;
+        resource = subst (λ (o : Option ℕ). HasResourceSaid all given owners types w o said.of) (sym (ap resource_of same.kind)) said.resource;
+        says = subst (λ (x : Name). SaysFunction all given side w x (sort_of g.kind) said.of (param_names g) said.params said.result) (sym same.name)
+            (subst (λ (b : FunctionSort). SaysFunction all given side w (string_bytes f.name) b said.of (param_names g) said.params said.result) (sym (ap sort_of same.kind))
+            (subst (λ (xs : List Name). SaysFunction all given side w (string_bytes f.name) (sort_of f.kind) said.of xs said.params said.result) (sym names) said.says));
       }
 
   united_said : (es fs : List (WorldKey × WorldItem)) → AreUnited key_eq es fs → IsSideSaid all given owners types side w es → IsSideSaid all given owners types side w fs
@@ -666,7 +693,9 @@ module _ (given : Owner → Name → Tree) (old new : Owners) (more_owners : Hav
       params_are = parts_more given new new a more refl (map (λ (p : Param). Some p.ty) f.params.items) s.params (subst (λ (ts : List (Option Tree)). part_trees ts (map (λ (p : Param). Some p.ty) f.params.items) ≡ Some s.params) same s.trees.params_are);
       result_is = part_kept new given a more f.result s.result (subst (λ (ts : List (Option Tree)). part_tree ts f.result ≡ Some s.result) same s.trees.result_is);
     };
-    says = function_more all added given side w (string_bytes f.name) (is_async f.kind) (param_names f) s.params s.result s.says;
+    of = s.of;
+    resource = resource_so all (all ++ added) given old new a (a ++ more) w (λ i x r. record { tree = r.tree; stands = tree_still given old new a more same i r.tree r.stands; own = r.own; says = type_more all added given side w x r.tree r.says }) (resource_of f.kind) s.of s.resource;
+    says = function_more all added given side w (string_bytes f.name) (sort_of f.kind) s.of (param_names f) s.params s.result s.says;
   }
 
   side_still_said : (side : Side) (w : Owner) (es : List (WorldKey × WorldItem)) → IsSideSaid all given old a side w es → IsSideSaid (all ++ added) given new (a ++ more) side w es

@@ -1,5 +1,5 @@
 -- Packages mean the same wherever their texts stand among others.
-use Rattle.std.proofs.Common.{◌≡◌, ℕ, ◌<◌, List, [], ◌∷◌, ◌++◌, map, length, Option, Some, None, String, inl, inr, refl, sym, subst, ap, ◌∙◌}
+use Rattle.std.proofs.Common.{◌≡◌, ℕ, ◌<◌, List, [], ◌∷◌, ◌++◌, map, length, Option, Some, None, String, refl, sym, subst, ap, ◌∙◌}
 use Rattle.std.proofs.lemmas.List.{length-map}
 use Rattle.std.specs.Prelude.{string_bytes, option_map}
 use Rattle.std.specs.declared.alloc.Global.{Global}
@@ -43,6 +43,7 @@ use Rattle.wit_graph_parts.specs.Own.{asked}
 use Rattle.wit_pushed_trees.specs.Meaning.{IsFunctionMeant, IsInterfaceMeant}
 use Rattle.wit_pushed_trees.specs.Worlds.{IsTypeMeant, IsOwnFunctionMeant, IsInterfaceListed, IsIncludeMeant, IsWorldMeant}
 use Rattle.wit_pushed_trees.specs.Packages.{MovedPackagesMeanTheirTexts}
+use Rattle.wit_pushed_trees.proofs.Texts.{member_kind_same}
 
 -- what is one of a kind
 function_is : (f g : Function) → item.Function f ≡ item.Function g → f ≡ g
@@ -145,7 +146,7 @@ module _ (f : Span → Span) where
       written = is.written;
       named = is.named;
       params_named = ap (map (λ (q : Param). string_bytes q.name)) (items_are (param_by f) g.params) ∙ same_seen (λ (q : Param). string_bytes q.name) (param_by f) (λ q. refl) g.params.items ∙ is.params_named;
-      asynchronous = is.asynchronous;
+      kind = member_kind_same (λ (x : Name) (i : ℕ). Stands c.me c.scopes given owners ds o x i) (λ (x : Name) (i : ℕ). Stands c.me c.scopes given owners (map (type_def_by f) ds) o x i) (λ x i means. stands_same c ds o x i means) is.member.kind g.kind is.kind;
       means = record {
         parts = is.means.parts;
         unfolds = ap (λ (rs : List (Option Ref)). part_trees (trees owners given (map (type_def_by f) ds)) rs) (refs_same g) ∙ ap (λ done. part_trees done (function_refs g)) (trees_same ds) ∙ is.means.unfolds;

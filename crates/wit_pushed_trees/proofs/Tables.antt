@@ -1,12 +1,11 @@
 -- Tables by names: no name stands in one twice.
-use Rattle.std.proofs.Common.{◌≡◌, ℕ, zero, suc, Bool, true, false, List, [], ◌∷◌, ◌++◌, ◌⊎◌, map, Some, bytes_eq, inl, inr, refl, sym, subst, ap, ◌∙◌, arith}
+use Rattle.std.proofs.Common.{◌≡◌, ℕ, zero, suc, Bool, true, false, List, [], ◌∷◌, ◌++◌, map, Some, bytes_eq, inl, inr, refl, sym, subst, ap, ◌∙◌, arith}
 use Rattle.std.proofs.lemmas.Option.{same_Some, slice_get-map}
 use Rattle.std.proofs.lemmas.Slice.Eq.{bytes_eq-Decides}
-use Rattle.std.specs.Prelude.{String, if◌then◌else◌, option_map, string_bytes, slice_get}
+use Rattle.std.specs.Prelude.{String, if◌then◌else◌, option_map, slice_get}
 use Rattle.std.specs.declared.alloc.Global.{Global}
 use Rattle.indexmap.specs.IndexMap.{insert_entry, insert_all}
 use Rattle.wit_types.specs.declared.«package».Package.{Package}
-use Rattle.wit_arena.specs.Meaning.{Has}
 use Rattle.wit_arena.proofs.Lists.{get_more}
 use Rattle.wit_graph_worlds.specs.Names.{Pair, by_bytes, AreNames}
 use Rattle.wit_placed.specs.Naming.{AreNamesApart}

@@ -8,6 +8,7 @@ use Rattle.wit_words.specs.declared.source_map.Span.{Span}
 use Rattle.wit_types.specs.declared.function.Function.{Function}
 use Rattle.wit_types.specs.declared.interface.Interface.{Interface}
 use Rattle.wit_types.specs.declared.interface.TypeDef.{TypeDef}
+use Rattle.wit_types.specs.declared.interface.TypeOwner.{TypeOwner}
 use Rattle.wit_types.specs.declared.interface.TypeOwner.TheVariants as belongs
 use Rattle.wit_types.specs.declared.«package».UnresolvedPackage.{UnresolvedPackage}
 use Rattle.wit_types.specs.declared.stability.Stability.{Stability}
@@ -51,7 +52,7 @@ use Rattle.wit_well_formed.proofs.Counted.{world_item}
 use Rattle.wit_well_formed.proofs.Lists.{get_drop}
 use Rattle.wit_graph_parts.specs.Own.{asked, own_parts}
 use Rattle.wit_pushed_trees.proofs.Resolved.{name_in, named_place}
-use Rattle.wit_pushed_trees.specs.Meaning.{is_async, is_written_async, param_names, written_names, IsFunctionMeant, IsInterfaceMeant, IsOfText}
+use Rattle.wit_pushed_trees.specs.Meaning.{FunctionSort, is_freestanding, is_method, is_static, sort_of, written_sort, IsKindMeant, param_names, written_names, IsFunctionMeant, IsInterfaceMeant, IsOfText}
 use Rattle.wit_pushed_trees.specs.Worlds.{IsTextOf, IsTypeMeant, IsGiven, IsOwnFunctionMeant, extern_owner, IsInterfaceListed, IsIncludeMeant, IsWorldMeant}
 use Rattle.wit_pushed_trees.specs.Packages.{ResolvedPackagesMeanTheirTexts}
 
@@ -80,22 +81,54 @@ names_are f m e =
     seen_names g label same [] = refl
     seen_names g label same (x ∷ xs) = ap (λ (n : Name). n ∷ map g xs) (same x) ∙ ap (λ (ns : List Name). (label x).name ∷ ns) (seen_names g label same xs)
 
--- and it is asynchronous where that is written
-async_if : (b : Bool) (k l : FunctionKind) → is_async k ≡ true → is_async l ≡ false → is_async (if b then k else l) ≡ b
-async_if true k l e f = e
-async_if false k l e f = f
+-- it is of the sort that is written
+sort_if : (b : Bool) (k l : FunctionKind) (sort : Bool → FunctionSort) → sort_of k ≡ sort true → sort_of l ≡ sort false → sort_of (if b then k else l) ≡ sort b
+sort_if true k l sort e f = e
+sort_if false k l sort e f = f
 
-async_is : (table : Entries) (k : MemberKind) (fk : FunctionKind) → IsKindOf table k fk → is_async fk ≡ is_written_async k
-async_is table (used t n) fk is = absurd is
-async_is table (defined t) fk is = absurd is
-async_is table (function f) fk is = ap is_async is ∙ async_if f.is_async of.AsyncFreestanding of.Freestanding refl refl
-async_is table (method r f) fk is = ap is_async is.2 ∙ async_if f.is_async (of.AsyncMethod is.0) (of.Method is.0) refl refl
-async_is table (static r f) fk is = ap is_async is.2 ∙ async_if f.is_async (of.AsyncStatic is.0) (of.Static is.0) refl refl
-async_is table (constructor r ps t) fk is = ap is_async is.2
+pub sort_is : (stands : Name → ℕ → Type 0) (k : MemberKind) (fk : FunctionKind) → IsKindMeant stands k fk → sort_of fk ≡ written_sort k
+sort_is stands (used t n) fk is = absurd is
+sort_is stands (defined t) fk is = absurd is
+sort_is stands (function f) fk is = ap sort_of is ∙ sort_if f.is_async of.AsyncFreestanding of.Freestanding (λ b. is_freestanding b) refl refl
+sort_is stands (method r f) fk is = ap sort_of is.2 ∙ sort_if f.is_async (of.AsyncMethod is.0) (of.Method is.0) (λ b. is_method b) refl refl
+sort_is stands (static r f) fk is = ap sort_of is.2 ∙ sort_if f.is_async (of.AsyncStatic is.0) (of.Static is.0) (λ b. is_static b) refl refl
+sort_is stands (constructor r ps t) fk is = ap sort_of is.2
+
+-- it is of the resource of the scope that has the name
+kind_meant : (stands : Name → ℕ → Type 0) (table : Entries) → ((x : Name) (i : ℕ) → Has table (x, i) → stands x i) → (k : MemberKind) (fk : FunctionKind) → IsKindOf table k fk → IsKindMeant stands k fk
+kind_meant stands table named (used t n) fk is = absurd is
+kind_meant stands table named (defined t) fk is = absurd is
+kind_meant stands table named (function f) fk is = is
+kind_meant stands table named (method r f) fk is = (is.0, named r.text is.0 is.1, is.2)
+kind_meant stands table named (static r f) fk is = (is.0, named r.text is.0 is.1, is.2)
+kind_meant stands table named (constructor r ps t) fk is = (is.0, named r.text is.0 is.1, is.2)
+
+-- so it is where the name stands for the same
+pub member_kind_same : (old new : Name → ℕ → Type 0) → ((x : Name) (i : ℕ) → old x i → new x i) → (k : MemberKind) (fk : FunctionKind) → IsKindMeant old k fk → IsKindMeant new k fk
+member_kind_same old new same (used t n) fk is = absurd is
+member_kind_same old new same (defined t) fk is = absurd is
+member_kind_same old new same (function f) fk is = is
+member_kind_same old new same (method r f) fk is = (is.0, same r.text is.0 is.1, is.2)
+member_kind_same old new same (static r f) fk is = (is.0, same r.text is.0 is.1, is.2)
+member_kind_same old new same (constructor r ps t) fk is = (is.0, same r.text is.0 is.1, is.2)
+
+-- each name of a scope's types stands for what it means
+names_mean : (given : Owner → Name → Tree) (c : Context) (a : List TypeDef) (o : Place) (whose : TypeOwner) (sorted : List MemberTree) (table : Entries) → Each (IsTypeIn c o whose a) sorted table → (x : Name) (i : ℕ) → Has table (x, i) → Stands c.me c.scopes given c.owners a o x i
+names_mean given c a o whose sorted table each x i (n, at) =
+    let m = each_right (IsTypeIn c o whose a) sorted table each n (x, i) at in
+    subst (λ (y : Name). Stands c.me c.scopes given c.owners a o y i) (sym m.2.name) (m.2.means given)
 
 -- a function of a scope that is one of these members
-abbrev in_scope : (given : Owner → Name → Tree) (c : Context) (a : List TypeDef) (o : Place) (ms : List MemberTree) (table : Entries) (m : MemberTree) (f : Function) → Has (functions_among ms) m → IsFunctionIn c o a table m f → IsFunctionMeant given c c.owners a o ms f
-in_scope given c a o ms table m f written is = record { member = m; written = written; named = is.is.name; params_named = names_are f m is.is.labels; asynchronous = async_is table m.kind f.kind is.is.kind; means = is.means given }
+abbrev in_scope : (given : Owner → Name → Tree) (c : Context) (a : List TypeDef) (o : Place) (ms : List MemberTree) (table : Entries) → ((x : Name) (i : ℕ) → Has table (x, i) → Stands c.me c.scopes given c.owners a o x i)
+    → (m : MemberTree) (f : Function) → Has (functions_among ms) m → IsFunctionIn c o a table m f → IsFunctionMeant given c c.owners a o ms f
+in_scope given c a o ms table mean m f written is = record {
+  member = m;
+  written = written;
+  named = is.is.name;
+  params_named = names_are f m is.is.labels;
+  kind = kind_meant (λ (x : Name) (i : ℕ). Stands c.me c.scopes given c.owners a o x i) table mean m.kind f.kind is.is.kind;
+  means = is.means given;
+}
 
 -- ---- interfaces
 
@@ -104,12 +137,11 @@ interface_meant given c a t id d is at_name = record {
   placed = λ x named. at_name (string_bytes x) (name_in d x t.name is.is.name named);
   names = λ x i has.
       let listed : Has is.table (string_bytes x, i) = subst (λ es. Has es (string_bytes x, i)) is.is.types (has_map (λ (e : String Global × ℕ). (string_bytes e.0, e.1)) d.types.entries (x, i) has) in
-      let m = each_right (IsTypeIn c t.place (belongs.Interface id) a) is.scope.sorted is.table is.scope.types_are listed.0 (string_bytes x, i) listed.1 in
-      subst (λ (n : Name). Stands c.me c.scopes given c.owners a t.place n i) (sym m.2.name) (m.2.means given);
+      names_mean given c a t.place (belongs.Interface id) is.scope.sorted is.table is.scope.types_are (string_bytes x) i listed;
   functions = λ x f has.
       let listed : Has is.functions f = subst (λ fs. Has fs f) is.is.functions (has_map (λ (e : String Global × Function). e.1) d.functions.entries (x, f) has) in
       let m = each_right (IsFunctionIn c t.place a is.table) (functions_among t.members) is.functions is.scope.functions_are listed.0 f listed.1 in
-      in_scope given c a t.place t.members is.table m.0 f (listed.0, m.1) m.2;
+      in_scope given c a t.place t.members is.table (names_mean given c a t.place (belongs.Interface id) is.scope.sorted is.table is.scope.types_are) m.0 f (listed.0, m.1) m.2;
 }
 
 -- ---- what stands for what in a world
@@ -146,7 +178,7 @@ module _ (ws : List WorldMemberTree) (side : Side) where
       of (scope.included i) has given = absurd (has_none (scope.member m) given)
 
   -- what is listed is a member, of that side
-  listed_on : (l : ListedTree) → Has (side_members side ws) (scope.listed l) → Has ws (scope.listed l) × (l.side ≡ side)
+  pub listed_on : (l : ListedTree) → Has (side_members side ws) (scope.listed l) → Has ws (scope.listed l) × (l.side ≡ side)
   listed_on l h = (let r = in_flat (side_member side) ws (scope.listed l) h in of r.0 r.1 r.2)
     where
       of : (x : WorldMemberTree) → Has ws x → Has (side_member side x) (scope.listed l) → Has ws (scope.listed l) × (l.side ≡ side)
@@ -238,7 +270,7 @@ module _ (given : Owner → Name → Tree) (c : Context) (a : List TypeDef) (w :
   side_function side es each n k f at =
       let e = each_right (IsEntryOf c o a is.table) (side_members side w.members) es each n (k, item.Function f) at in
       let of = entry_function c o a is.table w.members side e.0 (k, item.Function f) (n, e.1) e.2 f refl in
-      record { text = w; is_text = text; is = in_scope given c a (in_world o) (own_members w.members) is.table of.0 f of.1 of.2; giver = e.0; on_side = (n, e.1); gives = of.3 }
+      record { text = w; is_text = text; is = in_scope given c a (in_world o) (own_members w.members) is.table (names_mean given c a (in_world o) (belongs.World id) is.sorted is.table is.types_are) of.0 f of.1 of.2; giver = e.0; on_side = (n, e.1); gives = of.3 }
 
   side_interface : (side : Side) (es : List Entry) → Each (IsEntryOf c o a is.table) (side_members side w.members) es → (n : ℕ) (k : WorldKey) (i : ℕ) (gate : Stability) (span : Span) → slice_get es n ≡ Some (k, item.Interface i gate span)
       → IsInterfaceListed c c.owners ws d.name side i

@@ -1,7 +1,6 @@
 -- Each type of a graph has a tree when a package came to it.
-use Rattle.std.proofs.Common.{◌≡◌, ◌<◌, ◌≤◌, ℕ, ◌+◌, Bool, true, false, List, ◌∷◌, ◌++◌, [], length, length-append, Some, None, refl, sym, subst, ap, ◌∙◌, arith}
+use Rattle.std.proofs.Common.{◌≡◌, ◌<◌, ◌≤◌, ℕ, ◌+◌, Bool, true, false, List, ◌∷◌, ◌++◌, [], length, length-append, Some, sym, subst, ap, ◌∙◌, arith}
 use Rattle.std.specs.Prelude.{slice_get, nat_eq}
-use Rattle.std.proofs.lemmas.List.{length-map, take-append-drop}
 use Rattle.std.proofs.lemmas.Option.{slice_get_within}
 use Rattle.std.proofs.lemmas.Bool.{eq-eqb}
 use Rattle.wit_order.specs.Places.{Rows}
@@ -21,15 +20,12 @@ use Rattle.wit_arena.specs.Tree as tree
 use Rattle.wit_arena.specs.Tree.{Name, Owner, Tree}
 use Rattle.wit_arena.specs.Unfold.{Owners, owner_of, IsWhole}
 use Rattle.wit_copied_trees.specs.Law.{IncludedTypesStandForTheSame}
-use Rattle.wit_moved_trees.specs.Law.{StandForTheSame, MovedTypesStandForTheSame}
-use Rattle.wit_finding.specs.Types.{type_found}
+use Rattle.wit_moved_trees.specs.Law.{MovedTypesStandForTheSame}
 use Rattle.wit_joined.specs.Joined as joined
 use Rattle.wit_joined.specs.Joined.{Includes, includes_none, includes_one, own_state}
-use Rattle.wit_plans.specs.Plans.{Parts, found_of}
 use Rattle.wit_plans.specs.declared.moves.MovedWorld.{MovedWorld}
 use Rattle.wit_graph_worlds.specs.Added.{AreAdded, none_added, one_added}
 use Rattle.wit_graph_worlds.specs.Worlds.{State}
-use Rattle.wit_graph_parts.specs.Own.{asked_types, own_parts}
 use Rattle.wit_graph.specs.Graph.{Graph, AreWhole}
 use Rattle.wit_graph.specs.Push.{IsPushed}
 use Rattle.wit_pushed_trees.specs.Apart.{AreWorldsApart}

@@ -1,5 +1,5 @@
 -- Names of packages, and of what stands in them, tell these apart (WIT, Packages, Package Names, Item: `world`).
-use Rattle.std.specs.Prelude.{◌≡◌, ℕ, List, [], Some, slice_get, string_bytes}
+use Rattle.std.specs.Prelude.{◌≡◌, ℕ, List, Some, slice_get, string_bytes}
 use Rattle.wit_syntax.specs.Ast.{FileTree}
 use Rattle.wit_types.specs.declared.world.World.{World}
 use Rattle.wit_types.specs.declared.«package».Package.{Package}

@@ -13,4 +13,9 @@ pub mod Whole
 pub mod Meant
 pub mod MeantWorlds
 pub mod Said
+pub mod Staying
+pub mod StayingWorlds
+pub mod StayingPaths
+pub mod StayingIncludes
+pub mod StayingInner
 pub mod There

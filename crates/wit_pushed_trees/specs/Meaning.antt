@@ -1,5 +1,5 @@
 -- Interfaces that mean what their texts do (WIT, Item: `interface`, Use, Types).
-use Rattle.std.specs.Prelude.{◌≡◌, ℕ, Bool, true, false, List, Some, String, map, string_bytes}
+use Rattle.std.specs.Prelude.{◌≡◌, ℕ, Bool, true, false, List, Some, String, if◌then◌else◌, map, string_bytes}
 use Rattle.std.specs.declared.alloc.Global.{Global}
 use Rattle.wit_types.specs.declared.function.Param.{Param}
 use Rattle.wit_types.specs.declared.function.Function.{Function}
@@ -20,23 +20,39 @@ use Rattle.wit_resolved_scopes.specs.Meaning.{StandsForFunction}
 use Rattle.wit_resolved_scopes.specs.Scope.{functions_among}
 use Rattle.wit_resolved_scopes.specs.Texts.{InterfaceText}
 
--- whether a function is asynchronous, and whether it is written so
-abbrev pub is_async : FunctionKind → Bool
-is_async of.Freestanding = false
-is_async of.AsyncFreestanding = true
-is_async (of.Method r) = false
-is_async (of.AsyncMethod r) = true
-is_async (of.Static r) = false
-is_async (of.AsyncStatic r) = true
-is_async (of.Constructor r) = false
+-- what sort of function something is, and whether it is asynchronous
+pub data FunctionSort : Type 0 where
+  no_function : FunctionSort
+  is_freestanding : Bool → FunctionSort
+  is_method : Bool → FunctionSort
+  is_static : Bool → FunctionSort
+  is_constructor : FunctionSort
 
-abbrev pub is_written_async : MemberKind → Bool
-is_written_async (used t n) = false
-is_written_async (defined k) = false
-is_written_async (function f) = f.is_async
-is_written_async (method r f) = f.is_async
-is_written_async (static r f) = f.is_async
-is_written_async (constructor r ps t) = false
+abbrev pub sort_of : FunctionKind → FunctionSort
+sort_of of.Freestanding = is_freestanding false
+sort_of of.AsyncFreestanding = is_freestanding true
+sort_of (of.Method r) = is_method false
+sort_of (of.AsyncMethod r) = is_method true
+sort_of (of.Static r) = is_static false
+sort_of (of.AsyncStatic r) = is_static true
+sort_of (of.Constructor r) = is_constructor
+
+abbrev pub written_sort : MemberKind → FunctionSort
+written_sort (used t n) = no_function
+written_sort (defined k) = no_function
+written_sort (function f) = is_freestanding f.is_async
+written_sort (method r f) = is_method f.is_async
+written_sort (static r f) = is_static f.is_async
+written_sort (constructor r ps t) = is_constructor
+
+-- the kind of function that a member is, of the resource for which that name stands
+abbrev pub IsKindMeant : (Name → ℕ → Type 0) → MemberKind → FunctionKind → Type 0
+IsKindMeant stands (used t n) k = ⊥
+IsKindMeant stands (defined t) k = ⊥
+IsKindMeant stands (function f) k = k ≡ (if f.is_async then of.AsyncFreestanding else of.Freestanding)
+IsKindMeant stands (method r f) k = (i : ℕ) × stands r.text i × (k ≡ (if f.is_async then of.AsyncMethod i else of.Method i))
+IsKindMeant stands (static r f) k = (i : ℕ) × stands r.text i × (k ≡ (if f.is_async then of.AsyncStatic i else of.Static i))
+IsKindMeant stands (constructor r ps t) k = (i : ℕ) × stands r.text i × (k ≡ of.Constructor i)
 
 -- the names of parameters, and those that are written
 abbrev pub param_names : Function → List Name
@@ -45,13 +61,13 @@ param_names f = map (λ (p : Param). string_bytes p.name) f.params.items
 abbrev pub written_names : MemberTree → List Name
 written_names m = map (λ (p : ParamTree). p.name.text) (all_params m)
 
--- a function is one of these members of a place, and takes, under those names, and gives what is written there
+-- a function is one of these members of a place and of its kind, and takes, under those names, and gives what is written there
 pub record IsFunctionMeant (given : Owner → Name → Tree) (c : Context) (owners : Owners) (types : List TypeDef) (o : Place) (ms : List MemberTree) (f : Function) : Type 0 where
   pub member : MemberTree
   pub written : Has (functions_among ms) member
   pub named : string_bytes f.name ≡ full_name member.kind member.name
   pub params_named : param_names f ≡ written_names member
-  pub asynchronous : is_async f.kind ≡ is_written_async member.kind
+  pub kind : IsKindMeant (λ (x : Name) (i : ℕ). Stands c.me c.scopes given owners types o x i) member.kind f.kind
   pub means : StandsForFunction c.me c.scopes given owners o types member f
 
 -- an interface with a name is that of the text of that name; each of its names stands for what it means at the place of the text, and each function for

@@ -1,6 +1,6 @@
 -- What worlds import and export by texts: what they have themselves, and what the worlds bring that they include, under names that change (WIT, Item: `world`,
 -- `include`).
-use Rattle.std.specs.Prelude.{◌≡◌, ℕ, Bool, List, [], ◌∷◌, ◌++◌, Some, map, slice_get, string_bytes}
+use Rattle.std.specs.Prelude.{◌≡◌, ℕ, Bool, List, [], ◌∷◌, ◌++◌, Option, Some, None, map, slice_get, string_bytes}
 use Rattle.wit_words.specs.declared.source_map.Span.{Span}
 use Rattle.wit_types.specs.declared.function.Function.{Function}
 use Rattle.wit_types.specs.declared.interface.TypeDef.{TypeDef}
@@ -21,7 +21,7 @@ use Rattle.wit_scopes.specs.Members.{MemberTree}
 use Rattle.wit_scopes.specs.Scopes as scope
 use Rattle.wit_scopes.specs.Scopes.{WorldScope, WorldMemberTree, ListedTree, IncludedTree}
 use Rattle.wit_sides.specs.Renames.{IsRenamed}
-use Rattle.wit_arena.specs.Tree.{Name, in_world, Owner, Tree, TreeOption, Trees, no_trees, trees_and}
+use Rattle.wit_arena.specs.Tree.{Name, in_world, Owner, Tree, TreeOption, Trees, named_tree, resource_leaf, no_trees, trees_and}
 use Rattle.wit_arena.specs.Unfold.{Owners}
 use Rattle.wit_arena.specs.Standing.{HasTree}
 use Rattle.wit_arena.specs.Meaning.{Has, MeansParts, MeansName}
@@ -31,14 +31,16 @@ use Rattle.wit_resolved_scopes.specs.Texts.{side_members, includes_of}
 use Rattle.wit_worlds.specs.Worlds.{target_owner, include_name, written_name}
 use Rattle.wit_copied_trees.specs.Law.{IsOfTrees}
 use Rattle.wit_copied_trees.specs.Renamed.{IsRenamedTree, IsRenamedPart, AreRenamedTrees}
+use Rattle.wit_moves.specs.Moved.{resource_of}
 use Rattle.wit_graph.specs.Graph.{Graph, AreWhole, nothing}
 use Rattle.wit_graph.specs.Push.{IsPushed}
 use Rattle.wit_graph.specs.declared.tables.Tables.{Tables}
 use Rattle.wit_pushed_trees.specs.Found.{TellsNamesApart, NamesOfGraphStand, IsGivenBy}
 use Rattle.wit_pushed_trees.specs.Known.{AreTypesKnown, AreOwnTypesKnown}
-use Rattle.wit_pushed_trees.specs.Meaning.{is_async, is_written_async, param_names, written_names}
+use Rattle.wit_pushed_trees.specs.Meaning.{FunctionSort, sort_of, written_sort, param_names, written_names}
 use Rattle.wit_pushed_trees.specs.Meant.{PackageTexts, IsOfTexts}
 use Rattle.wit_pushed_trees.specs.Owned.{AreOwnersOf, AreOwned, AreOwnedWith}
+use Rattle.wit_pushed_trees.specs.Staying.{resource_text}
 use Rattle.wit_pushed_trees.specs.Whole.{HasTrees}
 use Rattle.wit_pushed_trees.specs.Worlds.{IsGiven, extern_owner}
 
@@ -60,16 +62,23 @@ pub record IsIncludeWritten (all : List PackageTexts) (one : PackageTexts) (w : 
   pub there : Has (includes_of w.members) i
   pub names_are : map include_name names ≡ map written_name i.names
 
--- the world has a function of that name on that side, which takes these under these names and gives that
-pub data SaysFunction (all : List PackageTexts) (given : Owner → Name → Tree) (side : Side) : Owner → Name → Bool → List Name → Trees → TreeOption → Type 0 where
+-- names of resources that functions are of, where these change
+abbrev pub IsRenamedResource : List IncludeName → Option Name → Option Name → Type 0
+IsRenamedResource names None None = Unit {0}
+IsRenamedResource names (Some x) (Some y) = IsRenamed names x y
+IsRenamedResource names None (Some y) = ⊥
+IsRenamedResource names (Some x) None = ⊥
+
+-- the world has a function of that name and sort on that side, of the resource of that name if it is of one, which takes these under these names and gives that
+pub data SaysFunction (all : List PackageTexts) (given : Owner → Name → Tree) (side : Side) : Owner → Name → FunctionSort → Option Name → List Name → Trees → TreeOption → Type 0 where
   says_function : (one : PackageTexts) (w : WorldScope) (x : WorldMemberTree) (m : MemberTree) (params : Trees) (result : TreeOption)
       → Has all one → Has one.worlds w → Has (side_members side w.members) x → IsGiven x m
       → MeansParts one.context.me one.context.scopes given (in_world w.name.text) (written_parts m) (with_result params result)
-      → SaysFunction all given side (world_owner one w) (full_name m.kind m.name) (is_written_async m.kind) (written_names m) params result
-  includes_function : (one : PackageTexts) (w : WorldScope) (i : IncludedTree) (names : List IncludeName) (x y : Name) (asynchronous : Bool) (xs : List Name) (ps qs : Trees) (r q : TreeOption)
-      → IsIncludeWritten all one w i names → SaysFunction all given side (included_owner one i) x asynchronous xs ps r → IsRenamed names x y
+      → SaysFunction all given side (world_owner one w) (full_name m.kind m.name) (written_sort m.kind) (resource_text m.kind) (written_names m) params result
+  includes_function : (one : PackageTexts) (w : WorldScope) (i : IncludedTree) (names : List IncludeName) (x y : Name) (sort : FunctionSort) (of to : Option Name) (xs : List Name) (ps qs : Trees) (r q : TreeOption)
+      → IsIncludeWritten all one w i names → SaysFunction all given side (included_owner one i) x sort of xs ps r → IsRenamed names x y → IsRenamedResource names of to
       → AreRenamedTrees names (included_owner one i) (world_owner one w) ps qs → IsRenamedPart names (included_owner one i) (world_owner one w) r q
-      → SaysFunction all given side (world_owner one w) y asynchronous xs qs q
+      → SaysFunction all given side (world_owner one w) y sort to xs qs q
 
 -- the world has a type of that name, which stands for that
 pub data SaysType (all : List PackageTexts) (given : Owner → Name → Tree) : Owner → Name → Tree → Type 0 where
@@ -86,11 +95,32 @@ pub data SaysInterface (all : List PackageTexts) (side : Side) : Owner → Owner
 
 -- ---- in a graph
 
+-- the tree of what a world has under that name
+abbrev pub IsOwnName : Owner → Name → Tree → Type 0
+IsOwnName w x (named_tree o y t) = (o ≡ w) × (y ≡ x)
+IsOwnName w x (resource_leaf o y) = (o ≡ w) × (y ≡ x)
+IsOwnName w x _ = ⊥
+
+-- the resource that a function is of is a type of that name that texts say of the world
+pub record IsResourceSaid (all : List PackageTexts) (given : Owner → Name → Tree) (owners : Owners) (types : List TypeDef) (w : Owner) (id : ℕ) (x : Name) : Type 0 where
+  pub tree : Tree
+  pub stands : HasTree owners given types id tree
+  pub own : IsOwnName w x tree
+  pub says : SaysType all given w x tree
+
+abbrev pub HasResourceSaid : List PackageTexts → (Owner → Name → Tree) → Owners → List TypeDef → Owner → Option ℕ → Option Name → Type 0
+HasResourceSaid all given owners types w None None = Unit {0}
+HasResourceSaid all given owners types w (Some id) (Some x) = IsResourceSaid all given owners types w id x
+HasResourceSaid all given owners types w None (Some x) = ⊥
+HasResourceSaid all given owners types w (Some id) None = ⊥
+
 pub record IsFunctionSaid (all : List PackageTexts) (given : Owner → Name → Tree) (owners : Owners) (types : List TypeDef) (side : Side) (w : Owner) (f : Function) : Type 0 where
   pub params : Trees
   pub result : TreeOption
   pub trees : IsOfTrees owners given types f (param_names f) params result
-  pub says : SaysFunction all given side w (string_bytes f.name) (is_async f.kind) (param_names f) params result
+  pub of : Option Name
+  pub resource : HasResourceSaid all given owners types w (resource_of f.kind) of
+  pub says : SaysFunction all given side w (string_bytes f.name) (sort_of f.kind) of (param_names f) params result
 
 pub record IsInterfaceSaid (all : List PackageTexts) (owners : Owners) (side : Side) (w : Owner) (id : ℕ) : Type 0 where
   pub whose : Owner

@@ -12,7 +12,7 @@ ghost use Rattle.wit_pushed_trees.specs.Owned.{EmptyGraphsAreOwned, MovedPackage
 ghost use Rattle.wit_pushed_trees.specs.Packages.{MovedPackagesMeanTheirTexts, ResolvedPackagesMeanTheirTexts};
 ghost use Rattle.wit_pushed_trees.specs.Pushed.{PushedInterfacesMeanTheirTexts, PushedTypesStandForTheSame, PushedWorldsMeanTheirTexts};
 ghost use Rattle.wit_pushed_trees.specs.Said.{EmptyWorldsAreSaid, PushedWorldsAreSaid};
-ghost use Rattle.wit_pushed_trees.specs.There.{MovedPackagesHaveTheirInterfaces, PushedPackagesListTheirInterfaces, ResolvedPackagesHaveTheirInterfaces};
+ghost use Rattle.wit_pushed_trees.specs.There.{MovedPackagesHaveTheirItems, PushedPackagesListTheirItems, ResolvedPackagesHaveTheirItems};
 ghost use Rattle.wit_pushed_trees.specs.Whole.{PushedGraphsHaveTrees, PushedGraphsKeepWhatWas};
 
 use wit_copied_trees::{
@@ -24,7 +24,8 @@ use wit_moved_trees::{
 };
 
 /// The interfaces and worlds of a package to which files are resolved mean what their texts do, whatever is given for names of other packages: each
-/// name stands for what it means there by lexical scope, and each function takes and gives what is written (WIT, Items, Use, Types).
+/// name stands for what it means there by lexical scope; each function takes and gives what is written, and one of a resource is of that for which the
+/// resource's name stands (WIT, Items, Use, Types).
 pub fn law_resolved_packages_mean_their_texts()
     ensures { ResolvedPackagesMeanTheirTexts }
 {}
@@ -223,9 +224,9 @@ pub fn law_empty_worlds_are_said()
 {}
 
 /// Each function, interface and type that a world of a graph imports or exports is one that texts say: its own text, or the text of a world that it includes,
-/// and so on, under names that change, types of an included world being the including one's. A function takes, under the names of the text, and gives what
-/// is written there, each name standing for what it means there by lexical scope. So it is, with one package's texts more, when `Graph::push` has answered for
-/// that package (WIT, Item: `world`, `include`, Use, Types).
+/// and so on, under names that change, types of an included world being the including one's. A function is of the sort and of the resource that are written there;
+/// it takes, under the names of the text, and gives what is written, each name standing for what it means there by lexical scope. So it is, with one package's texts
+/// more, when `Graph::push` has answered for that package (WIT, Item: `world`, `include`, Use, Types).
 pub fn law_pushed_worlds_are_said()
     ensures { PushedWorldsAreSaid }
 {
@@ -235,17 +236,21 @@ pub fn law_pushed_worlds_are_said()
     law_included_functions_stand_for_the_same();
 }
 
-/// Each interface that has a name in the texts of a package is one of the package's own, if files are resolved to it (WIT, Item: `interface`).
-pub fn law_resolved_packages_have_their_interfaces()
-    ensures { ResolvedPackagesHaveTheirInterfaces }
+/// Each interface that has a name in the texts of a package, and each world, is one of the package's own, with all types and functions of its own text, and a world
+/// with all that it imports, exports and includes, and with all members of interfaces that stand in it, if files are resolved to the package (WIT, Item: `interface`,
+/// `world`).
+pub fn law_resolved_packages_have_their_items()
+    ensures { ResolvedPackagesHaveTheirItems }
 {}
 
 /// It is wherever the texts stand among others.
-pub fn law_moved_packages_have_their_interfaces()
-    ensures { MovedPackagesHaveTheirInterfaces }
+pub fn law_moved_packages_have_their_items()
+    ensures { MovedPackagesHaveTheirItems }
 {}
 
-/// And it is there under its name when `Graph::push` has answered for the package, if it stays by the features that are active (WIT, Feature Gates).
-pub fn law_pushed_packages_list_their_interfaces()
-    ensures { PushedPackagesListTheirInterfaces }
+/// And it is there under its name when `Graph::push` has answered for the package, if it stays by the features that are active, with what of its own text stays:
+/// types and functions under their names; what a world imports and exports, under labels or, by paths, as the interfaces that have these names, with the members of
+/// an interface that stands in it; and all that the worlds bring that it includes, under names that change (WIT, Item: `include`, Use, Feature Gates).
+pub fn law_pushed_packages_list_their_items()
+    ensures { PushedPackagesListTheirItems }
 {}

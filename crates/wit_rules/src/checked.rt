@@ -49,6 +49,9 @@ pub fn check_names(alloc: Global, names: &[Label<'_>]) -> Result<(), PackageFaul
     ensures ok { OnOk result (IsKept (NamesBreak (map seen.label names.now))) }
     ensures cause { IfErr result (IsFaultOf (NamesBreak (map seen.label names.now))) }
 {
+    if names.len() <= 1 {
+        return Ok(());
+    }
     let mut keys = Vec::new(alloc);
     for name in names {
         keys.push(NameKey::of(name.text.as_str()))?;

@@ -7,6 +7,7 @@ ghost use Rattle.wit_rules.specs.Labels as spec;
 ghost use Rattle.wit_rules.specs.View as seen;
 ghost use Rattle.wit_words.specs.Slice.{Slice};
 
+use smallvec::SmallVec;
 use std::alloc::{AllocError, Global};
 use std::borrow::CowStr;
 use wit_scopes::{ItemScope, Member, MemberKind, known_name};
@@ -22,6 +23,19 @@ pub struct Label<'a> {
     /// Where it stands.
     pub span: Span,
 }
+
+// `SmallVec` fills the places that hold no name yet.
+impl Default for Label<'_> {
+    fn default() -> Self {
+        Label {
+            text: CowStr::Borrowed(""),
+            span: Span { start: 0, end: 0 },
+        }
+    }
+}
+
+/// Names of a scope. Most scopes have few, which take no memory of their own.
+pub type Labels<'a> = SmallVec<Label<'a>, 4>;
 
 /// A name as it is written.
 pub fn written<'a>(name: Id<'a>) -> Label<'a>
@@ -65,13 +79,10 @@ pub fn member_label<'a>(alloc: Global, member: &Member<'a>) -> Result<Label<'a>,
 }
 
 /// The names of the members of an interface.
-pub fn member_labels<'a>(
-    alloc: Global,
-    members: &[Member<'a>],
-) -> Result<Vec<Label<'a>>, AllocError>
+pub fn member_labels<'a>(alloc: Global, members: &[Member<'a>]) -> Result<Labels<'a>, AllocError>
     ensures { IfOk result (λ v. map seen.label v.items ≡ map spec.member_label (scope_view.members members.now)) }
 {
-    let mut found = Vec::new(alloc);
+    let mut found = SmallVec::new(alloc);
     for member in members {
         let label = member_label(alloc, member)?;
         found.push(label)?;
@@ -129,10 +140,7 @@ impl<'a> Named<'a> for Case<'a> {
 }
 
 /// Adds the names of these, in their order.
-pub fn add_names<'a, T: Named<'a>>(
-    found: &mut Vec<Label<'a>>,
-    items: &[T],
-) -> Result<(), AllocError>
+pub fn add_names<'a, T: Named<'a>>(found: &mut Labels<'a>, items: &[T]) -> Result<(), AllocError>
     ensures { OnOk result (map seen.label found.new.items ≡ map seen.label found.old.items ++ map T.name items.now) }
 {
     for item in items {
@@ -142,7 +150,7 @@ pub fn add_names<'a, T: Named<'a>>(
 }
 
 /// Adds the names of fields, flags or cases.
-fn add_kind<'a>(found: &mut Vec<Label<'a>>, kind: &TypeDefKind<'a>) -> Result<(), AllocError>
+fn add_kind<'a>(found: &mut Labels<'a>, kind: &TypeDefKind<'a>) -> Result<(), AllocError>
     ensures { OnOk result (map seen.label found.new.items ≡ map seen.label found.old.items ++ spec.kind_names (view.type_def_kind kind.now)) }
 {
     match kind {
@@ -155,23 +163,23 @@ fn add_kind<'a>(found: &mut Vec<Label<'a>>, kind: &TypeDefKind<'a>) -> Result<()
 }
 
 /// Adds the names of parameters.
-fn add_params<'a>(found: &mut Vec<Label<'a>>, params: &[Param<'a>]) -> Result<(), AllocError>
+fn add_params<'a>(found: &mut Labels<'a>, params: &[Param<'a>]) -> Result<(), AllocError>
     ensures { OnOk result (map seen.label found.new.items ≡ map seen.label found.old.items ++ spec.param_names (map view.param params.now)) }
 {
     add_names(found, params)
 }
 
 /// The names of parameters.
-pub fn param_labels<'a>(alloc: Global, params: &[Param<'a>]) -> Result<Vec<Label<'a>>, AllocError>
+pub fn param_labels<'a>(alloc: Global, params: &[Param<'a>]) -> Result<Labels<'a>, AllocError>
     ensures { IfOk result (λ v. map seen.label v.items ≡ spec.param_names (map view.param params.now)) }
 {
-    let mut found: Vec<Label<'a>> = Vec::new(alloc);
+    let mut found: Labels<'a> = SmallVec::new(alloc);
     add_params(&mut found, params)?;
     Ok(found)
 }
 
 /// Adds the names of fields, flags or cases, or those of parameters, of which a method has `self` before all others.
-fn add_within<'a>(found: &mut Vec<Label<'a>>, member: &Member<'a>) -> Result<(), AllocError>
+fn add_within<'a>(found: &mut Labels<'a>, member: &Member<'a>) -> Result<(), AllocError>
     ensures { OnOk result (map seen.label found.new.items ≡ map seen.label found.old.items ++ spec.names_within (scope_view.member_kind member.now.kind) (view.id member.now.name)) }
 {
     match &member.kind {
@@ -191,10 +199,10 @@ fn add_within<'a>(found: &mut Vec<Label<'a>>, member: &Member<'a>) -> Result<(),
 }
 
 /// The names of fields, flags or cases, or those of parameters, of which a method has `self` before all others.
-pub fn names_within<'a>(alloc: Global, member: &Member<'a>) -> Result<Vec<Label<'a>>, AllocError>
+pub fn names_within<'a>(alloc: Global, member: &Member<'a>) -> Result<Labels<'a>, AllocError>
     ensures { IfOk result (λ v. map seen.label v.items ≡ spec.names_within (scope_view.member_kind member.now.kind) (view.id member.now.name)) }
 {
-    let mut found = Vec::new(alloc);
+    let mut found = SmallVec::new(alloc);
     add_within(&mut found, member)?;
     Ok(found)
 }
@@ -210,7 +218,7 @@ pub fn scope_label<'a>(scope: &ItemScope<'a>) -> Label<'a>
 }
 
 /// Adds the name of an item, or that by which a `use` makes something known.
-fn add_item<'a>(found: &mut Vec<Label<'a>>, item: &FileItem<'a>) -> Result<(), AllocError>
+fn add_item<'a>(found: &mut Labels<'a>, item: &FileItem<'a>) -> Result<(), AllocError>
     ensures { OnOk result (map seen.label found.new.items ≡ map seen.label found.old.items ++ spec.file_item_labels (view.file_item item.now)) }
 {
     let name = match item {
@@ -224,10 +232,10 @@ fn add_item<'a>(found: &mut Vec<Label<'a>>, item: &FileItem<'a>) -> Result<(), A
 }
 
 /// The own items of a file, with the names that its `use` statements make known.
-pub fn file_labels<'a>(alloc: Global, file: &File<'a>) -> Result<Vec<Label<'a>>, AllocError>
+pub fn file_labels<'a>(alloc: Global, file: &File<'a>) -> Result<Labels<'a>, AllocError>
     ensures { IfOk result (λ v. map seen.label v.items ≡ spec.file_labels (view.file file.now)) }
 {
-    let mut found = Vec::new(alloc);
+    let mut found = SmallVec::new(alloc);
     for gated in &file.items {
         add_item(&mut found, &gated.item)?;
     }

@@ -94,6 +94,8 @@ fn interface_scope<'a>(
 {
     let Interface { name, items } = interface;
     let mut members = Vec::new(alloc);
+    // Most items declare one name.
+    members.reserve_exact(items.len())?;
     add_members(alloc, &mut members, uses, items)?;
     Ok(InterfaceScope {
         name,

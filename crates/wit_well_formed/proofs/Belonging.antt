@@ -1,5 +1,5 @@
 -- Each type that belongs to an interface of a package stands in it, and those of others have none of its own.
-use Rattle.std.proofs.Common.{◌≡◌, inl, inr, ℕ, ◌+◌, ◌<◌, ◌≤◌, List, Some, drop, length, sym, subst, ap, ◌∙◌, arith}
+use Rattle.std.proofs.Common.{◌≡◌, inl, inr, ℕ, ◌+◌, ◌<◌, ◌≤◌, List, Some, drop, length, refl, sym, subst, ap, ◌∙◌, arith}
 use Rattle.std.proofs.lemmas.Bool.{cases_lt}
 use Rattle.std.proofs.lemmas.Option.{same_Some, slice_get_within}
 use Rattle.std.specs.Prelude.{slice_get, String}
@@ -17,6 +17,7 @@ use Rattle.wit_rules.specs.Breaks.{IsKept}
 use Rattle.wit_lookups.specs.Lookups.{LookupsBreak}
 use Rattle.wit_arena.specs.Meaning.{Has}
 use Rattle.wit_arena.proofs.Lists.{has_map, has_none}
+use Rattle.wit_foreign.specs.Needs.{NeedTree}
 use Rattle.wit_foreign.specs.Items.{interfaces_in, worlds_in}
 use Rattle.wit_foreign.proofs.Numbers.{interface_below}
 use Rattle.wit_resolved_scopes.proofs.Orders.{listed}
@@ -34,8 +35,8 @@ use Rattle.wit_reach.proofs.Holding.{got}
 use Rattle.wit_well_formed.proofs.Lists.{get_drop}
 use Rattle.wit_well_formed.proofs.Sorts.{one_owner}
 use Rattle.wit_well_formed.proofs.Counted.{interface_item}
-use Rattle.wit_well_formed.proofs.Numbers.{interfaces_counted, worlds_counted}
-use Rattle.wit_well_formed.proofs.Few.{interfaces_few}
+use Rattle.wit_well_formed.proofs.Numbers.{interfaces, worlds, interfaces_numbered, worlds_numbered, all_counted}
+use Rattle.wit_well_formed.proofs.Few.{few_counted}
 
 owner_is : (o : TypeOwner) (j : ℕ) → interface_of o ≡ Some j → o ≡ belongs.Interface j
 owner_is belongs.None j e = absurd cc
@@ -49,16 +50,18 @@ module _ (files : List FileTree) (p : UnresolvedPackage) (r : Resolves files p) 
   looked_up : IsKept (LookupsBreak s.me (file_uses files) (package_scopes s.me files))
   looked_up rule at b = r.kept rule at (by_lookups s.me s.named b)
 
-  -- all interfaces that are asked for are counted
-  pub counted : interfaces_in s.items ≤ (asked p).interfaces
-  counted = interfaces_counted (files_need s.me files) s.items s.items_are (one_owner s.me (file_uses files) (package_scopes s.me files) looked_up) p.foreign_deps.entries p.foreign_dep_spans.items s.deps_are
+  abbrev needs : List NeedTree
+  needs = files_need s.me files
 
-  -- and all worlds
+  -- all that is asked for is counted
+  pub counted : interfaces_in s.items ≤ (asked p).interfaces
+  counted = all_counted needs s.items s.items_are (one_owner s.me (file_uses files) (package_scopes s.me files) looked_up) interfaces (interfaces_in s.items) (interfaces_numbered needs s.items s.items_are) p.foreign_deps.entries p.foreign_dep_spans.items s.deps_are
+
   pub worlds_are_counted : worlds_in s.items ≤ (asked p).worlds
-  worlds_are_counted = worlds_counted (files_need s.me files) s.items s.items_are (one_owner s.me (file_uses files) (package_scopes s.me files) looked_up) p.foreign_deps.entries p.foreign_dep_spans.items s.deps_are
+  worlds_are_counted = all_counted needs s.items s.items_are (one_owner s.me (file_uses files) (package_scopes s.me files) looked_up) worlds (worlds_in s.items) (worlds_numbered needs s.items s.items_are) p.foreign_deps.entries p.foreign_dep_spans.items s.deps_are
 
   -- types of other packages belong to these
-  other : (i j : ℕ) (d : TypeDef) → slice_get s.unknown i ≡ Some d → d.owner ≡ belongs.Interface j → j < interfaces_in s.items
+  pub other : (i j : ℕ) (d : TypeDef) → slice_get s.unknown i ≡ Some d → d.owner ≡ belongs.Interface j → j < interfaces_in s.items
   other i j d at of =
       let within : i < length s.unknown = slice_get_within s.unknown i d at in
       let so_many = s.unknown_are.so_many_types in
@@ -67,7 +70,7 @@ module _ (files : List FileTree) (p : UnresolvedPackage) (r : Resolves files p) 
       let one : known.def ≡ d = same_Some known.def d (sym known.type_at ∙ at) in
       let same : belongs.Interface known.interface ≡ belongs.Interface j = sym known.is.owner ∙ ap (λ (z : TypeDef). z.owner) one ∙ of in
       let number : known.interface ≡ j = cc in
-      let below = interface_below (files_need s.me files) s.items s.items_are e.0.0.0 known.interface known.item in
+      let below = interface_below needs s.items s.items_are e.0.0.0 known.interface known.item in
       omega (arith, below, number)
 
   stands : (i j : ℕ) (t : TypeDef) (d : Interface) → slice_get p.interfaces j ≡ Some d → IsListedAt p.interfaces p.worlds i t (belongs.Interface j) → order.Has (listed_types d) i
@@ -81,9 +84,12 @@ module _ (files : List FileTree) (p : UnresolvedPackage) (r : Resolves files p) 
     | inr is ↦ stands i ((asked p).interfaces + k) t d (get_drop (asked p).interfaces p.interfaces k d at) (subst (IsListedAt p.interfaces p.worlds i t) of is)
   ]
 
-  -- no more are counted
+  -- and no more
   pub no_more : (asked p).interfaces ≤ interfaces_in s.items
-  no_more = interfaces_few (files_need s.me files) s.items s.items_are p.foreign_deps.entries p.foreign_dep_spans.items s.deps_are
+  no_more = few_counted interfaces needs s.items (interfaces_in s.items) (interfaces_numbered needs s.items s.items_are) p.foreign_deps.entries p.foreign_dep_spans.items s.deps_are refl
+
+  pub no_more_worlds : (asked p).worlds ≤ worlds_in s.items
+  no_more_worlds = few_counted worlds needs s.items (worlds_in s.items) (worlds_numbered needs s.items s.items_are) p.foreign_deps.entries p.foreign_dep_spans.items s.deps_are refl
 
   -- one of another package has no types
   none_stand : (j : ℕ) (d : Interface) → slice_get p.interfaces j ≡ Some d → j < (asked p).interfaces → (e : String Global × ℕ) → Has d.types.entries e → ⊥
@@ -91,7 +97,7 @@ module _ (files : List FileTree) (p : UnresolvedPackage) (r : Resolves files p) 
       let most = no_more in
       let so_many : length s.foreign_interfaces ≡ interfaces_in s.items = s.foreign_are.so_many_interfaces in
       let low : j < length s.foreign_interfaces = omega (arith, less, most, so_many) in
-      let item = interface_item (files_need s.me files) s.items s.items_are j (omega (arith, low, so_many)) in
+      let item = interface_item needs s.items s.items_are j (omega (arith, low, so_many)) in
       let here : slice_get s.foreign_interfaces j ≡ Some d = sym (get_same s.foreign_interfaces s.own_interfaces j low) ∙ subst (λ (ds : List Interface). slice_get ds j ≡ Some d) s.interfaces_are at in
       has_none e (subst (λ (es : List (String Global × ℕ)). Has es e) (s.foreign_are.interfaces item.0 j d item.1 here).types has)
 

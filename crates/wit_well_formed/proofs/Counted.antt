@@ -60,7 +60,7 @@ module _ (needs : List NeedTree) (items : Items) (are : AreItemsOf needs items) 
   world_before (f ∷ es) zero e at = let same : world_count f.1 ≡ world_count e.1 = ap (λ (z : Owner × AstItem). world_count z.1) (same_Some f e at) in omega (arith, same)
   world_before (f ∷ es) (suc p) e at = let less : worlds_in (take p es) + world_count e.1 ≤ worlds_in es = world_before es p e at in omega (arith, less)
 
-  world_below : (w : Owner) (k : ℕ) → Has items (w, ids.World k) → k < worlds_in items
+  pub world_below : (w : Owner) (k : ℕ) → Has items (w, ids.World k) → k < worlds_in items
   world_below w k (p, at) =
       let is : k ≡ worlds_in (take p items) = world_number needs items are p w k at in
       let less : worlds_in (take p items) + 1 ≤ worlds_in items = world_before items p (w, ids.World k) at in

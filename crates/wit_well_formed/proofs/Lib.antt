@@ -22,4 +22,4 @@ pub mod NamesWithin
 mod PlainNames
 pub mod PlainTexts
 pub mod OffsetNames
-mod InterfaceNames
+pub mod InterfaceNames

@@ -30,4 +30,4 @@ returns c =
       moved_read = c.law_moved_names_read_back.ensures;
       empty_graph_known = c.law_empty_graphs_are_known.ensures;
       pushed_graph_known = c.law_pushed_graphs_are_known.ensures;
-    })
+    }) c.law_text_graphs_are_named.ensures

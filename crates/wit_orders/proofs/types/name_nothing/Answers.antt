@@ -3,7 +3,6 @@ use Rattle.std.specs.Prelude.{◌==◌, slice_get, option_map}
 use Rattle.std.proofs.lemmas.List.{length-map}
 use Rattle.std.proofs.lemmas.Option.{slice_get-map, slice_get_within, same_Some}
 use Rattle.wit_rules.proofs.Places.{read_at}
-use Rattle.wit_scopes.specs.Members.{MemberTree}
 use Rattle.wit_scopes.specs.declared.members.Member.{Member}
 use Rattle.wit_scopes.specs.View as scope_view
 use Rattle.wit_syntax.specs.AstView as view

@@ -12,5 +12,5 @@ use Rattle.wit_rules.proofs.members.check_members.Goals as goal
 pub returns-clause-ok : goal.returns-clause-ok
 returns-clause-ok c =
     on_ok c.check_names.result
-    (λ kept. members_kept (scope_view.members c.args.members.now) (viewed_kept MemberBreaks scope_view.member c.args.members.now c.in_ok-check_all.ensures.ok) (subst (λ (ns : List Slice). IsKept (NamesBreak ns)) (ap (map seen.label) c.as_slice.ensures.value ∙ c.in_ok-names.ensures) kept))
+    (λ kept. members_kept (scope_view.members c.args.members.now) (viewed_kept MemberBreaks scope_view.member c.args.members.now c.in_ok-check_all.ensures.ok) (subst (λ (ns : List Slice). IsKept (NamesBreak ns)) (ap (map seen.label) c.as_slice.ensures ∙ c.in_ok-names.ensures) kept))
     c.check_names.ensures.ok

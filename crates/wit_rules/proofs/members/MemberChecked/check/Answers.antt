@@ -15,7 +15,7 @@ use Rattle.wit_rules.proofs.members.MemberChecked.check.Goals as goal
 pub returns-clause-ok : goal.returns-clause-ok
 returns-clause-ok c =
     on_ok c.check_names.result
-    (λ kept. member_kept (scope_view.member c.args.self.now) (subst (λ (f : Front). IsKept (GatesBreak (map view.attribute f.attributes.items))) c.deref.ensures c.in_ok-check_front.ensures.ok) c.in_ok-check_cases.ensures.ok (subst (λ (ns : List Slice). IsKept (NamesBreak ns)) (ap (map seen.label) c.as_slice.ensures.value ∙ c.in_ok-names.ensures) kept))
+    (λ kept. member_kept (scope_view.member c.args.self.now) (subst (λ (f : Front). IsKept (GatesBreak (map view.attribute f.attributes.items))) c.deref.ensures c.in_ok-check_front.ensures.ok) c.in_ok-check_cases.ensures.ok (subst (λ (ns : List Slice). IsKept (NamesBreak ns)) (ap (map seen.label) c.as_slice.ensures ∙ c.in_ok-names.ensures) kept))
     c.check_names.ensures.ok
 
 pub returns-in_err-check_front-clause-cause : goal.returns-in_err-check_front-clause-cause
