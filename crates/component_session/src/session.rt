@@ -127,17 +127,18 @@ impl<'a> Session<'a> {
         let _ = &self.resolve;
     }
 
-    /// What holds of each session: every name of its packages means what scope gives it over all texts that were pushed. Each interface and each world is
-    /// of the package of one of these and means what its text does; what is taken of another package is what stands here under the names of that package
+    /// What holds of each session, whatever pushes its packages come of (`law_packages_come_of_texts` has some): every name of them means what scope gives it over
+    /// all texts that were pushed. Each package has the name that one of these says; each interface and each world is of such a package and means what the text does
+    /// whose it is; what is taken of another package is what stands here under the names of that package
     /// and of its interface; a function of a resource is of that for which the resource's name stands; and all that a world imports and exports is what texts say,
     /// its own or those of worlds that it includes. All packages of the texts are there under their names, also nested ones, with each interface and each world that
     /// has a name and stays by the features that were active when they were pushed, and with what of its own text stays: types and functions under their names; what
     /// a world imports and exports, under labels or, by paths, as the interfaces that have these names, with the members of an interface that stands in it; and all
-    /// that the worlds bring that it includes, under names that change (WIT, Packages, Nested Packages, Items, Feature Gates, Use, Types).
+    /// that the worlds bring that it includes, under names that change. Under names these packages have no other interfaces and worlds, and interfaces no other
+    /// types and functions (WIT, Packages, Nested Packages, Items, Feature Gates, Use, Types).
     pub fn law_packages_mean_their_texts(&self)
-        ensures { (come : ComeOfTexts ⟦<PackageName as PartialEq>⟧.eq self.now.resolved) × MeansItsTexts (coming.pushes ⟦<PackageName as PartialEq>⟧.eq self.now.resolved come) self.now.resolved.graph × AreAllThere (coming.pushes_with ⟦<PackageName as PartialEq>⟧.eq self.now.resolved come) self.now.resolved.graph.tables }
+        ensures { (come : ComeOfTexts ⟦<PackageName as PartialEq>⟧.eq self.now.resolved) → MeansItsTexts (coming.pushes ⟦<PackageName as PartialEq>⟧.eq self.now.resolved come) self.now.resolved.graph × AreAllThere (coming.pushes_with ⟦<PackageName as PartialEq>⟧.eq self.now.resolved come) self.now.resolved.graph.tables }
     {
-        self.law_packages_come_of_texts();
         law_same_names_are_equal();
         law_equal_names_are_the_same();
         law_text_graphs_mean_their_texts();
@@ -198,6 +199,7 @@ impl<'a> Session<'a> {
         deps: &[(&str, &str)],
     ) -> Result<PackageId, ResolveError>
         ensures ok { IfOk result (pushes.AreTextsPushed ⟦<PackageName as PartialEq>⟧.eq self.old.resolved (files_of (texts main.now) (texts deps.now)) self.new.resolved) }
+        ensures more { OnOk result (pushes.HasMorePackages self.old.resolved.graph self.new.resolved.graph) }
         ensures cause { IfErr result (pushes.AreTextsError ⟦<PackageName as PartialEq>⟧.eq self.old.resolved (files_of (texts main.now) (texts deps.now))) }
         ensures err { OnErr result (pushes.AreTextsRefused ⟦<PackageName as PartialEq>⟧.eq self.old.resolved (files_of (texts main.now) (texts deps.now)) self.new.resolved) }
         ensures texts { IfErr result (λ kind. pushes.AreTextsKept self.old.resolved (files_of (texts main.now) (texts deps.now)) kind self.new.resolved) }
@@ -209,6 +211,7 @@ impl<'a> Session<'a> {
     /// Adds the packages of a text, as `push_texts` of this text alone.
     pub fn push_source(&mut self, path: &str, contents: &str) -> Result<PackageId, ResolveError>
         ensures ok { IfOk result (pushes.AreTextsPushed ⟦<PackageName as PartialEq>⟧.eq self.old.resolved (files_of (record { path = path.now; contents = contents.now } ∷ []) []) self.new.resolved) }
+        ensures more { OnOk result (pushes.HasMorePackages self.old.resolved.graph self.new.resolved.graph) }
         ensures cause { IfErr result (pushes.AreTextsError ⟦<PackageName as PartialEq>⟧.eq self.old.resolved (files_of (record { path = path.now; contents = contents.now } ∷ []) [])) }
         ensures err { OnErr result (pushes.AreTextsRefused ⟦<PackageName as PartialEq>⟧.eq self.old.resolved (files_of (record { path = path.now; contents = contents.now } ∷ []) []) self.new.resolved) }
         ensures texts { IfErr result (λ kind. pushes.AreTextsKept self.old.resolved (files_of (record { path = path.now; contents = contents.now } ∷ []) []) kind self.new.resolved) }
@@ -226,6 +229,7 @@ impl<'a> Session<'a> {
         requires main { IsGroupOf main.source_map main }
         requires deps { (g : UnresolvedPackageGroup) → Has deps.items g → IsGroupOf g.source_map g }
         ensures ok { IfOk result (pushes.AreTextsPushed ⟦<PackageName as PartialEq>⟧.eq self.old.resolved (files_of_groups (main ∷ deps.items)) self.new.resolved) }
+        ensures more { OnOk result (pushes.HasMorePackages self.old.resolved.graph self.new.resolved.graph) }
         ensures cause { IfErr result (pushes.AreTextsError ⟦<PackageName as PartialEq>⟧.eq self.old.resolved (files_of_groups (main ∷ deps.items))) }
         ensures err { OnErr result (pushes.AreTextsRefused ⟦<PackageName as PartialEq>⟧.eq self.old.resolved (files_of_groups (main ∷ deps.items)) self.new.resolved) }
         ensures texts { IfErr result (λ kind. pushes.AreTextsKept self.old.resolved (files_of_groups (main ∷ deps.items)) kind self.new.resolved) }
@@ -239,6 +243,7 @@ impl<'a> Session<'a> {
     pub fn push_group(&mut self, group: UnresolvedPackageGroup) -> Result<PackageId, ResolveError>
         requires { IsGroupOf group.source_map group }
         ensures ok { IfOk result (pushes.AreTextsPushed ⟦<PackageName as PartialEq>⟧.eq self.old.resolved (group.source_map ∷ []) self.new.resolved) }
+        ensures more { OnOk result (pushes.HasMorePackages self.old.resolved.graph self.new.resolved.graph) }
         ensures cause { IfErr result (pushes.AreTextsError ⟦<PackageName as PartialEq>⟧.eq self.old.resolved (group.source_map ∷ [])) }
         ensures err { OnErr result (pushes.AreTextsRefused ⟦<PackageName as PartialEq>⟧.eq self.old.resolved (group.source_map ∷ []) self.new.resolved) }
         ensures texts { IfErr result (λ kind. pushes.AreTextsKept self.old.resolved (group.source_map ∷ []) kind self.new.resolved) }

@@ -30,7 +30,7 @@ use Rattle.wit_pushed_trees.specs.Asked.{text_of}
 use Rattle.wit_pushed_trees.specs.Found.{TellsNamesApart, EmptyNamesStand, PushedNamesStand}
 use Rattle.wit_pushed_trees.specs.Giving.{GraphsGiveTheirNames}
 use Rattle.wit_pushed_trees.specs.Known.{AreOwnTypesKnown, ResolvedTypesAreKnown, MovedTypesAreKnown, EmptyTypesAreKnown, PushedTypesAreKnown}
-use Rattle.wit_pushed_trees.specs.Meant.{PackageTexts, texts_of, IsOfTexts, ResolvedPackagesAreOfTexts, AreMeantBy, EmptyGraphsAreMeant, PushedGraphsMeanTheirTexts}
+use Rattle.wit_pushed_trees.specs.Meant.{PackageTexts, texts_of, IsOfTexts, ResolvedPackagesAreOfTexts, AreMeantBy, EmptyGraphsAreMeant, PushedGraphsMeanTheirTexts, ArePackagesSaid, PushedPackagesAreSaid}
 use Rattle.wit_pushed_trees.specs.MeantWorlds.{AreWorldsMeantBy, EmptyWorldsAreMeant, PushedWorldsAreMeant}
 use Rattle.wit_pushed_trees.specs.Owned.{AreOwnersOf, ResolvedPackagesHaveOwners, MovedPackagesHaveOwners, EmptyGraphsAreOwned, PushedGraphsAreOwned}
 use Rattle.wit_pushed_trees.specs.Packages.{MovedPackagesMeanTheirTexts}
@@ -78,6 +78,7 @@ record IsMeantGraph (files : List (List SourceText)) (g : Graph) : Type 0 where
   names_known : IsKnownGraph g
   texts : List PackageTexts
   said : (one : PackageTexts) → Has texts one → (source : List SourceText) × order.Has files source × IsSaidBy source one
+  packages : ArePackagesSaid texts g.tables
   interfaces : AreMeantBy texts has.owners g.tables
   worlds : AreWorldsMeantBy texts has.owners g.tables
   worlds_said : AreWorldsSaid texts has.owners g.tables
@@ -85,6 +86,7 @@ record IsMeantGraph (files : List (List SourceText)) (g : Graph) : Type 0 where
 pub record Laws : Type 0 where
   pub resolved_of_texts : ResolvedPackagesAreOfTexts
   pub moved_meant : MovedPackagesMeanTheirTexts
+  pub pushed_packages : PushedPackagesAreSaid
   pub empty_meant : EmptyGraphsAreMeant
   pub pushed_meant : PushedGraphsMeanTheirTexts
   pub empty_worlds : EmptyWorldsAreMeant
@@ -173,6 +175,7 @@ module _ (laws : Laws) where
           | inl was ↦ so.said t (has.0, was)
           | inr last ↦ (among.0, among.1, subst (IsSaidBy among.0) (sym last.1) one.said)
         ];
+        packages = laws.pushed_packages so.texts one.texts eq set old p new id one.of_texts is so.packages;
         interfaces = laws.pushed_meant so.texts one.texts so.has.owners eq set old p new id tells so.has.names_stand so.has.owned whole.whole so.has.known so.trees one.are one.of_texts is o so.interfaces;
         worlds = laws.pushed_worlds so.texts one.texts so.has.owners eq set old p new id tells so.has.names_stand so.has.owned whole.whole so.has.known so.trees one.are one.of_texts is o so.worlds;
         worlds_said = laws.pushed_said so.texts one.texts so.has.owners eq set old p new id tells so.has.names_stand so.has.owned whole.whole so.has.known so.trees one.are one.known one.of_texts is o so.worlds_said;
@@ -185,6 +188,7 @@ module _ (laws : Laws) where
     names_known = so.names_known;
     texts = so.texts;
     said = λ t has. (let s = so.said t has in (s.0, has_front files more s.0 s.1, s.2));
+    packages = so.packages;
     interfaces = so.interfaces;
     worlds = so.worlds;
     worlds_said = so.worlds_said;
@@ -198,6 +202,7 @@ module _ (laws : Laws) where
         names_known = laws.empty_graph_known;
         texts = [];
         said = λ t has. absurd (has_none t has);
+        packages = λ k q at. absurd cc;
         interfaces = laws.empty_meant;
         worlds = laws.empty_worlds;
         worlds_said = laws.empty_said;
@@ -210,6 +215,7 @@ module _ (laws : Laws) where
         gives = laws.give all.1.has.owners r.graph.tables (λ w x. tree.primitive tree.bool) all.1.has.owned all.0.whole all.1.has.known (all.1.trees (λ w x. tree.primitive tree.bool));
         texts = all.1.texts;
         said = all.1.said;
+        packages = all.1.packages;
         interfaces = all.1.interfaces;
         worlds = all.1.worlds;
         worlds_said = all.1.worlds_said;

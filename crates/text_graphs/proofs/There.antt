@@ -57,6 +57,8 @@ kept_after a b c first second = record { packages = λ q has. second.packages q 
 
 items_kept : (set : FeatureSet) (old new : Tables) → AreKept old new → (ts : List ItemScope) (q : Package) → ListsItems set ts q old → ListsItems set ts q new
 items_kept set old new kept ts q lists = record {
+  only_interfaces = lists.only_interfaces;
+  only_worlds = lists.only_worlds;
   interfaces_are = λ t has stay. (
       let d = lists.interfaces_are t has stay in record {
         name = d.name;

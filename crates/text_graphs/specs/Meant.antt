@@ -14,7 +14,7 @@ use Rattle.wit_graph.specs.Graph.{Graph}
 use Rattle.wit_resolution.specs.Pushes.{Resolved}
 use Rattle.wit_pushed_trees.specs.Found.{TellsNamesApart}
 use Rattle.wit_pushed_trees.specs.Giving.{Gives}
-use Rattle.wit_pushed_trees.specs.Meant.{PackageTexts, texts_of, AreMeantBy}
+use Rattle.wit_pushed_trees.specs.Meant.{PackageTexts, texts_of, ArePackagesSaid, AreMeantBy}
 use Rattle.wit_pushed_trees.specs.MeantWorlds.{AreWorldsMeantBy}
 use Rattle.wit_pushed_trees.specs.Said.{AreWorldsSaid}
 use Rattle.wit_pushed_trees.specs.Whole.{HasTrees}
@@ -38,8 +38,10 @@ pub record IsSaidBy (source : List SourceText) (texts : PackageTexts) : Type 0 w
   pub is : texts ≡ texts_of files «package» resolves
 
 -- functions of worlds stand under their names, and names tell apart what they have to; all that a graph holds has an owner, and each type stands for something; for
--- each name of an interface the graph gives what stands in it under that; and where that is given for names that a text takes of another package, each interface and
--- each world means what its text does, which is one of those pushed, and what a world imports and exports in all is what texts say of it and of those that it includes
+-- each name of an interface the graph gives what stands in it under that; each package has the name that one of the texts says that were pushed; and where what stands
+-- is given for names that a text takes of another package, each interface and each world means what its text does, the one of these whose it is by its owner, and what
+-- a world imports and exports in all is what texts say of it and of those that it includes
+-- (what features leave out says `There`, of worlds, as the order of lists, docs and gates, the pushes of which all comes)
 pub record MeansItsTexts (files : List (List SourceText)) (g : Graph) : Type 0 where
   pub named : IsTextGraph g
   pub has : HasOwners g
@@ -47,6 +49,7 @@ pub record MeansItsTexts (files : List (List SourceText)) (g : Graph) : Type 0 w
   pub gives : Gives has.owners g.tables
   pub texts : List PackageTexts
   pub said : (one : PackageTexts) → Has texts one → (source : List SourceText) × order.Has files source × IsSaidBy source one
+  pub packages : ArePackagesSaid texts g.tables
   pub interfaces : AreMeantBy texts has.owners g.tables
   pub worlds : AreWorldsMeantBy texts has.owners g.tables
   pub worlds_said : AreWorldsSaid texts has.owners g.tables

@@ -19,7 +19,7 @@ use Rattle.text_graphs.specs.Coming.{ComeOfTexts, pushes_with}
 use Rattle.text_graphs.specs.Meant.{AreFilesOf}
 
 -- files are resolved to a package, and one of its name is there, which has under their names all interfaces and worlds of the files that have names and stay by
--- these features, with what stays of their own members, of what worlds import and export by paths and of what they include
+-- these features, and no others, with what stays of their own members, interfaces with no more, and of what worlds import and export by paths and of what they include
 pub record IsPackageThere (features : FeatureSet) (t : Tables) (files : List FileTree) : Type 0 where
   pub «package» : UnresolvedPackage
   pub resolves : Resolves files «package»

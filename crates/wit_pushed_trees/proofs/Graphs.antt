@@ -1,7 +1,7 @@
 -- Packages that were pushed mean in the graph what they meant.
-use Rattle.std.proofs.Common.{◌≡◌, ℕ, ◌+◌, Bool, true, false, List, [], ◌∷◌, ◌++◌, zero, suc, length, map, Some, String, inl, inr, refl, sym, subst, ap, ◌∙◌, arith}
+use Rattle.std.proofs.Common.{◌≡◌, ℕ, ◌+◌, Bool, true, false, List, [], ◌∷◌, ◌++◌, zero, suc, length, map, Some, String, inl, inr, refl, sym, subst, ap, ◌∙◌, arith, is_some, Option}
 use Rattle.std.proofs.lemmas.Option.{same_Some}
-use Rattle.std.specs.Prelude.{◌&&◌, if◌then◌else◌, slice_get, string_bytes}
+use Rattle.std.specs.Prelude.{◌&&◌, if◌then◌else◌, slice_get, string_bytes, unwrap_or}
 use Rattle.std.specs.declared.alloc.Global.{Global}
 use Rattle.wit_words.specs.declared.source_map.Span.{Span}
 use Rattle.wit_types.specs.declared.function.Param.{Param}
@@ -18,12 +18,13 @@ use Rattle.wit_types.specs.declared.world.WorldItem.{WorldItem}
 use Rattle.wit_types.specs.declared.world.WorldItem.TheVariants as item
 use Rattle.wit_types.specs.declared.world_key.WorldKey.{WorldKey}
 use Rattle.wit_types.specs.declared.world_key.WorldKey.TheVariants as key
-use Rattle.wit_types.specs.WorldKey.{spelled, known}
+use Rattle.wit_types.specs.WorldKey.{spelled, placed, known}
 use Rattle.wit_features.specs.Features.{FeatureSet, stays}
 use Rattle.wit_scopes.specs.Members.{MemberKind, MemberTree, used, defined, function, method, static, constructor}
 use Rattle.wit_scopes.specs.declared.worlds.Side.{Side}
 use Rattle.wit_scopes.specs.declared.worlds.Side.TheVariants.{Import, Export}
-use Rattle.wit_scopes.specs.Scopes.{WorldScope}
+use Rattle.wit_scopes.specs.Scopes as scope
+use Rattle.wit_scopes.specs.Scopes.{WorldScope, ListedTree, ExternKind}
 use Rattle.wit_arena.specs.Tree.{Name, Place, in_world, Owner, Tree, Trees}
 use Rattle.wit_arena.specs.Unfold.{Owners, trees}
 use Rattle.wit_arena.specs.Standing.{Stands}
@@ -44,16 +45,18 @@ use Rattle.wit_placed.proofs.Own.{interface_from}
 use Rattle.wit_readiness.proofs.Flat.{in_flat, has_one}
 use Rattle.wit_resolved_scopes.specs.InArena.{Context}
 use Rattle.wit_resolved_scopes.specs.Texts.{InterfaceText, own_members}
-use Rattle.wit_graph_parts.specs.Own.{own_parts}
+use Rattle.wit_graph_parts.specs.Own.{own_parts, asked}
 use Rattle.wit_types.specs.declared.«package».PackageName.{PackageName}
 use Rattle.wit_types.specs.declared.«package».UnresolvedPackage.{UnresolvedPackage}
 use Rattle.wit_graph.specs.Graph.{Graph}
 use Rattle.wit_graph.specs.Push.{IsPushed}
 use Rattle.wit_pushed_trees.specs.Meaning.{sort_of, IsKindMeant, IsFunctionMeant, IsInterfaceMeant, IsOfText}
-use Rattle.wit_pushed_trees.specs.Worlds.{IsTextOf, IsTypeMeant, IsOwnFunctionMeant, IsInterfaceListed, IsIncludeMeant, IsWorldMeant}
+use Rattle.wit_pushed_trees.specs.Worlds.{IsTextOf, IsTypeMeant, IsOwnFunctionMeant, listed_key, IsInterfaceListed, IsIncludeMeant, IsWorldMeant}
 use Rattle.wit_pushed_trees.specs.Packages.{IsPackageMeant}
 use Rattle.wit_pushed_trees.specs.Pushed.{AreAgreed, PushedTypesStandForTheSame, PushedInterfacesMeanTheirTexts, PushedWorldsMeanTheirTexts}
 use Rattle.wit_pushed_trees.proofs.Parts.{parts_joined, parts_split}
+use Rattle.wit_moves.specs.Plan.{OwnerPlaces}
+use Rattle.wit_placed.specs.Order.{interface_places}
 
 -- ---- lists of which some goes
 
@@ -62,7 +65,7 @@ got_behind [] ys k = ap (slice_get ys) (omega arith)
 got_behind (x ∷ xs) ys k = (let e : length (x ∷ xs) + k ≡ suc (length xs + k) = omega arith in ap (slice_get (x ∷ (xs ++ ys))) e ∙ got_behind xs ys k)
 
 -- what stands in a list of which some went was there, and stays
-kept_was : {K V : Type 0} (stays : V → Bool) (changes : V → V → Type 0) (es fs : List (K × V)) → AreKept stays changes es fs → (x : K) (w : V) → Has fs (x, w) → (v : V) × Has es (x, v) × (stays v ≡ true) × changes v w
+pub kept_was : {K V : Type 0} (stays : V → Bool) (changes : V → V → Type 0) (es fs : List (K × V)) → AreKept stays changes es fs → (x : K) (w : V) → Has fs (x, w) → (v : V) × Has es (x, v) × (stays v ≡ true) × changes v w
 kept_was stays changes _ _ no_entries x w has = absurd (has_none (x, w) has)
 kept_was stays changes _ _ (one_goes k v es fs st rest) x w has =
     let r = kept_was stays changes es fs rest x w has in
@@ -187,6 +190,13 @@ spelled_key : (f : ℕ → ℕ) (k : WorldKey) (x : Name) → known k ≡ spelle
 spelled_key f (key.Name n) x e = e
 spelled_key f (key.Interface i) x e = absurd cc
 
+-- and so does one of what a text lists, with what it stands for
+listed_key_moves : (f : ℕ → ℕ) (k : WorldKey) (l : ListedTree) (kind : ExternKind) (id : ℕ) → known k ≡ listed_key l kind id → known (moved_key f k) ≡ listed_key l kind (f id)
+listed_key_moves f k l (scope.ExternKind.function g) id e = spelled_key f k l.name.text e
+listed_key_moves f k l (scope.ExternKind.interface ms) id e = spelled_key f k l.name.text e
+listed_key_moves f (key.Name n) l (scope.item t) id e = absurd cc
+listed_key_moves f (key.Interface i) l (scope.item t) id e = (let same : i ≡ id = cc in ap (λ (j : ℕ). placed (f j)) same)
+
 -- what stands on a side was there
 record Was (features : FeatureSet) (places interfaces : Places) (old : List (WorldKey × WorldItem)) (k : WorldKey) (x : WorldItem) : Type 0 where
   first : WorldKey
@@ -258,8 +268,8 @@ module _ (functions_stand : MovedFunctionsStandForTheSame) (given : Owner → Na
     ]
 
     interface_listed : (side : Side) (es fs : List (WorldKey × WorldItem)) → IsMovedSide features s.types s.interfaces es fs → IsKept (SideBreaks features s.types s.interfaces es)
-        → ((k : WorldKey) (i : ℕ) (gate : Stability) (span : Span) → Has es (k, item.Interface i gate span) → IsInterfaceListed c c.owners ws old.name side i)
-        → (k : WorldKey) (i : ℕ) (gate : Stability) (span : Span) → Has fs (k, item.Interface i gate span) → IsInterfaceListed c graph_owners ws m.name side i
+        → ((k : WorldKey) (i : ℕ) (gate : Stability) (span : Span) → Has es (k, item.Interface i gate span) → IsInterfaceListed c c.owners ws old.name side k i)
+        → (k : WorldKey) (i : ℕ) (gate : Stability) (span : Span) → Has fs (k, item.Interface i gate span) → IsInterfaceListed c graph_owners ws m.name side k i
     interface_listed side es fs sides kept listed k i gate span has =
         let was = side_was features s.types s.interfaces es fs sides k (item.Interface i gate span) has in
         let from = interface_from_item s.types s.interfaces was.item_was i gate span was.moved in
@@ -275,6 +285,7 @@ module _ (functions_stand : MovedFunctionsStandForTheSame) (given : Owner → Na
           whose = l.whose;
           listed_as = l.listed_as;
           owner = ap (slice_get graph_owners.interfaces) from.2 ∙ interfaces_are from.0 (interface_placed es kept there.0 was.first from.0 gate span there.1 stays_there) ∙ l.owner;
+          keyed = ap known was.key_is ∙ listed_key_moves (to s.interfaces) was.first l.listed l.listed.kind from.0 l.keyed ∙ ap (listed_key l.listed l.listed.kind) (sym from.2);
         }
 
     include_goes : IsKept (AnyOf (IncludeBreaks features s) old.includes.items) → (n : WorldInclude) → Has m.includes.items n → IsIncludeMeant c graph_owners ws m.name n
@@ -295,6 +306,8 @@ module _ (functions_stand : MovedFunctionsStandForTheSame) (given : Owner → Na
 
     world_goes_there : IsKept (AnyOf (IncludeBreaks features s) old.includes.items) → IsKept (SideBreaks features s.types s.interfaces old.imports.entries) → IsKept (SideBreaks features s.types s.interfaces old.exports.entries) → IsWorldMeant given c graph_owners b ws m.name m.imports.items m.exports.items m.includes.items
     world_goes_there includes_kept imports_kept exports_kept = record {
+      text = is.text;
+      is_text = text_goes is.text is.is_text;
       own_types = own_type_goes;
       imported_functions = own_function_goes Import old.imports.entries m.imports.items moved.imports imports_kept is.imported_functions;
       exported_functions = own_function_goes Export old.exports.entries m.exports.items moved.exports exports_kept is.exported_functions;
@@ -336,12 +349,18 @@ interfaces_go typed names_stand functions_stand given c interfaces worlds graph_
     let a = h.put.added.parts.own_interfaces in
     let here : slice_get a.moved k ≡ Some d = sym (got_behind old.tables.interfaces.all a.moved k) ∙ subst (λ (ds : List Interface). slice_get ds (length old.tables.interfaces.all + k) ≡ Some d) a.added.all_are at in
     let from = interface_from features (standing h.owners h.places) (length old.tables.packages) h.foreign.interfaces (length old.tables.interfaces.all) (own_parts p).interfaces a.moved a.are_moved k d here in
-    let o : IsOfText given c c.owners p.types interfaces from.old = package_is.each_interface given from.place from.old from.was in
+    let j : ℕ = (asked p).interfaces + from.place in
+    let o : IsOfText given c c.owners p.types interfaces j from.old = package_is.each_interface given from.place from.old from.was in
+    let so_many : length h.foreign.interfaces ≡ (asked p).interfaces = h.are_places.found.interfaces_are.all in
+    let stands : place_of h.owners.interfaces j ≡ Some (length old.tables.interfaces.all + k) =
+    ap (λ (o : OwnerPlaces). place_of o.interfaces j) h.are_places.planned.owners_are
+    ∙ ap (place_of (interface_places features h.foreign.interfaces (length old.tables.interfaces.all) (own_parts p).interfaces)) (ap (λ (n : ℕ). n + from.place) (sym so_many)) ∙ from.stands in
     let kept : IsKept (FunctionsBreak features h.places from.old.functions.entries) =
     interface_kept features (standing h.owners h.places) (own_parts p).interfaces (λ at b. h.are_places.planned.kept at (inl b)) from.place from.old from.was from.kept in (
       o.0,
       o.1,
-      interface_goes names_stand functions_stand given c graph_owners features h.places p.types new.tables.types (typed given c.owners graph_owners eq features old p new id h (package_is.whole given) agreed) o.0 (length old.tables.packages) from.old d o.2
+      ap (λ (i : Option ℕ). slice_get graph_owners.interfaces (unwrap_or i j)) (sym stands) ∙ agreed.owners_are (belongs.Interface j) (ap is_some stands) ∙ o.2,
+      interface_goes names_stand functions_stand given c graph_owners features h.places p.types new.tables.types (typed given c.owners graph_owners eq features old p new id h (package_is.whole given) agreed) o.0 (length old.tables.packages) from.old d o.3
           from.moved kept,
     )
 

@@ -17,7 +17,7 @@ use Rattle.wit_arena.specs.Tree.{Name, Place, Owner, Tree, Trees, trees_and}
 use Rattle.wit_arena.specs.Standing.{Stands}
 use Rattle.wit_arena.specs.Unfold.{Owners, part_tree, part_trees, ref_tree, trees}
 use Rattle.wit_arena.specs.Standing.{HasTree}
-use Rattle.wit_arena.proofs.Lists.{has_here, has_right, get_kept, get_last}
+use Rattle.wit_arena.proofs.Lists.{has_here, has_right, get_kept, get_last, get_more}
 use Rattle.wit_arena.proofs.Unfolding.{ref_kept, part_kept, kept_map, kept_then}
 use Rattle.wit_interfaces.proofs.Behind.{get_either}
 use Rattle.wit_placed.proofs.Members.{has_get}
@@ -32,7 +32,7 @@ use Rattle.wit_graph.specs.Push.{IsPushed}
 use Rattle.wit_pushed_trees.specs.Asked.{text_of}
 use Rattle.wit_pushed_trees.specs.Found.{TellsNamesApart, NamesOfGraphStand, IsInterfaceOf, IsGivenBy}
 use Rattle.wit_pushed_trees.specs.Meaning.{IsFunctionMeant, IsInterfaceMeant}
-use Rattle.wit_pushed_trees.specs.Meant.{PackageTexts, IsOfTexts, ResolvedPackagesAreOfTexts, IsMeantBy, AreMeantBy, EmptyGraphsAreMeant, PushedGraphsMeanTheirTexts}
+use Rattle.wit_pushed_trees.specs.Meant.{PackageTexts, IsOfTexts, ResolvedPackagesAreOfTexts, IsMeantBy, AreMeantBy, EmptyGraphsAreMeant, PushedGraphsMeanTheirTexts, PushedPackagesAreSaid}
 use Rattle.wit_pushed_trees.specs.Owned.{AreOwnersOf, AreOwned, AreOwnedWith}
 use Rattle.wit_pushed_trees.specs.Packages.{ResolvedPackagesMeanTheirTexts}
 use Rattle.wit_pushed_trees.specs.Pushed.{AreAgreed, PushedInterfacesMeanTheirTexts}
@@ -42,6 +42,7 @@ use Rattle.wit_pushed_trees.proofs.Asking.{text_is}
 use Rattle.wit_pushed_trees.proofs.Finding.{same_text}
 use Rattle.wit_pushed_trees.proofs.Types.{all_grow}
 use Rattle.wit_pushed_trees.proofs.Texts.{member_kind_same}
+use Rattle.wit_arena.specs.Meaning.{Has}
 
 -- ---- more types and owners
 
@@ -82,6 +83,18 @@ pub resolved_of_texts : ResolvedPackagesMeanTheirTexts → ResolvedPackagesAreOf
 resolved_of_texts mean files p r = record { named = sym (text_is r.resolved.me p.name r.resolved.name); meant = mean files p r }
 
 -- ---- graphs
+
+-- a package that came has the name of its texts
+package_named : (texts : PackageTexts) (eq : PackageName → PackageName → Bool) (features : FeatureSet) (old : Graph) (p : UnresolvedPackage) (new : Graph) (id : ℕ) → IsOfTexts texts p → (h : IsPushed eq features old p new id)
+    → text_of h.put.added.q.name ≡ texts.context.me
+package_named texts eq features old p new id of_texts h = sym (same_text p.name h.put.same h.put.is_same ∙ ap text_of (sym h.put.added.is_package.name_is)) ∙ of_texts.named
+
+pub pushed_packages_said : PushedPackagesAreSaid
+pushed_packages_said all texts eq features old p new id of_texts h said k q at =
+    elim (get_more old.tables.packages h.put.added.q q k (subst (λ (ps : List Package). slice_get ps k ≡ Some q) h.put.added.packages_are at)) as (λ _. (one : PackageTexts) × Has (all ++ texts ∷ []) one × (text_of q.name ≡ one.context.me)) [
+      | inl was ↦ (let s = said k q was in (s.0, (s.1.0, get_kept all (texts ∷ []) s.1.0 s.0 s.1.1), s.2))
+      | inr last ↦ (texts, has_right all (texts ∷ []) texts (has_here texts []), ap (λ (r : Package). text_of r.name) last.1 ∙ package_named texts eq features old p new id of_texts h)
+    ]
 
 pub empty_meant : EmptyGraphsAreMeant
 empty_meant given by k d at = absurd cc
@@ -127,10 +140,10 @@ module _ (texts : PackageTexts) (owners : Owners) (eq : PackageName → PackageN
     come_there = ap (λ (ps : List Package). slice_get ps (length old.tables.packages)) h.put.added.packages_are ∙ get_last old.tables.packages h.put.added.q
 
     pub come_named : text_of h.put.added.q.name ≡ texts.context.me
-    come_named = sym (same_text p.name h.put.same h.put.is_same ∙ ap text_of (sym h.put.added.is_package.name_is)) ∙ of_texts.named
+    come_named = package_named texts eq features old p new id of_texts h
 
     module _ (interfaces_mean : PushedInterfacesMeanTheirTexts) (all : List PackageTexts) (meant : AreMeantBy all owners old.tables) where
-      old_one : (k : ℕ) (d : Interface) → slice_get old.tables.interfaces.all k ≡ Some d → IsMeantBy (all ++ texts ∷ []) given o.all new.tables d
+      old_one : (k : ℕ) (d : Interface) → slice_get old.tables.interfaces.all k ≡ Some d → IsMeantBy (all ++ texts ∷ []) given o.all new.tables k d
       old_one k d at =
           let m = meant given by_old k d at in
           record {
@@ -141,10 +154,15 @@ module _ (texts : PackageTexts) (owners : Owners) (eq : PackageName → PackageN
             «package» = m.«package»;
             there = package_there m.number m.«package» m.there;
             named = m.named;
-            means = (m.means.0, m.means.1, subst (λ (b : List TypeDef). IsInterfaceMeant given m.texts.context o.all b m.means.0 d) (sym grown.1) (interface_still given owners o.all old.tables.types grown.0 same m.texts.context m.means.0 d m.means.2));
+            means = (
+              m.means.0,
+              m.means.1,
+              ap (λ (ws : List Owner). slice_get ws k) o.more.interfaces_are ∙ get_kept owners.interfaces o.more.interfaces k _ m.means.2,
+              subst (λ (b : List TypeDef). IsInterfaceMeant given m.texts.context o.all b m.means.0 d) (sym grown.1) (interface_still given owners o.all old.tables.types grown.0 same m.texts.context m.means.0 d m.means.3),
+            );
           }
 
-      new_one : (k : ℕ) (d : Interface) → slice_get h.put.added.parts.own_interfaces.moved k ≡ Some d → slice_get new.tables.interfaces.all (length old.tables.interfaces.all + k) ≡ Some d → IsMeantBy (all ++ texts ∷ []) given o.all new.tables d
+      new_one : (k : ℕ) (d : Interface) → slice_get h.put.added.parts.own_interfaces.moved k ≡ Some d → slice_get new.tables.interfaces.all (length old.tables.interfaces.all + k) ≡ Some d → IsMeantBy (all ++ texts ∷ []) given o.all new.tables (length old.tables.interfaces.all + k) d
       new_one k d here at =
           let a = h.put.added.parts.own_interfaces in
           let from = interface_from features (standing h.owners h.places) (length old.tables.packages) h.foreign.interfaces (length old.tables.interfaces.all) (own_parts p).interfaces a.moved a.are_moved k d here in
@@ -159,12 +177,12 @@ module _ (texts : PackageTexts) (owners : Owners) (eq : PackageName → PackageN
             means = interfaces_mean given texts.context texts.interfaces texts.worlds o.all eq features old p new id of_texts.meant h agreed k d at;
           }
 
-      each : (k : ℕ) (d : Interface) → slice_get new.tables.interfaces.all k ≡ Some d → IsMeantBy (all ++ texts ∷ []) given o.all new.tables d
+      each : (k : ℕ) (d : Interface) → slice_get new.tables.interfaces.all k ≡ Some d → IsMeantBy (all ++ texts ∷ []) given o.all new.tables k d
       each k d at =
           let a = h.put.added.parts.own_interfaces in
-          elim (get_either old.tables.interfaces.all a.moved k d (subst (λ (ds : List Interface). slice_get ds k ≡ Some d) a.added.all_are at)) as (λ _. IsMeantBy (all ++ texts ∷ []) given o.all new.tables d) [
+          elim (get_either old.tables.interfaces.all a.moved k d (subst (λ (ds : List Interface). slice_get ds k ≡ Some d) a.added.all_are at)) as (λ _. IsMeantBy (all ++ texts ∷ []) given o.all new.tables k d) [
             | inl was ↦ old_one k d was
-            | inr came ↦ new_one came.0 d came.2 (ap (slice_get new.tables.interfaces.all) (sym came.1) ∙ at)
+            | inr came ↦ subst (λ (n : ℕ). IsMeantBy (all ++ texts ∷ []) given o.all new.tables n d) (sym came.1) (new_one came.0 d came.2 (ap (slice_get new.tables.interfaces.all) (sym came.1) ∙ at))
           ]
 
 pub pushed_meant : PushedInterfacesMeanTheirTexts → PushedGraphsMeanTheirTexts

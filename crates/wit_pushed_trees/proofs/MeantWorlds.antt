@@ -1,12 +1,13 @@
 -- Worlds of a graph still mean what they did when a package came to it, and those that came mean what its texts do.
-use Rattle.std.proofs.Common.{◌≡◌, ◌<◌, ◌≤◌, ℕ, ◌+◌, Bool, List, [], ◌∷◌, ◌++◌, length, take, Some, inl, inr, refl, sym, subst, ap, ◌∙◌, arith, append_assoc}
+use Rattle.std.proofs.Common.{◌≡◌, ◌<◌, ◌≤◌, ℕ, ◌+◌, Bool, List, [], ◌∷◌, ◌++◌, length, take, Some, inl, inr, refl, sym, subst, ap, ◌∙◌, arith, append_assoc, is_some, Option, String}
 use Rattle.std.proofs.lemmas.List.{take-append-le, append-nil}
 use Rattle.std.proofs.lemmas.Option.{slice_get_within}
-use Rattle.std.specs.Prelude.{slice_get}
+use Rattle.std.specs.Prelude.{slice_get, unwrap_or, string_bytes}
 use Rattle.wit_order.specs.Places.{Rows}
 use Rattle.wit_types.specs.declared.function.Function.{Function}
 use Rattle.wit_types.specs.declared.interface.Interface.{Interface}
 use Rattle.wit_types.specs.declared.interface.TypeDef.{TypeDef}
+use Rattle.wit_types.specs.declared.interface.TypeOwner.TheVariants as belongs
 use Rattle.wit_types.specs.declared.«package».PackageName.{PackageName}
 use Rattle.wit_types.specs.declared.«package».UnresolvedPackage.{UnresolvedPackage}
 use Rattle.wit_types.specs.declared.world.World.{World}
@@ -16,12 +17,12 @@ use Rattle.wit_types.specs.declared.world_key.WorldKey.{WorldKey}
 use Rattle.wit_features.specs.Features.{FeatureSet}
 use Rattle.wit_scopes.specs.Scopes.{WorldScope}
 use Rattle.wit_scopes.specs.declared.worlds.Side.{Side}
-use Rattle.wit_arena.specs.Tree.{Name, in_world, Owner, Tree}
+use Rattle.wit_arena.specs.Tree.{Name, in_world, Owner, Tree, PackageText}
 use Rattle.wit_arena.specs.Unfold.{Owners, trees}
 use Rattle.wit_arena.specs.Standing.{HasTree}
 use Rattle.wit_arena.proofs.Lists.{has_here, has_right, get_kept, get_last, get_more}
 use Rattle.wit_interfaces.proofs.Behind.{get_either}
-use Rattle.wit_resolved_scopes.specs.InArena.{Context}
+use Rattle.wit_resolved_scopes.specs.InArena.{Context, own_owner}
 use Rattle.wit_resolved_scopes.specs.Texts.{own_members}
 use Rattle.wit_joined.specs.Joined.{IsJoinedWorld, own_state}
 use Rattle.wit_plans.specs.declared.moves.MovedWorld.{MovedWorld}
@@ -41,12 +42,19 @@ use Rattle.wit_pushed_trees.proofs.Agreeing.{same_trees}
 use Rattle.wit_pushed_trees.proofs.Meant.{tree_still, function_still, grown, same, package_there, by_old, agreed, come_there, come_named}
 use Rattle.wit_pushed_trees.proofs.Owned.{worlds_added}
 use Rattle.wit_pushed_trees.proofs.Types.{included_grow, all_grow}
+use Rattle.std.specs.declared.alloc.Global.{Global}
+use Rattle.wit_moves.specs.Moved.{place_of}
+use Rattle.wit_moves.specs.Plan.{OwnerPlaces}
+use Rattle.wit_placed.specs.Worlds.{world_places}
+use Rattle.wit_plans.specs.Plans.{standing}
+use Rattle.wit_graph_parts.specs.Own.{asked, own_parts}
+use Rattle.wit_pushed_trees.proofs.StayingIncludes.{world_from}
 
 -- ---- more types and owners
 
 module _ (given : Owner → Name → Tree) (old new : Owners) (more_owners : HaveMoreOwners old new) (a more : List TypeDef) (same : trees old given a ≡ trees new given a) (c : Context) (ws : List WorldScope) (name : _) where
-  listed_still : (side : Side) (i : ℕ) → IsInterfaceListed c old ws name side i → IsInterfaceListed c new ws name side i
-  listed_still side i l = record {
+  listed_still : (side : Side) (k : WorldKey) (i : ℕ) → IsInterfaceListed c old ws name side k i → IsInterfaceListed c new ws name side k i
+  listed_still side k i l = record {
     text = l.text;
     is_text = l.is_text;
     listed = l.listed;
@@ -55,6 +63,7 @@ module _ (given : Owner → Name → Tree) (old new : Owners) (more_owners : Hav
     whose = l.whose;
     listed_as = l.listed_as;
     owner = ap (λ (os : List Owner). slice_get os i) more_owners.interfaces_are ∙ get_kept old.interfaces more_owners.interfaces i l.whose l.owner;
+    keyed = l.keyed;
   }
 
   include_still : (n : WorldInclude) → IsIncludeMeant c old ws name n → IsIncludeMeant c new ws name n
@@ -79,13 +88,15 @@ module _ (given : Owner → Name → Tree) (old new : Owners) (more_owners : Hav
 
   pub world_still : (imports exports : List (WorldKey × WorldItem)) (includes : List WorldInclude) → IsWorldMeant given c old a ws name imports exports includes → IsWorldMeant given c new (a ++ more) ws name imports exports includes
   world_still imports exports includes is = record {
+    text = is.text;
+    is_text = is.is_text;
     own_types = λ k i span has.
         let t = is.own_types k i span has in
         record { text = t.text; is_text = t.is_text; spelling = t.spelling; known_by = t.known_by; means = (t.means.0, tree_still given old new a more same i t.means.0 t.means.1, t.means.2) };
     imported_functions = λ k f has. own_still _ f (is.imported_functions k f has);
     exported_functions = λ k f has. own_still _ f (is.exported_functions k f has);
-    imported = λ k i gate span has. listed_still _ i (is.imported k i gate span has);
-    exported = λ k i gate span has. listed_still _ i (is.exported k i gate span has);
+    imported = λ k i gate span has. listed_still _ k i (is.imported k i gate span has);
+    exported = λ k i gate span has. listed_still _ k i (is.exported k i gate span has);
     no_exported_types = is.no_exported_types;
     included = λ n has. include_still n (is.included n has);
   }
@@ -200,6 +211,7 @@ module _ (texts : PackageTexts) (owners : Owners) (eq : PackageName → PackageN
           there = package_there texts owners eq features old p new id tells stand owned whole have are of_texts h o given by m.number m.«package» m.there;
           named = m.named;
           own = m.own;
+          owner = ap (λ (ws : List Owner). slice_get ws place) o.more.worlds_are ∙ get_kept owners.worlds o.more.worlds place _ m.owner;
           means = subst (λ (b : List TypeDef). IsWorldMeant given m.texts.context o.all b m.texts.worlds m.own.name m.own.imports.items m.own.exports.items m.own.includes.items) (sym types_grown.1)
               (world_still given owners o.all o.more old.tables.types types_grown.0 same_trees m.texts.context m.texts.worlds m.own.name m.own.imports.items m.own.exports.items m.own.includes.items m.means);
           is = subst (λ (ts : List TypeDef). IsBuiltOf m.own m.number place new.tables.worlds.listed ts w) (sym types_grown.1)
@@ -211,6 +223,13 @@ module _ (texts : PackageTexts) (owners : Owners) (eq : PackageName → PackageN
     new_one k w at =
         let a = h.put.added.parts.own_worlds in
         let came = came_at _ _ _ _ _ _ a.added k w at in
+        let first : ℕ = length old.tables.worlds.listed in
+        let from = world_from features (standing h.owners h.places) (record { places = h.foreign.worlds; next = first }) (own_parts p).worlds a.moved a.are_moved k came.own came.there in
+        let j : ℕ = (asked p).worlds + from.place in
+        let so_many : length h.foreign.worlds ≡ (asked p).worlds = h.are_places.found.worlds_are.all in
+        let stands : place_of h.owners.worlds j ≡ Some (first + k) =
+        ap (λ (ps : OwnerPlaces). place_of ps.worlds j) h.are_places.planned.owners_are
+        ∙ ap (place_of (world_places features h.foreign.worlds first (own_parts p).worlds)) (ap (λ (n : ℕ). n + from.place) (sym so_many)) ∙ from.stands in
         record {
           texts = texts;
           are = has_right all (texts ∷ []) texts (has_here texts []);
@@ -219,6 +238,10 @@ module _ (texts : PackageTexts) (owners : Owners) (eq : PackageName → PackageN
           there = come_there texts owners eq features old p new id tells stand owned whole have are of_texts h o given by;
           named = come_named texts owners eq features old p new id tells stand owned whole have are of_texts h o given by;
           own = came.own;
+          owner =
+              ap (λ (i : Option ℕ). slice_get o.all.worlds (unwrap_or i j)) (sym stands) ∙ o.owners_are (belongs.World j) (ap is_some stands) ∙ are.worlds_are from.place from.old from.was
+              ∙ ap (λ (m : PackageText). Some (record { package_text = m; place = in_world (string_bytes from.old.name) })) of_texts.named
+              ∙ ap (λ (n : String Global). Some (own_owner texts.context (in_world (string_bytes n)))) (sym from.moved.name);
           means = worlds_mean given texts.context texts.interfaces texts.worlds o.all eq features old p new id of_texts.meant h (agreed texts owners eq features old p new id tells stand owned whole have are of_texts h o given by) k came.own came.there;
           is = came.is;
         }

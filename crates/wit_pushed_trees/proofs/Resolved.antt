@@ -9,7 +9,7 @@ use Rattle.wit_types.specs.declared.interface.Interface.{Interface}
 use Rattle.wit_types.specs.declared.«package».UnresolvedPackage.{UnresolvedPackage}
 use Rattle.wit_types.specs.declared.world.World.{World}
 use Rattle.wit_offsets.specs.Offsets.{interface_by, world_by, span_at}
-use Rattle.wit_scopes.specs.Scopes.{WorldScope}
+use Rattle.wit_scopes.specs.Scopes.{WorldScope, InterfaceScope}
 use Rattle.wit_arena.specs.Tree.{Name, in_interface, in_world, PackageText, Owner}
 use Rattle.wit_arena.specs.Unfold.{Owners}
 use Rattle.wit_arena.specs.Meaning.{Has, package_text}
@@ -44,18 +44,22 @@ member_name w (scope.member m) t has = absurd (has_none t has)
 member_name w (scope.listed l) t has = listed_name w l l.kind t has
 member_name w (scope.included i) t has = absurd (has_none t has)
 
--- one that has a name stands under it
-pub named_place : (sorted : List ItemScope) (k : ℕ) (t : InterfaceText) (x : Name) → slice_get (interface_texts sorted) k ≡ Some t → t.name ≡ Some x → t.place ≡ in_interface x
-named_place sorted k t x at named = elim (get_either (map interface_text (interfaces_of sorted)) (flat_map labelled_texts (worlds_of sorted)) k t at) as (λ _. t.place ≡ in_interface x) [
-  | inl own ↦
-      let i = map_has interface_text (interfaces_of sorted) t (k, own) in
-      let name : Some i.0.name.text ≡ Some x = sym (ap (λ (y : InterfaceText). y.name) i.2) ∙ named in
-      ap (λ (y : InterfaceText). y.place) i.2 ∙ ap in_interface (same_Some i.0.name.text x name)
+-- one that has a name is that of an interface of its own
+pub named_text : (sorted : List ItemScope) (k : ℕ) (t : InterfaceText) (x : Name) → slice_get (interface_texts sorted) k ≡ Some t → t.name ≡ Some x → (i : InterfaceScope) × Has (interfaces_of sorted) i × (t ≡ interface_text i)
+named_text sorted k t x at named = elim (get_either (map interface_text (interfaces_of sorted)) (flat_map labelled_texts (worlds_of sorted)) k t at) as (λ _. (i : InterfaceScope) × Has (interfaces_of sorted) i × (t ≡ interface_text i)) [
+  | inl own ↦ map_has interface_text (interfaces_of sorted) t (k, own)
   | inr labelled ↦
       let w = in_flat labelled_texts (worlds_of sorted) t (labelled.0, labelled.2) in
       let m = in_flat (member_texts w.0.name.text) w.0.members t w.2 in
       absurd (let none : None ≡ Some x = sym (member_name w.0.name.text m.0 t m.2) ∙ named in cc)
 ]
+
+-- and stands under it
+pub named_place : (sorted : List ItemScope) (k : ℕ) (t : InterfaceText) (x : Name) → slice_get (interface_texts sorted) k ≡ Some t → t.name ≡ Some x → t.place ≡ in_interface x
+named_place sorted k t x at named =
+    let i = named_text sorted k t x at named in
+    let name : Some i.0.name.text ≡ Some x = sym (ap (λ (y : InterfaceText). y.name) i.2) ∙ named in
+    ap (λ (y : InterfaceText). y.place) i.2 ∙ ap in_interface (same_Some i.0.name.text x name)
 
 -- ---- a package
 
@@ -74,6 +78,13 @@ module _ (files : List FileTree) (p : UnresolvedPackage) (r : Resolves files p) 
 
   pub asked_interfaces : length s.foreign_interfaces ≡ length (foreign_owners s.items).interfaces
   asked_interfaces = s.foreign_are.so_many_interfaces ∙ sym (interface_owners_length s.items)
+
+  -- the interface of a text is whose the text says
+  pub text_owned : (k : ℕ) (t : InterfaceText) → slice_get (interface_texts s.sorted) k ≡ Some t → slice_get owners.interfaces (length s.foreign_interfaces + k) ≡ Some (owner_in me t.place)
+  text_owned k t at =
+      let own : List Owner = map (λ (u : InterfaceText). owner_in me u.place) (interface_texts s.sorted) in
+      let here : slice_get own k ≡ Some (owner_in me t.place) = slice_get-map (λ (u : InterfaceText). owner_in me u.place) (interface_texts s.sorted) k ∙ ap (option_map (λ (u : InterfaceText). owner_in me u.place)) at in
+      ap (λ (m : ℕ). slice_get owners.interfaces (m + k)) asked_interfaces ∙ get_right (foreign_owners s.items).interfaces own k (owner_in me t.place) here
 
   asked_worlds : length s.foreign_worlds ≡ length (foreign_owners s.items).worlds
   asked_worlds = s.foreign_are.so_many_worlds ∙ sym (world_owners_length s.items)
@@ -95,11 +106,7 @@ module _ (files : List FileTree) (p : UnresolvedPackage) (r : Resolves files p) 
             let t = got (interface_texts s.sorted) own.0 (omega (arith, within, size)) in
             let is = s.own_interfaces_are.each own.0 t.0 d t.1 own.2 in
             let place : t.0.place ≡ in_interface (string_bytes x) = named_place s.sorted own.0 t.0 (string_bytes x) t.1 (name_in d x t.0.name is.is.name named) in
-            let here : slice_get (map (λ (t : InterfaceText). owner_in me t.place) (interface_texts s.sorted)) own.0 ≡ Some (owner_in me t.0.place) =
-            slice_get-map (λ (t : InterfaceText). owner_in me t.place) (interface_texts s.sorted) own.0 ∙ ap (option_map (λ (t : InterfaceText). owner_in me t.place)) t.1 in
-            ap (slice_get owners.interfaces) (own.1 ∙ ap (λ (m : ℕ). m + own.0) asked_interfaces)
-            ∙ get_right (foreign_owners s.items).interfaces (map (λ (t : InterfaceText). owner_in me t.place) (interface_texts s.sorted)) own.0 (owner_in me t.0.place) here
-            ∙ rw (place, text_is s.me p.name s.name) refl
+            ap (slice_get owners.interfaces) own.1 ∙ text_owned own.0 t.0 t.1 ∙ rw (place, text_is s.me p.name s.name) refl
       ]
 
   own_world : (k : ℕ) (w : World) → slice_get (own_parts p).worlds k ≡ Some w → slice_get owners.worlds ((asked p).worlds + k) ≡ Some (record { package_text = text_of p.name; place = in_world (string_bytes w.name) })

@@ -185,8 +185,8 @@ module _ (all : List PackageTexts) (one : PackageTexts) (among : Has all one) (g
               (subst (λ (xs : List Name). SaysFunction all given side (world_owner one is.text) (full_name is.is.member.kind is.is.member.name) (written_sort is.is.member.kind) of xs split.front split.last) (sym is.is.params_named) says)));
         }
 
-    own_interface : (side : Side) (i : ℕ) → IsInterfaceListed one.context owners one.worlds m.name side i → IsInterfaceSaid all owners side w i
-    own_interface side i is = record {
+    own_interface : (side : Side) (k : WorldKey) (i : ℕ) → IsInterfaceListed one.context owners one.worlds m.name side k i → IsInterfaceSaid all owners side w i
+    own_interface side k i is = record {
       whose = is.whose;
       owner = is.owner;
       says = subst (λ (v : Owner). SaysInterface all side v is.whose) (owner_is one w (string_bytes m.name) me_is place_is is.text is.is_text.named) (says_interface one is.text is.listed is.whose among is.is_text.there is.there is.side_is is.listed_as);
@@ -204,14 +204,14 @@ module _ (all : List PackageTexts) (one : PackageTexts) (among : Has all one) (g
     own_imports : IsSideSaid all given owners types Import w m.imports.items
     own_imports = record {
       functions = λ k f has. own_function Import f (means.imported_functions k f has);
-      interfaces = λ k i gate span has. own_interface Import i (means.imported k i gate span has);
+      interfaces = λ k i gate span has. own_interface Import k i (means.imported k i gate span has);
       types = λ k i span has. own_type k i (means.own_types k i span has);
     }
 
     own_exports : IsSideSaid all given owners types Export w m.exports.items
     own_exports = record {
       functions = λ k f has. own_function Export f (means.exported_functions k f has);
-      interfaces = λ k i gate span has. own_interface Export i (means.exported k i gate span has);
+      interfaces = λ k i gate span has. own_interface Export k i (means.exported k i gate span has);
       types = λ k i span has. absurd (means.no_exported_types k i span has);
     }
 

@@ -185,15 +185,17 @@ module _ (f : Span → Span) where
     item_interface (item.TypeItem j at) i gate span e = absurd cc
     item_interface (item.Function g) i gate span e = absurd cc
 
-    interface_side : (P : ℕ → Type 0) (es : List (WorldKey × WorldItem)) → ((k : WorldKey) (i : ℕ) (gate : Stability) (span : Span) → Has es (k, item.Interface i gate span) → P i) → (k : WorldKey) (i : ℕ) (gate : Stability) (span : Span) → Has (side_by es) (k, item.Interface i gate span) → P i
+    interface_side : (P : WorldKey → ℕ → Type 0) (es : List (WorldKey × WorldItem)) → ((k : WorldKey) (i : ℕ) (gate : Stability) (span : Span) → Has es (k, item.Interface i gate span) → P k i) → (k : WorldKey) (i : ℕ) (gate : Stability) (span : Span) → Has (side_by es) (k, item.Interface i gate span) → P k i
     interface_side P es listed k i gate span has =
         let e = map_has (λ (e : WorldKey × WorldItem). (e.0, item_by f e.1)) es (k, item.Interface i gate span) has in
         let of = item_interface e.0.1 i gate span (ap (λ (y : WorldKey × WorldItem). y.1) e.2) in
-        listed e.0.0 i gate of.0 (subst (λ (x : WorldItem). Has es (e.0.0, x)) of.1 e.1)
+        subst (λ (q : WorldKey). P q i) (sym (ap (λ (y : WorldKey × WorldItem). y.0) e.2)) (listed e.0.0 i gate of.0 (subst (λ (x : WorldItem). Has es (e.0.0, x)) of.1 e.1))
 
     world_same : (c : Context) (ds : List TypeDef) (ws : List WorldScope) (name : String Global) (imports exports : List (WorldKey × WorldItem)) (includes : List WorldInclude) → IsWorldMeant given c owners ds ws name imports exports includes
         → IsWorldMeant given c owners (map (type_def_by f) ds) ws name (side_by imports) (side_by exports) (map (include_by f) includes)
     world_same c ds ws name imports exports includes is = record {
+      text = is.text;
+      is_text = is.is_text;
       own_types = λ k i span has.
           let e = map_has (λ (e : WorldKey × WorldItem). (e.0, item_by f e.1)) imports (k, item.TypeItem i span) has in
           let of = item_type e.0.1 i span (ap (λ (y : WorldKey × WorldItem). y.1) e.2) in
@@ -236,7 +238,7 @@ moved_meant c interfaces worlds p n is =
       each_interface = λ given k d at.
           let o = got_behind (interface_by f) (asked p).interfaces p.interfaces k d at in
           let text = is.each_interface given k o.0 o.1 in
-          (text.0, text.1, subst (IsInterfaceMeant given c c.owners (map (type_def_by f) p.types) text.0) o.2 (interface_same f c.owners given c p.types text.0 o.0 text.2));
+          (text.0, text.1, text.2, subst (IsInterfaceMeant given c c.owners (map (type_def_by f) p.types) text.0) o.2 (interface_same f c.owners given c p.types text.0 o.0 text.3));
       each_world = λ given k w at.
           let o = got_behind (world_by f) (asked p).worlds p.worlds k w at in
           let same = world_same f c.owners given c p.types worlds o.0.name o.0.imports.entries o.0.exports.entries o.0.includes.items (is.each_world given k o.0 o.1) in

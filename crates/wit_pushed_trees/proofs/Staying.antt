@@ -23,7 +23,7 @@ use Rattle.wit_orders.specs.Needs.{types_of, type_entry, AreSorted}
 use Rattle.wit_arena.specs.Tree.{Name, Place}
 use Rattle.wit_arena.specs.Table.{Entries}
 use Rattle.wit_arena.specs.Meaning.{Has}
-use Rattle.wit_arena.proofs.Lists.{has_later, has_none, has_map}
+use Rattle.wit_arena.proofs.Lists.{has_later, has_none, has_map, map_has}
 use Rattle.wit_foreign.specs.Items.{interfaces_in}
 use Rattle.wit_functions.specs.Signature.{IsKindOf}
 use Rattle.wit_resolved_scopes.specs.InArena.{Context, IsTypeIn, IsFunctionIn, IsScopeIn}
@@ -35,7 +35,7 @@ use Rattle.wit_resolved_scopes.proofs.Eaches.{each_left, each_right}
 use Rattle.wit_interfaces.specs.Interfaces.{named_types, functions_in, AreNamed}
 use Rattle.wit_moves.specs.Moved.{Places, is_placed, resource_of}
 use Rattle.wit_moves.specs.Interfaces.{AreKept, no_entries, one_goes, one_stays, IsMovedInterface, function_stays}
-use Rattle.wit_moves.specs.Plan.{OwnerPlaces, Plan, with_place, with_types, type_stays, named_stays, is_owner_placed}
+use Rattle.wit_moves.specs.Plan.{OwnerPlaces, Plan, with_place, with_types, named_stays, is_owner_placed}
 use Rattle.wit_moved_trees.proofs.Earlier.{placed_where_stays}
 use Rattle.wit_moved_trees.proofs.Moving.{pushed_is}
 use Rattle.wit_finding.specs.Own.{with_own, placed}
@@ -51,6 +51,8 @@ use Rattle.wit_graph_parts.specs.Own.{asked, asked_types, own_parts}
 use Rattle.wit_pushed_trees.specs.Staying.{Stays, resource_text, FunctionStays, ListsMembers, IsOwnType, HasResource, HasType, HasFunction, HasMembers, own_interface}
 use Rattle.wit_pushed_trees.proofs.Knowing.{same_count}
 use Rattle.wit_pushed_trees.proofs.Owning.{dropped, rest}
+use Rattle.wit_pushed_trees.proofs.Graphs.{kept_was}
+use Rattle.wit_rules.specs.Labels.{full_name}
 
 -- ---- lists
 
@@ -71,7 +73,7 @@ at_sorted xs (j ∷ is) (y ∷ ys) are i x has at =
     ]
 
 -- stands in the row
-was_sorted : {X : Type 0} (xs : List X) (is : List ℕ) (ys : List X) → map (slice_get xs) is ≡ map (λ x. Some x) ys → (x : X) → Has ys x → Has xs x
+pub was_sorted : {X : Type 0} (xs : List X) (is : List ℕ) (ys : List X) → map (slice_get xs) is ≡ map (λ x. Some x) ys → (x : X) → Has ys x → Has xs x
 was_sorted xs [] [] are x has = absurd (has_none x has)
 was_sorted xs [] (y ∷ ys) are x has = absurd cc
 was_sorted xs (j ∷ is) [] are x has = absurd (has_none x has)
@@ -224,8 +226,23 @@ module _ (files : List FileTree) (p : UnresolvedPackage) (r : Resolves files p) 
           resource = has_resource c o scope_owner none_asked ms scope.sorted scope.are_sorted table scope.types_are m.kind f.0 f.2.is.kind;
         }
 
+    only_types : (x : String Global) (i : ℕ) → Has d.types.entries (x, i) → (m : MemberTree) × Has (types_of ms) m × (string_bytes x ≡ m.name.text) × IsOwnType p scope_owner m i
+    only_types x i (n, at) =
+        let text : String Global × ℕ → Name × ℕ = λ e. (string_bytes e.0, e.1) in
+        let there : slice_get table n ≡ Some (string_bytes x, i) = subst (λ (es : Entries). slice_get es n ≡ Some (string_bytes x, i)) types (slice_get-map text d.types.entries n ∙ ap (option_map text) at) in
+        let t = each_right (IsTypeIn c o scope_owner p.types) scope.sorted table scope.types_are n (string_bytes x, i) there in
+        (t.0, was_sorted (types_of ms) scope.are_sorted.0 scope.sorted scope.are_sorted.2 t.0 (n, t.1), t.2.name, own_type c o scope_owner none_asked ms scope.sorted scope.are_sorted table scope.types_are t.0 (string_bytes x, i) t.2)
+
+    only_functions : (x : String Global) (f : Function) → Has d.functions.entries (x, f) → (m : MemberTree) × Has (functions_among ms) m × (string_bytes x ≡ full_name m.kind m.name) × IsStabilityOf m.attributes f.stability
+    only_functions x f (n, at) =
+        let value : String Global × Function → Function = λ e. e.1 in
+        let there : slice_get fs n ≡ Some f = subst (λ (gs : List Function). slice_get gs n ≡ Some f) functions (slice_get-map value d.functions.entries n ∙ ap (option_map value) at) in
+        let t = each_right (IsFunctionIn c o p.types table) (functions_among ms) fs scope.functions_are n f there in
+        let name = same_at (λ (e : String Global × Function). string_bytes e.0) (λ (e : String Global × Function). string_bytes e.1.name) d.functions.entries n (x, f) named at in
+        (t.0, (n, t.1), name ∙ t.2.is.name, t.2.is.stability)
+
     pub resolved_members : HasMembers p scope_owner ms d
-    resolved_members = record { types = has_types; functions = has_functions }
+    resolved_members = record { types = has_types; only_types = only_types; functions = has_functions; only_functions = only_functions }
 
 -- ---- places that move
 
@@ -251,6 +268,11 @@ module _ (p : UnresolvedPackage) (n : ℕ) (whose : TypeOwner) where
   pub moved_members : (ms : List MemberTree) (d : Interface) → HasMembers p whose ms d → HasMembers (package_at n p) whose ms (interface_by (span_at n) d)
   moved_members ms d h = record {
     types = λ m has. (let t = h.types m has in record { name = t.name; type_id = t.type_id; listed = t.listed; text = t.text; is = moved_type m t.type_id t.is });
+    only_types = λ x i has. (let t = h.only_types x i has in (t.0, t.1, t.2, moved_type t.0 i t.3));
+    only_functions = λ x f has. (
+        let e = map_has (λ (e : String Global × Function). (e.0, function_by (span_at n) e.1)) d.functions.entries (x, f) has in
+        let t = h.only_functions e.0.0 e.0.1 e.1 in
+        (t.0, t.1, ap (λ (y : String Global × Function). string_bytes y.0) e.2 ∙ t.2, subst (λ (g : Function). IsStabilityOf t.0.attributes g.stability) (sym (ap (λ (y : String Global × Function). y.1) e.2)) t.3));
     functions = λ m has. (
         let f = h.functions m has in record {
           name = f.name;
@@ -296,9 +318,9 @@ own_placed features p (t ∷ ss) (suc k) s at =
     next false = (let e = length-append p.places (None ∷ []) in omega (arith, e))
 
 module _ (features : FeatureSet) (graph : List Interface) (sizes : Sizes) (foreign owners : OwnerPlaces) (p : UnresolvedPackage) (places : Places) (planned : IsPlanned features graph sizes foreign (own_parts p) owners places) where
-  -- a type stays where its gates let it and what it belongs to does
-  pub type_placed : (whose : TypeOwner) → is_owner_placed owners whose ≡ true → (m : MemberTree) (i : ℕ) → IsOwnType p whose m i → Stays features m.attributes → is_placed places i ≡ true
-  type_placed whose there m i h stay =
+  -- a type has a place where its gates let it stay and what it belongs to has one
+  type_is_placed : (whose : TypeOwner) (m : MemberTree) (i : ℕ) → (h : IsOwnType p whose m i) → is_placed places i ≡ (stays features h.def.stability && is_owner_placed owners h.def.owner)
+  type_is_placed whose m i h =
       let cut = split (own_parts p).types h.place h.def h.there in
       let others : Places = map (type_found graph foreign.interfaces) (own_parts p).unknown in
       let within : asked_types p + h.place < length p.types = slice_get_within p.types (asked_types p + h.place) h.def (sym (dropped (asked_types p) p.types h.place) ∙ h.there) in
@@ -306,9 +328,12 @@ module _ (features : FeatureSet) (graph : List Interface) (sizes : Sizes) (forei
       let sized : length others ≡ asked_types p = length-map (take (asked_types p) p.types) (type_found graph foreign.interfaces) ∙ length-take-le (asked_types p) p.types most in
       let are = planned.types_are.are ∙ ap (λ (ds : List TypeDef). (with_types features owners (record { places = others; next = sizes.types }) ds).places) cut.whole in
       let place : i ≡ length others + length cut.before = (let is = h.place_is in let many = cut.so_many in omega (arith, is, sized, many)) in
-      let by_name : type_stays features owners (with_types features owners (record { places = others; next = sizes.types }) cut.before).places h.def ≡ true =
-      ap (named_stays features owners (with_types features owners (record { places = others; next = sizes.types }) cut.before).places h.def) h.named ∙ and_true (stay h.def.stability h.gates) (ap (is_owner_placed owners) h.owner ∙ there) in
-      ap (is_placed places) place ∙ placed_where_stays features owners others places sizes.types cut.before cut.behind h.def are ∙ by_name
+      ap (is_placed places) place ∙ placed_where_stays features owners others places sizes.types cut.before cut.behind h.def are
+      ∙ ap (named_stays features owners (with_types features owners (record { places = others; next = sizes.types }) cut.before).places h.def) h.named
+
+  -- so it stays where its gates let it and what it belongs to does
+  pub type_placed : (whose : TypeOwner) → is_owner_placed owners whose ≡ true → (m : MemberTree) (i : ℕ) → IsOwnType p whose m i → Stays features m.attributes → is_placed places i ≡ true
+  type_placed whose there m i h stay = type_is_placed whose m i h ∙ and_true (stay h.def.stability h.gates) (ap (is_owner_placed owners) h.owner ∙ there)
     where
       and_true : {a b : Bool} → a ≡ true → b ≡ true → (a && b) ≡ true
       and_true x y = rw (x, y) refl
@@ -340,6 +365,14 @@ module _ (features : FeatureSet) (graph : List Interface) (sizes : Sizes) (forei
         let t = h.types m has in
         let w = kept_has (is_placed places) _ d.types.entries e.types.entries moved.types t.name t.type_id t.listed (type_placed (own_interface p k) there m t.type_id t.is keep) in
         (t.name, w.0, w.1, t.text));
+    only_types = λ x j has. (
+        let w = kept_was (is_placed places) _ d.types.entries e.types.entries moved.types x j has in
+        let t = h.only_types x w.0 w.1 in
+        (t.0, t.1, t.2, (t.3.def.stability, t.3.gates, first_true (stays features t.3.def.stability) _ (sym (type_is_placed (own_interface p k) t.0 w.0 t.3) ∙ w.2))));
+    only_functions = λ x g has. (
+        let w = kept_was (function_stays features places) _ d.functions.entries e.functions.entries moved.functions x g has in
+        let t = h.only_functions x w.0 w.1 in
+        (t.0, t.1, t.2, (w.0.stability, t.3, first_true (stays features w.0.stability) _ w.2)));
     functions = λ m has keep. (
         let f = h.functions m has in
         let w = kept_has (function_stays features places) _ d.functions.entries e.functions.entries moved.functions f.name f.made f.listed (function_kept (own_interface p k) there ms m f.made f.gates f.resource keep) in
@@ -348,3 +381,7 @@ module _ (features : FeatureSet) (graph : List Interface) (sizes : Sizes) (forei
     where
       there : is_owner_placed owners (own_interface p k) ≡ true
       there = interface_placed so_many k d at stay
+
+      first_true : (a b : Bool) → (a && b) ≡ true → a ≡ true
+      first_true true b e = refl
+      first_true false b e = e

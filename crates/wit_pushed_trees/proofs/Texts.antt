@@ -16,6 +16,7 @@ use Rattle.wit_types.specs.declared.world.World.{World}
 use Rattle.wit_types.specs.declared.world.WorldInclude.{WorldInclude}
 use Rattle.wit_types.specs.declared.world.WorldItem.TheVariants as item
 use Rattle.wit_types.specs.declared.world_key.WorldKey.{WorldKey}
+use Rattle.wit_types.specs.WorldKey.{placed, known}
 use Rattle.wit_scopes.specs.declared.worlds.Side.{Side}
 use Rattle.wit_scopes.specs.declared.worlds.Side.TheVariants.{Import, Export}
 use Rattle.wit_arena.specs.LowerKind.{Label}
@@ -45,15 +46,13 @@ use Rattle.wit_resolved_scopes.proofs.Eaches.{each_right}
 use Rattle.wit_worlds.specs.Worlds.{Entry, function_member, target_owner, IsTypeEntry, IsFunctionEntry, IsExternEntry, IsEntryOf, IsIncludeOf, IsWorldIn}
 use Rattle.wit_package.specs.Resolved.{context_of, IsResolved}
 use Rattle.wit_package.specs.Steps.{Resolves}
-use Rattle.wit_package.specs.TopUses.{files_need}
 use Rattle.wit_reach.proofs.Holding.{got}
-use Rattle.wit_well_formed.proofs.Belonging.{counted}
-use Rattle.wit_well_formed.proofs.Counted.{world_item}
+use Rattle.wit_well_formed.proofs.Belonging.{counted, worlds_are_counted}
 use Rattle.wit_well_formed.proofs.Lists.{get_drop}
 use Rattle.wit_graph_parts.specs.Own.{asked, own_parts}
-use Rattle.wit_pushed_trees.proofs.Resolved.{name_in, named_place}
+use Rattle.wit_pushed_trees.proofs.Resolved.{name_in, named_place, text_owned}
 use Rattle.wit_pushed_trees.specs.Meaning.{FunctionSort, is_freestanding, is_method, is_static, sort_of, written_sort, IsKindMeant, param_names, written_names, IsFunctionMeant, IsInterfaceMeant, IsOfText}
-use Rattle.wit_pushed_trees.specs.Worlds.{IsTextOf, IsTypeMeant, IsGiven, IsOwnFunctionMeant, extern_owner, IsInterfaceListed, IsIncludeMeant, IsWorldMeant}
+use Rattle.wit_pushed_trees.specs.Worlds.{IsTextOf, IsTypeMeant, IsGiven, IsOwnFunctionMeant, extern_owner, listed_key, IsInterfaceListed, IsIncludeMeant, IsWorldMeant}
 use Rattle.wit_pushed_trees.specs.Packages.{ResolvedPackagesMeanTheirTexts}
 
 -- what is one of a kind
@@ -221,18 +220,21 @@ module _ (c : Context) (n : Name) (a : List TypeDef) (table : Entries) where
   entry_function ws side (scope.included i) e has h f is = absurd h
 
   -- and an interface for what is listed
-  abbrev IsOfListed : List WorldMemberTree → Side → ℕ → Type 0
-  IsOfListed ws side i = (l : ListedTree) × Has ws (scope.listed l) × (l.side ≡ side) × (w : Owner) × (extern_owner c n l l.kind ≡ Some w) × (slice_get c.owners.interfaces i ≡ Some w)
+  abbrev IsOfListed : List WorldMemberTree → Side → WorldKey → ℕ → Type 0
+  IsOfListed ws side key i =
+      (l : ListedTree) × Has ws (scope.listed l) × (l.side ≡ side) × (w : Owner) × (extern_owner c n l l.kind ≡ Some w) × (slice_get c.owners.interfaces i ≡ Some w) × (known key ≡ listed_key l l.kind i)
 
   extern_interface : (ws : List WorldMemberTree) (side : Side) (l : ListedTree) → Has ws (scope.listed l) → l.side ≡ side → (k : ExternKind) → l.kind ≡ k → (e : Entry) → IsExternEntry c n a table l k e → (i : ℕ) (gate : Stability) (span : Span) → e.1 ≡ item.Interface i gate span
-      → IsOfListed ws side i
+      → IsOfListed ws side e.0 i
   extern_interface ws side l has on (scope.ExternKind.function f) kind e h i gate span is = absurd (let q : item.Interface i gate span ≡ item.Function h.made = sym is ∙ h.item in cc)
   extern_interface ws side l has on (scope.ExternKind.interface ms) kind e h i gate span is =
-      (l, has, on, own_owner c (in_listed n l.side l.name.text), ap (extern_owner c n l) kind, ap (slice_get c.owners.interfaces) (interface_is i h.id gate h.stability span l.name.span (sym is ∙ h.item)) ∙ h.owner)
+      let same : i ≡ h.id = interface_is i h.id gate h.stability span l.name.span (sym is ∙ h.item) in
+      (l, has, on, own_owner c (in_listed n l.side l.name.text), ap (extern_owner c n l) kind, ap (slice_get c.owners.interfaces) same ∙ h.owner, h.key ∙ ap (λ (k : ExternKind). listed_key l k i) (sym kind))
   extern_interface ws side l has on (scope.item t) kind e h i gate span is =
-      (l, has, on, target_owner c.me in_interface t, ap (extern_owner c n l) kind, ap (slice_get c.owners.interfaces) (interface_is i h.id gate h.stability span l.name.span (sym is ∙ h.item)) ∙ h.owner)
+      let same : i ≡ h.id = interface_is i h.id gate h.stability span l.name.span (sym is ∙ h.item) in
+      (l, has, on, target_owner c.me in_interface t, ap (extern_owner c n l) kind, ap (slice_get c.owners.interfaces) same ∙ h.owner, h.key ∙ ap placed (sym same) ∙ ap (λ (k : ExternKind). listed_key l k i) (sym kind))
 
-  entry_interface : (ws : List WorldMemberTree) (side : Side) (x : WorldMemberTree) (e : Entry) → Has (side_members side ws) x → IsEntryOf c n a table x e → (i : ℕ) (gate : Stability) (span : Span) → e.1 ≡ item.Interface i gate span → IsOfListed ws side i
+  entry_interface : (ws : List WorldMemberTree) (side : Side) (x : WorldMemberTree) (e : Entry) → Has (side_members side ws) x → IsEntryOf c n a table x e → (i : ℕ) (gate : Stability) (span : Span) → e.1 ≡ item.Interface i gate span → IsOfListed ws side e.0 i
   entry_interface ws side (scope.member m) e has h i gate span is = absurd (let q : item.Interface i gate span ≡ item.Function h.made = sym is ∙ h.item in cc)
   entry_interface ws side (scope.listed l) e has h i gate span is = (let on = listed_on ws side l has in extern_interface ws side l on.0 on.1 l.kind refl e h i gate span is)
   entry_interface ws side (scope.included y) e has h i gate span is = absurd h
@@ -273,15 +275,15 @@ module _ (given : Owner → Name → Tree) (c : Context) (a : List TypeDef) (w :
       record { text = w; is_text = text; is = in_scope given c a (in_world o) (own_members w.members) is.table (names_mean given c a (in_world o) (belongs.World id) is.sorted is.table is.types_are) of.0 f of.1 of.2; giver = e.0; on_side = (n, e.1); gives = of.3 }
 
   side_interface : (side : Side) (es : List Entry) → Each (IsEntryOf c o a is.table) (side_members side w.members) es → (n : ℕ) (k : WorldKey) (i : ℕ) (gate : Stability) (span : Span) → slice_get es n ≡ Some (k, item.Interface i gate span)
-      → IsInterfaceListed c c.owners ws d.name side i
+      → IsInterfaceListed c c.owners ws d.name side k i
   side_interface side es each n k i gate span at =
       let e = each_right (IsEntryOf c o a is.table) (side_members side w.members) es each n (k, item.Interface i gate span) at in
       let of = entry_interface c o a is.table w.members side e.0 (k, item.Interface i gate span) (n, e.1) e.2 i gate span refl in
-      record { text = w; is_text = text; listed = of.0; there = of.1; side_is = of.2; whose = of.3; listed_as = of.4; owner = of.5 }
+      record { text = w; is_text = text; listed = of.0; there = of.1; side_is = of.2; whose = of.3; listed_as = of.4; owner = of.5; keyed = of.6 }
 
-  import_listed : (k : WorldKey) (i : ℕ) (gate : Stability) (span : Span) → Has d.imports.entries (k, item.Interface i gate span) → IsInterfaceListed c c.owners ws d.name Import i
+  import_listed : (k : WorldKey) (i : ℕ) (gate : Stability) (span : Span) → Has d.imports.entries (k, item.Interface i gate span) → IsInterfaceListed c c.owners ws d.name Import k i
   import_listed k i gate span has =
-      elim (get_either is.type_entries is.other_imports has.0 (k, item.Interface i gate span) (subst (λ es. slice_get es has.0 ≡ Some (k, item.Interface i gate span)) is.imports_are has.1)) as (λ _. IsInterfaceListed c c.owners ws d.name Import i) [
+      elim (get_either is.type_entries is.other_imports has.0 (k, item.Interface i gate span) (subst (λ es. slice_get es has.0 ≡ Some (k, item.Interface i gate span)) is.imports_are has.1)) as (λ _. IsInterfaceListed c c.owners ws d.name Import k i) [
         | inl own ↦ absurd (
             let e = each_right (IsTypeEntry a) is.table is.type_entries is.type_entries_are has.0 (k, item.Interface i gate span) own in
             let q : item.Interface i gate span ≡ item.TypeItem e.0.1 e.2.def.span = e.2.item in cc)
@@ -304,6 +306,8 @@ module _ (given : Owner → Name → Tree) (c : Context) (a : List TypeDef) (w :
 
   world_meant : IsWorldMeant given c c.owners a ws d.name d.imports.entries d.exports.entries d.includes.items
   world_meant = record {
+    text = w;
+    is_text = text;
     own_types = type_meant;
     imported_functions = import_meant;
     exported_functions = λ k f has. side_function Export d.exports.entries is.lists_are.exports_are has.0 k f has.1;
@@ -315,18 +319,6 @@ module _ (given : Owner → Name → Tree) (c : Context) (a : List TypeDef) (w :
     included = include_meant;
   }
 
--- one of another package has nothing
-nothing_meant : (given : Owner → Name → Tree) (c : Context) (a : List TypeDef) (d : World) (ws : List WorldScope) → d.imports.entries ≡ [] → d.exports.entries ≡ [] → d.includes.items ≡ [] → IsWorldMeant given c c.owners a ws d.name d.imports.entries d.exports.entries d.includes.items
-nothing_meant given c a d ws no_imports no_exports no_includes = record {
-  own_types = λ k i span has. absurd (has_none (k, item.TypeItem i span) (subst (λ es. Has es (k, item.TypeItem i span)) no_imports has));
-  imported_functions = λ k f has. absurd (has_none (k, item.Function f) (subst (λ es. Has es (k, item.Function f)) no_imports has));
-  exported_functions = λ k f has. absurd (has_none (k, item.Function f) (subst (λ es. Has es (k, item.Function f)) no_exports has));
-  imported = λ k i gate span has. absurd (has_none (k, item.Interface i gate span) (subst (λ es. Has es (k, item.Interface i gate span)) no_imports has));
-  exported = λ k i gate span has. absurd (has_none (k, item.Interface i gate span) (subst (λ es. Has es (k, item.Interface i gate span)) no_exports has));
-  no_exported_types = λ k i span has. has_none (k, item.TypeItem i span) (subst (λ es. Has es (k, item.TypeItem i span)) no_exports has);
-  included = λ n has. absurd (has_none n (subst (λ ns. Has ns n) no_includes has));
-}
-
 -- ---- a package
 
 module _ (files : List FileTree) (p : UnresolvedPackage) (r : Resolves files p) where
@@ -336,12 +328,12 @@ module _ (files : List FileTree) (p : UnresolvedPackage) (r : Resolves files p) 
   abbrev c : Context
   c = context_of s.me files s.items s.sorted
 
-  own_interface : (given : Owner → Name → Tree) (i : ℕ) (d : Interface) → slice_get (own_parts p).interfaces i ≡ Some d → IsOfText given c c.owners p.types (interface_texts s.sorted) d
+  own_interface : (given : Owner → Name → Tree) (i : ℕ) (d : Interface) → slice_get (own_parts p).interfaces i ≡ Some d → IsOfText given c c.owners p.types (interface_texts s.sorted) ((asked p).interfaces + i) d
   own_interface given i d at =
       let behind = get_drop (asked p).interfaces p.interfaces i d at in
       let so_many : length s.foreign_interfaces ≡ interfaces_in s.items = s.foreign_are.so_many_interfaces in
       let most : interfaces_in s.items ≤ (asked p).interfaces = counted files p r in
-      elim (get_either s.foreign_interfaces s.own_interfaces ((asked p).interfaces + i) d (subst (λ (ds : List Interface). slice_get ds ((asked p).interfaces + i) ≡ Some d) s.interfaces_are behind)) as (λ _. IsOfText given c c.owners p.types (interface_texts s.sorted) d) [
+      elim (get_either s.foreign_interfaces s.own_interfaces ((asked p).interfaces + i) d (subst (λ (ds : List Interface). slice_get ds ((asked p).interfaces + i) ≡ Some d) s.interfaces_are behind)) as (λ _. IsOfText given c c.owners p.types (interface_texts s.sorted) ((asked p).interfaces + i) d) [
         | inl other ↦ absurd (
             let within : (asked p).interfaces + i < length s.foreign_interfaces = slice_get_within s.foreign_interfaces ((asked p).interfaces + i) d other in
             omega (arith, within, so_many, most))
@@ -349,7 +341,7 @@ module _ (files : List FileTree) (p : UnresolvedPackage) (r : Resolves files p) 
             let within : o.0 < length s.own_interfaces = slice_get_within s.own_interfaces o.0 d o.2 in
             let size = s.own_interfaces_are.so_many in
             let t = got (interface_texts s.sorted) o.0 (omega (arith, within, size)) in
-            (t.0, (o.0, t.1), interface_meant given c p.types t.0 (length s.foreign_interfaces + o.0) d (s.own_interfaces_are.each o.0 t.0 d t.1 o.2) (λ x named. named_place s.sorted o.0 t.0 x t.1 named))
+            (t.0, (o.0, t.1), ap (slice_get c.owners.interfaces) o.1 ∙ text_owned files p r o.0 t.0 t.1, interface_meant given c p.types t.0 (length s.foreign_interfaces + o.0) d (s.own_interfaces_are.each o.0 t.0 d t.1 o.2) (λ x named. named_place s.sorted o.0 t.0 x t.1 named))
       ]
 
   own_world : (given : Owner → Name → Tree) (i : ℕ) (w : World) → slice_get (own_parts p).worlds i ≡ Some w → IsWorldMeant given c c.owners p.types (worlds_of s.sorted) w.name w.imports.entries w.exports.entries w.includes.items
@@ -360,9 +352,8 @@ module _ (files : List FileTree) (p : UnresolvedPackage) (r : Resolves files p) 
         | inl other ↦
             let within : n < length s.foreign_worlds = slice_get_within s.foreign_worlds n w other in
             let so_many : length s.foreign_worlds ≡ worlds_in s.items = s.foreign_are.so_many_worlds in
-            let one = world_item (files_need s.me files) s.items s.items_are n (omega (arith, within, so_many)) in
-            let is = s.foreign_are.worlds one.0 n w one.1 other in
-            nothing_meant given c p.types w (worlds_of s.sorted) is.imports is.exports is.includes
+            let most : worlds_in s.items ≤ (asked p).worlds = worlds_are_counted files p r in
+            absurd (omega (arith, within, so_many, most))
         | inr o ↦
             let within : o.0 < length s.own_worlds = slice_get_within s.own_worlds o.0 w o.2 in
             let size = s.own_worlds_are.so_many in

@@ -15,7 +15,7 @@ use Rattle.wit_types.specs.declared.stability.Stability.{Stability}
 use Rattle.wit_types.specs.declared.«package».Package.{Package}
 use Rattle.wit_types.specs.WorldKey.{placed}
 use Rattle.wit_worlds.specs.Worlds.{target_owner}
-use Rattle.wit_resolved_scopes.specs.Texts.{side_members}
+use Rattle.wit_resolved_scopes.specs.Texts.{side_members, InterfaceText}
 use Rattle.wit_moves.specs.Moved.{place_of, to}
 use Rattle.wit_moves.specs.Plan.{OwnerPlaces}
 use Rattle.wit_placed.specs.Order.{interface_places}
@@ -35,8 +35,8 @@ use Rattle.wit_scopes.specs.Scopes.{ItemScope, InterfaceScope, WorldMemberTree, 
 use Rattle.wit_arena.specs.Tree.{Name, in_interface, in_world, PackageText, Owner}
 use Rattle.wit_arena.specs.Meaning.{Has}
 use Rattle.wit_arena.proofs.Lists.{has_here, has_later, has_none, has_left, has_right, has_map}
-use Rattle.wit_foreign.specs.Items.{worlds_in}
-use Rattle.wit_interfaces.proofs.Behind.{get_right}
+use Rattle.wit_foreign.specs.Items.{worlds_in, interfaces_in}
+use Rattle.wit_interfaces.proofs.Behind.{get_right, get_either}
 use Rattle.wit_package.specs.Resolved.{IsResolved, context_of}
 use Rattle.wit_package.specs.Steps.{Resolves}
 use Rattle.wit_plans.specs.Checks.{Standing}
@@ -48,13 +48,13 @@ use Rattle.wit_plans.specs.declared.moves.MovedWorld.{MovedWorld}
 use Rattle.wit_reach.proofs.Holding.{got}
 use Rattle.wit_readiness.proofs.Flat.{in_flat, flat_has}
 use Rattle.wit_resolved_scopes.specs.Texts.{interface_of, interfaces_of, interface_text, interface_texts, labelled_texts, world_of, worlds_of, AreItemsSorted}
-use Rattle.wit_well_formed.proofs.Belonging.{no_more_worlds}
+use Rattle.wit_well_formed.proofs.Belonging.{no_more_worlds, counted, worlds_are_counted}
 use Rattle.wit_well_formed.proofs.InterfaceNames.{named_apart as interfaces_named_apart}
 use Rattle.wit_well_formed.proofs.OffsetNames.{moved_named_apart}
 use Rattle.wit_graph_worlds.specs.Names.{Pair, by_bytes, name_at, interface_names, world_names, AreNames}
 use Rattle.wit_graph_parts.specs.Own.{asked, own_parts}
-use Rattle.wit_pushed_trees.specs.Staying.{Stays, IsListed, own_interface}
-use Rattle.wit_pushed_trees.specs.There.{HasInterface, HasWorld, HasItems, ListsInterface, ListsWorld, ResolvedPackagesHaveTheirItems, MovedPackagesHaveTheirItems, PushedPackagesListTheirItems}
+use Rattle.wit_pushed_trees.specs.Staying.{Stays, IsListed, own_interface, Remains}
+use Rattle.wit_pushed_trees.specs.There.{HasInterface, HasWorld, HasItems, ListsInterface, ListsWorld, ResolvedPackagesHaveTheirItems, MovedPackagesHaveTheirItems, PushedPackagesListTheirItems, IsNamedBy, IsWorldNamedBy}
 use Rattle.wit_pushed_trees.specs.StayingWorlds.{Entry, HasSides, own_world}
 use Rattle.wit_pushed_trees.specs.StayingPaths.{ListsPaths}
 use Rattle.wit_pushed_trees.specs.StayingInner.{HasInterfaceAt, HasInners, ListsInners}
@@ -62,13 +62,15 @@ use Rattle.wit_pushed_trees.specs.Asked.{text_of}
 use Rattle.wit_pushed_trees.specs.Found.{IsInterfaceOf, IsWorldOf, TellsNamesApart, NamesOfGraphStand}
 use Rattle.wit_pushed_trees.proofs.Finding.{same_text, asked_found}
 use Rattle.wit_pushed_trees.proofs.StayingIncludes.{KeepsKnown, named_worlds, resolved_includes, moved_includes, moved_worlds_named, include_placed, world_from}
-use Rattle.wit_pushed_trees.proofs.Resolved.{resolved_owners}
+use Rattle.wit_pushed_trees.proofs.Resolved.{resolved_owners, named_text, name_in}
 use Rattle.wit_pushed_trees.proofs.StayingPaths.{resolved_named, resolved_paths, moved_owners_named, moved_paths, ArePlacedPaths, path_placed}
 use Rattle.wit_pushed_trees.proofs.StayingInner.{own_one, of_text, resolved_inners, moved_inners, stands_moved, goes_there}
 use Rattle.wit_pushed_trees.proofs.Apart.{resolved_worlds_apart, moved_worlds_apart}
 use Rattle.wit_pushed_trees.proofs.StayingWorlds.{resolved_sides, moved_sides, moved_at, sides_kept, KeepsLabels, sides_of, interface_kept_at, world_there}
-use Rattle.wit_pushed_trees.proofs.Staying.{some_name, at_sorted, mapped_at, own_placed, moved_members, members_listed}
+use Rattle.wit_pushed_trees.proofs.Staying.{some_name, at_sorted, mapped_at, own_placed, moved_members, members_listed, was_sorted}
 use Rattle.wit_pushed_trees.proofs.Owning.{rest, table_so}
+use Rattle.wit_well_formed.proofs.Lists.{get_drop, got_behind}
+use Rattle.wit_package_types.specs.Stability.{IsStabilityOf}
 
 -- ---- a package
 
@@ -87,9 +89,16 @@ worlds_in_order scopes sorted are t has =
     let s = in_flat world_of scopes t has in
     flat_has world_of sorted s.0 t (in_order scopes sorted are s.0 s.1) s.2
 
+-- and what is sorted was there
+out_of_order : (scopes sorted : List ItemScope) → AreItemsSorted scopes sorted → (s : ItemScope) → Has sorted s → Has scopes s
+out_of_order scopes sorted are s has = was_sorted scopes are.0 sorted are.2 s has
+
 module _ (files : List FileTree) (p : UnresolvedPackage) (r : Resolves files p) where
   abbrev s : IsResolved files p
   s = r.resolved
+
+  abbrev scopes : List ItemScope
+  scopes = package_scopes s.me files
 
   has_interface : (t : InterfaceScope) → Has (interfaces_of (package_scopes s.me files)) t → HasInterface p t
   has_interface t has =
@@ -118,14 +127,64 @@ module _ (files : List FileTree) (p : UnresolvedPackage) (r : Resolves files p) 
         inners = resolved_inners files p r t text (length s.foreign_worlds + text.0) w.0 is;
       }
 
+  only_interface : (k : ℕ) (d : Interface) (x : String Global) → slice_get (own_parts p).interfaces k ≡ Some d → d.name ≡ Some x → (t : InterfaceScope) × Has (interfaces_of scopes) t × IsNamedBy t d
+  only_interface k d x at named =
+      let n : ℕ = (asked p).interfaces + k in
+      let behind : slice_get (s.foreign_interfaces ++ s.own_interfaces) n ≡ Some d = subst (λ (ds : List Interface). slice_get ds n ≡ Some d) s.interfaces_are (get_drop (asked p).interfaces p.interfaces k d at) in
+      elim (get_either s.foreign_interfaces s.own_interfaces n d behind) as (λ _. (t : InterfaceScope) × Has (interfaces_of scopes) t × IsNamedBy t d) [
+        | inl other ↦ absurd (
+            let within : n < length s.foreign_interfaces = slice_get_within s.foreign_interfaces n d other in
+            let so_many : length s.foreign_interfaces ≡ interfaces_in s.items = s.foreign_are.so_many_interfaces in
+            let most = counted files p r in
+            omega (arith, within, so_many, most))
+        | inr own ↦
+            let within : own.0 < length s.own_interfaces = slice_get_within s.own_interfaces own.0 d own.2 in
+            let size = s.own_interfaces_are.so_many in
+            let t = got (interface_texts s.sorted) own.0 (omega (arith, within, size)) in
+            let is = s.own_interfaces_are.each own.0 t.0 d t.1 own.2 in
+            let name : t.0.name ≡ Some (string_bytes x) = name_in d x t.0.name is.is.name named in
+            let i = named_text s.sorted own.0 t.0 (string_bytes x) t.1 name in
+            let scope = in_flat interface_of s.sorted i.0 i.1 in (
+              i.0,
+              flat_has interface_of scopes scope.0 i.0 (out_of_order scopes s.sorted s.are_sorted scope.0 scope.1) scope.2,
+              record {
+                name = x;
+                named = named;
+                text = same_Some (string_bytes x) i.0.name.text (sym name ∙ ap (λ (u : InterfaceText). u.name) i.2);
+                gates = subst (λ (u : InterfaceText). IsStabilityOf u.attributes d.stability) i.2 is.is.stability;
+              },
+            )
+      ]
+
+  only_world : (k : ℕ) (w : World) → slice_get (own_parts p).worlds k ≡ Some w → (t : WorldScope) × Has (worlds_of scopes) t × IsWorldNamedBy t w
+  only_world k w at =
+      let n : ℕ = (asked p).worlds + k in
+      let behind : slice_get (s.foreign_worlds ++ s.own_worlds) n ≡ Some w = subst (λ (ws : List World). slice_get ws n ≡ Some w) s.worlds_are (get_drop (asked p).worlds p.worlds k w at) in
+      elim (get_either s.foreign_worlds s.own_worlds n w behind) as (λ _. (t : WorldScope) × Has (worlds_of scopes) t × IsWorldNamedBy t w) [
+        | inl other ↦ absurd (
+            let within : n < length s.foreign_worlds = slice_get_within s.foreign_worlds n w other in
+            let so_many : length s.foreign_worlds ≡ worlds_in s.items = s.foreign_are.so_many_worlds in
+            let most = worlds_are_counted files p r in
+            omega (arith, within, so_many, most))
+        | inr own ↦
+            let within : own.0 < length s.own_worlds = slice_get_within s.own_worlds own.0 w own.2 in
+            let size = s.own_worlds_are.so_many in
+            let t = got (worlds_of s.sorted) own.0 (omega (arith, within, size)) in
+            let is = s.own_worlds_are.each own.0 t.0 w t.1 own.2 in
+            let scope = in_flat world_of s.sorted t.0 (own.0, t.1) in
+            (t.0, flat_has world_of scopes scope.0 t.0 (out_of_order scopes s.sorted s.are_sorted scope.0 scope.1) scope.2, record { text = is.name; gates = is.stability })
+      ]
+
 pub resolved_items : ResolvedPackagesHaveTheirItems
 resolved_items files p r = record {
   interfaces = has_interface files p r;
+  only_interfaces = only_interface files p r;
   interfaces_apart = interfaces_named_apart files p r;
   owners = (context_of r.resolved.me files r.resolved.items r.resolved.sorted).owners;
   owned = resolved_named files p r;
   worlds_owned = named_worlds (context_of r.resolved.me files r.resolved.items r.resolved.sorted).owners p (resolved_owners files p r);
   worlds = has_world files p r;
+  only_worlds = only_world files p r;
   worlds_apart = resolved_worlds_apart files p r;
 }
 
@@ -139,6 +198,10 @@ moved_items ts p n have = record {
         named = record { name = o.named.name; named = o.named.named; text = o.named.text; gates = o.named.gates };
         members = moved_members p n (own_interface p o.number) t.members o.made o.members;
       });
+  only_interfaces = λ k d x at named. (
+      let o = got_behind (interface_by (span_at n)) (asked p).interfaces p.interfaces k d at in
+      let t = have.only_interfaces k o.0 x o.1 (ap (λ (e : Interface). e.name) o.2 ∙ named) in
+      (t.0, t.1, subst (IsNamedBy t.0) o.2 (record { name = t.2.name; named = t.2.named; text = t.2.text; gates = t.2.gates })));
   interfaces_apart = moved_named_apart p n have.interfaces_apart;
   owners = have.owners;
   owned = moved_owners_named have.owners p n have.owned;
@@ -154,6 +217,10 @@ moved_items ts p n have = record {
         includes = moved_includes n have.owners (text_of p.name) t.members o.made o.includes;
         inners = moved_inners n p t.members o.made o.inners;
       });
+  only_worlds = λ k w at. (
+      let o = got_behind (world_by (span_at n)) (asked p).worlds p.worlds k w at in
+      let t = have.only_worlds k o.0 o.1 in
+      (t.0, t.1, subst (IsWorldNamedBy t.0) o.2 (record { text = t.2.text; gates = t.2.gates })));
   worlds_apart = moved_worlds_apart p n have.worlds_apart;
 }
 
@@ -578,5 +645,30 @@ module _ (ts : List ItemScope) (eq : PackageName → PackageName → Bool) (feat
             });
       }
 
+  -- what stands under a name is of a text, and stays
+  only_interface_listed : (e : String Global × ℕ) → Has h.put.added.q.interfaces.entries e → (i : InterfaceScope) × Has (interfaces_of ts) i × (string_bytes e.0 ≡ i.name.text) × Remains features i.attributes
+  only_interface_listed e has =
+      let own = h.put.added.parts.own_interfaces in
+      let at : Has names e = subst (λ (es : List (String Global × ℕ)). Has es e) h.put.added.is_package.interfaces_are has in
+      let pair = table_so (IsPairOf base own.moved) (interface_names base own.moved) names own.named (pairs_of base own.moved) e (entry_has names e at) in
+      let was = interface_from features (standing h.owners h.places) (length old.tables.packages) h.foreign.interfaces base (own_parts p).interfaces own.moved own.are_moved pair.number pair.made pair.there in
+      let named : was.old.name ≡ Some pair.name = sym was.moved.name ∙ pair.named in
+      let t = have.only_interfaces was.place was.old pair.name was.was named in
+      (t.0, t.1, sym pair.text ∙ ap string_bytes (same_Some pair.name t.2.name (sym named ∙ t.2.named)) ∙ t.2.text, (was.old.stability, t.2.gates, was.kept))
+
+  only_world_listed : (e : String Global × ℕ) → Has h.put.added.q.worlds.entries e → (w : WorldScope) × Has (worlds_of ts) w × (string_bytes e.0 ≡ w.name.text) × Remains features w.attributes
+  only_world_listed e has =
+      let own = h.put.added.parts.own_worlds in
+      let at : Has h.put.added.world_names e = subst (λ (es : List (String Global × ℕ)). Has es e) h.put.added.is_package.worlds_are has in
+      let pair = table_so (IsWorldPair first own.moved) (world_names first own.moved) h.put.added.world_names own.named (world_pairs first own.moved) e (entry_has h.put.added.world_names e at) in
+      let was = world_from features (standing h.owners h.places) (record { places = h.foreign.worlds; next = first }) (own_parts p).worlds own.moved own.are_moved pair.number pair.made pair.there in
+      let t = have.only_worlds was.place was.old was.was in
+      (t.0, t.1, sym pair.text ∙ ap string_bytes was.moved.name ∙ t.2.text, (was.old.stability, t.2.gates, was.kept))
+
 pub pushed_items : PushedPackagesListTheirItems
-pushed_items ts eq features old p new id tells stand have h = record { interfaces_are = interface_listed ts eq features old p new id tells stand have h; worlds_are = world_listed ts eq features old p new id tells stand have h }
+pushed_items ts eq features old p new id tells stand have h = record {
+  interfaces_are = interface_listed ts eq features old p new id tells stand have h;
+  only_interfaces = only_interface_listed ts eq features old p new id tells stand have h;
+  worlds_are = world_listed ts eq features old p new id tells stand have h;
+  only_worlds = only_world_listed ts eq features old p new id tells stand have h;
+}

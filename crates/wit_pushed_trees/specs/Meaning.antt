@@ -1,5 +1,5 @@
 -- Interfaces that mean what their texts do (WIT, Item: `interface`, Use, Types).
-use Rattle.std.specs.Prelude.{◌≡◌, ℕ, Bool, true, false, List, Some, String, if◌then◌else◌, map, string_bytes}
+use Rattle.std.specs.Prelude.{◌≡◌, ℕ, Bool, true, false, List, Some, String, if◌then◌else◌, map, string_bytes, slice_get}
 use Rattle.std.specs.declared.alloc.Global.{Global}
 use Rattle.wit_types.specs.declared.function.Param.{Param}
 use Rattle.wit_types.specs.declared.function.Function.{Function}
@@ -15,7 +15,7 @@ use Rattle.wit_arena.specs.Tree.{Name, Place, in_interface, Owner, Tree}
 use Rattle.wit_arena.specs.Unfold.{Owners}
 use Rattle.wit_arena.specs.Standing.{Stands}
 use Rattle.wit_arena.specs.Meaning.{Has}
-use Rattle.wit_resolved_scopes.specs.InArena.{Context}
+use Rattle.wit_resolved_scopes.specs.InArena.{Context, own_owner}
 use Rattle.wit_resolved_scopes.specs.Meaning.{StandsForFunction}
 use Rattle.wit_resolved_scopes.specs.Scope.{functions_among}
 use Rattle.wit_resolved_scopes.specs.Texts.{InterfaceText}
@@ -77,6 +77,6 @@ pub record IsInterfaceMeant (given : Owner → Name → Tree) (c : Context) (own
   pub names : (x : String Global) (i : ℕ) → Has d.types.entries (x, i) → Stands c.me c.scopes given owners types t.place (string_bytes x) i
   pub functions : (x : String Global) (f : Function) → Has d.functions.entries (x, f) → IsFunctionMeant given c owners types t.place t.members f
 
--- it is that of one of these texts
-abbrev pub IsOfText : (Owner → Name → Tree) → Context → Owners → List TypeDef → List InterfaceText → Interface → Type 0
-IsOfText given c owners types ts d = (t : InterfaceText) × Has ts t × IsInterfaceMeant given c owners types t d
+-- the one of that id is that of one of these texts, whose it is
+abbrev pub IsOfText : (Owner → Name → Tree) → Context → Owners → List TypeDef → List InterfaceText → ℕ → Interface → Type 0
+IsOfText given c owners types ts k d = (t : InterfaceText) × Has ts t × (slice_get owners.interfaces k ≡ Some (own_owner c t.place)) × IsInterfaceMeant given c owners types t d

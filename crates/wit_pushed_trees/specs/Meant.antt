@@ -43,8 +43,8 @@ pub record IsOfTexts (texts : PackageTexts) (p : UnresolvedPackage) : Type 0 whe
 abbrev pub ResolvedPackagesAreOfTexts : Type 0
 ResolvedPackagesAreOfTexts = (files : List FileTree) (p : UnresolvedPackage) (r : Resolves files p) → IsOfTexts (texts_of files p r) p
 
--- an interface is of the package whose texts these are, and means what one of them does
-pub record IsMeantBy (all : List PackageTexts) (given : Owner → Name → Tree) (owners : Owners) (t : Tables) (d : Interface) : Type 0 where
+-- the interface of an id is of the package whose texts these are, and means what the one of them does whose it is
+pub record IsMeantBy (all : List PackageTexts) (given : Owner → Name → Tree) (owners : Owners) (t : Tables) (k : ℕ) (d : Interface) : Type 0 where
   pub texts : PackageTexts
   pub are : Has all texts
   pub number : ℕ
@@ -52,11 +52,15 @@ pub record IsMeantBy (all : List PackageTexts) (given : Owner → Name → Tree)
   pub «package» : Package
   pub there : slice_get t.packages number ≡ Some «package»
   pub named : text_of «package».name ≡ texts.context.me
-  pub means : IsOfText given texts.context owners t.types texts.interfaces d
+  pub means : IsOfText given texts.context owners t.types texts.interfaces k d
 
 -- each interface is, where for names of other packages is given what stands in the graph under them
 abbrev pub AreMeantBy : List PackageTexts → Owners → Tables → Type 0
-AreMeantBy all owners t = (given : Owner → Name → Tree) → IsGivenBy given owners t → (k : ℕ) (d : Interface) → slice_get t.interfaces.all k ≡ Some d → IsMeantBy all given owners t d
+AreMeantBy all owners t = (given : Owner → Name → Tree) → IsGivenBy given owners t → (k : ℕ) (d : Interface) → slice_get t.interfaces.all k ≡ Some d → IsMeantBy all given owners t k d
+
+-- each package has the name that one of these texts says
+abbrev pub ArePackagesSaid : List PackageTexts → Tables → Type 0
+ArePackagesSaid all t = (k : ℕ) (q : Package) → slice_get t.packages k ≡ Some q → (texts : PackageTexts) × Has all texts × (text_of q.name ≡ texts.context.me)
 
 -- so they are in a graph without packages, and with each that comes
 abbrev pub EmptyGraphsAreMeant : Type 0
@@ -69,3 +73,8 @@ PushedGraphsMeanTheirTexts =
     → AreOwnersOf texts.context.owners p → IsOfTexts texts p
     → (h : IsPushed eq features old p new id) → (o : AreOwnedWith texts.context.owners owners eq features old p new id h)
     → AreMeantBy all owners old.tables → AreMeantBy (all ++ texts ∷ []) o.all new.tables
+
+abbrev pub PushedPackagesAreSaid : Type 0
+PushedPackagesAreSaid =
+    (all : List PackageTexts) (texts : PackageTexts) (eq : PackageName → PackageName → Bool) (features : FeatureSet) (old : Graph) (p : UnresolvedPackage) (new : Graph) (id : ℕ)
+    → IsOfTexts texts p → IsPushed eq features old p new id → ArePackagesSaid all old.tables → ArePackagesSaid (all ++ texts ∷ []) new.tables

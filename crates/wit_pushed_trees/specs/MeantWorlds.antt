@@ -1,14 +1,15 @@
 -- All worlds of a graph mean what the texts of its packages do (WIT, Packages, Item: `world`, `include`).
-use Rattle.std.specs.Prelude.{◌≡◌, ℕ, Bool, List, [], ◌∷◌, ◌++◌, Some, slice_get, take}
+use Rattle.std.specs.Prelude.{◌≡◌, ℕ, Bool, List, [], ◌∷◌, ◌++◌, Some, slice_get, string_bytes, take}
 use Rattle.wit_types.specs.declared.interface.TypeDef.{TypeDef}
 use Rattle.wit_types.specs.declared.world.World.{World}
 use Rattle.wit_types.specs.declared.«package».Package.{Package}
 use Rattle.wit_types.specs.declared.«package».PackageName.{PackageName}
 use Rattle.wit_types.specs.declared.«package».UnresolvedPackage.{UnresolvedPackage}
 use Rattle.wit_features.specs.Features.{FeatureSet}
-use Rattle.wit_arena.specs.Tree.{Name, Owner, Tree}
+use Rattle.wit_arena.specs.Tree.{Name, in_world, Owner, Tree}
 use Rattle.wit_arena.specs.Unfold.{Owners}
 use Rattle.wit_arena.specs.Meaning.{Has}
+use Rattle.wit_resolved_scopes.specs.InArena.{own_owner}
 use Rattle.wit_joined.specs.Joined.{IsJoinedWorld}
 use Rattle.wit_plans.specs.declared.moves.MovedWorld.{MovedWorld}
 use Rattle.wit_graph_worlds.specs.Copies.{IsSameWorld}
@@ -33,7 +34,7 @@ pub record IsBuiltOf (own : MovedWorld) (number place : ℕ) (worlds : List Worl
   pub is_joined : IsJoinedWorld (take place worlds) place number own before after joined
   pub is_listed : IsSameWorld joined w
 
--- a world is of the package whose texts these are; what it has itself means what one of them does, and it includes the worlds to which paths of that lead
+-- the world of an id is of the package whose texts these are; what it has itself means what that of its name does, and it includes the worlds to which paths of that lead
 pub record IsWorldMeantBy (all : List PackageTexts) (given : Owner → Name → Tree) (owners : Owners) (t : Tables) (place : ℕ) (w : World) : Type 0 where
   pub texts : PackageTexts
   pub are : Has all texts
@@ -42,6 +43,7 @@ pub record IsWorldMeantBy (all : List PackageTexts) (given : Owner → Name → 
   pub there : slice_get t.packages number ≡ Some «package»
   pub named : text_of «package».name ≡ texts.context.me
   pub own : MovedWorld
+  pub owner : slice_get owners.worlds place ≡ Some (own_owner texts.context (in_world (string_bytes own.name)))
   pub means : IsWorldMeant given texts.context owners t.types texts.worlds own.name own.imports.items own.exports.items own.includes.items
   pub is : IsBuiltOf own number place t.worlds.listed t.types w
 

@@ -1,5 +1,5 @@
 -- Packages that mean what their texts do (WIT, Packages, Items, Types).
-use Rattle.std.specs.Prelude.{◌≡◌, ℕ, List, Some, slice_get}
+use Rattle.std.specs.Prelude.{◌≡◌, ℕ, ◌+◌, List, Some, slice_get}
 use Rattle.wit_syntax.specs.Ast.{FileTree}
 use Rattle.wit_types.specs.declared.interface.Interface.{Interface}
 use Rattle.wit_types.specs.declared.«package».UnresolvedPackage.{UnresolvedPackage}
@@ -12,7 +12,7 @@ use Rattle.wit_resolved_scopes.specs.InArena.{Context}
 use Rattle.wit_resolved_scopes.specs.Texts.{InterfaceText, interface_texts, worlds_of}
 use Rattle.wit_package.specs.Resolved.{context_of}
 use Rattle.wit_package.specs.Steps.{Resolves}
-use Rattle.wit_graph_parts.specs.Own.{own_parts}
+use Rattle.wit_graph_parts.specs.Own.{asked, own_parts}
 use Rattle.wit_pushed_trees.specs.Meaning.{IsOfText}
 use Rattle.wit_pushed_trees.specs.Worlds.{IsWorldMeant}
 
@@ -20,7 +20,7 @@ use Rattle.wit_pushed_trees.specs.Worlds.{IsWorldMeant}
 -- and what its worlds have themselves means what their texts do
 pub record IsPackageMeant (c : Context) (interfaces : List InterfaceText) (worlds : List WorldScope) (p : UnresolvedPackage) : Type 0 where
   pub whole : (given : Owner → Name → Tree) → IsWhole c.owners given p.types
-  pub each_interface : (given : Owner → Name → Tree) (k : ℕ) (d : Interface) → slice_get (own_parts p).interfaces k ≡ Some d → IsOfText given c c.owners p.types interfaces d
+  pub each_interface : (given : Owner → Name → Tree) (k : ℕ) (d : Interface) → slice_get (own_parts p).interfaces k ≡ Some d → IsOfText given c c.owners p.types interfaces ((asked p).interfaces + k) d
   pub each_world : (given : Owner → Name → Tree) (k : ℕ) (w : World) → slice_get (own_parts p).worlds k ≡ Some w → IsWorldMeant given c c.owners p.types worlds w.name w.imports.entries w.exports.entries w.includes.items
 
 -- so it is of a package to which files are resolved

@@ -41,7 +41,7 @@ abbrev pub PushedInterfacesMeanTheirTexts : Type 0
 PushedInterfacesMeanTheirTexts =
     (given : Owner → Name → Tree) (c : Context) (interfaces : List InterfaceText) (worlds : List WorldScope) (graph_owners : Owners) (eq : PackageName → PackageName → Bool) (features : FeatureSet) (old : Graph) (p : UnresolvedPackage) (new : Graph) (id : ℕ)
     → IsPackageMeant c interfaces worlds p → (h : IsPushed eq features old p new id) → AreAgreed given c.owners graph_owners old.tables h.foreign h.owners p
-    → (k : ℕ) (d : Interface) → slice_get new.tables.interfaces.all (length old.tables.interfaces.all + k) ≡ Some d → IsOfText given c graph_owners new.tables.types interfaces d
+    → (k : ℕ) (d : Interface) → slice_get new.tables.interfaces.all (length old.tables.interfaces.all + k) ≡ Some d → IsOfText given c graph_owners new.tables.types interfaces (length old.tables.interfaces.all + k) d
 
 -- and each world that came, by what it has itself and what it includes
 abbrev pub PushedWorldsMeanTheirTexts : Type 0

@@ -26,6 +26,10 @@ use Rattle.wit_graph_parts.specs.Own.{asked, asked_types, own_parts}
 abbrev pub Stays : FeatureSet → List AttributeTree → Type 0
 Stays features attributes = (s : Stability) → IsStabilityOf attributes s → stays features s ≡ true
 
+-- and what is there does
+abbrev pub Remains : FeatureSet → List AttributeTree → Type 0
+Remains features attributes = (s : Stability) × IsStabilityOf attributes s × (stays features s ≡ true)
+
 -- the resource that a function is of, if it is of one
 abbrev pub resource_text : MemberKind → Option Name
 resource_text (used t n) = None
@@ -44,10 +48,12 @@ pub record FunctionStays (features : FeatureSet) (ms : List MemberTree) (m : Mem
 abbrev pub IsListed : {V : Type 0} → List (String Global × V) → Name → Type 0
 IsListed {V} entries x = (n : String Global) × (v : V) × Has entries (n, v) × (string_bytes n ≡ x)
 
--- types and functions of a scope that stay stand in an interface under their names
+-- types and functions of a scope that stay stand in an interface under their names, and no others
 pub record ListsMembers (features : FeatureSet) (ms : List MemberTree) (d : Interface) : Type 0 where
   pub types : (m : MemberTree) → Has (types_of ms) m → Stays features m.attributes → IsListed d.types.entries m.name.text
+  pub only_types : (x : String Global) (i : ℕ) → Has d.types.entries (x, i) → (m : MemberTree) × Has (types_of ms) m × (string_bytes x ≡ m.name.text) × Remains features m.attributes
   pub functions : (m : MemberTree) → Has (functions_among ms) m → FunctionStays features ms m → IsListed d.functions.entries (full_name m.kind m.name)
+  pub only_functions : (x : String Global) (f : Function) → Has d.functions.entries (x, f) → (m : MemberTree) × Has (functions_among ms) m × (string_bytes x ≡ full_name m.kind m.name) × Remains features m.attributes
 
 -- ---- packages that are resolved
 
@@ -86,7 +92,9 @@ pub record HasFunction (p : UnresolvedPackage) (whose : TypeOwner) (ms : List Me
 -- types and functions of a scope are those of an interface
 pub record HasMembers (p : UnresolvedPackage) (whose : TypeOwner) (ms : List MemberTree) (d : Interface) : Type 0 where
   pub types : (m : MemberTree) → Has (types_of ms) m → HasType p whose d.types.entries m
+  pub only_types : (x : String Global) (i : ℕ) → Has d.types.entries (x, i) → (m : MemberTree) × Has (types_of ms) m × (string_bytes x ≡ m.name.text) × IsOwnType p whose m i
   pub functions : (m : MemberTree) → Has (functions_among ms) m → HasFunction p whose ms d.functions.entries m
+  pub only_functions : (x : String Global) (f : Function) → Has d.functions.entries (x, f) → (m : MemberTree) × Has (functions_among ms) m × (string_bytes x ≡ full_name m.kind m.name) × IsStabilityOf m.attributes f.stability
 
 -- the owner of what belongs to the package's own interface of that number
 abbrev pub own_interface : UnresolvedPackage → ℕ → TypeOwner

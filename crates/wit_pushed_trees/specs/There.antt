@@ -22,7 +22,7 @@ use Rattle.wit_graph.specs.Push.{IsPushed}
 use Rattle.wit_graph.specs.declared.tables.Tables.{Tables}
 use Rattle.wit_well_formed.specs.Naming.{AreInterfacesNamedApart}
 use Rattle.wit_pushed_trees.specs.Apart.{AreWorldsNamedApart}
-use Rattle.wit_pushed_trees.specs.Staying.{Stays, ListsMembers, HasMembers, own_interface}
+use Rattle.wit_pushed_trees.specs.Staying.{Stays, ListsMembers, HasMembers, own_interface, Remains}
 use Rattle.wit_pushed_trees.specs.StayingWorlds.{ListsSides, HasSides, own_world}
 use Rattle.wit_pushed_trees.specs.StayingPaths.{ListsItsPaths, HasItsPaths, AreNamedOwners}
 use Rattle.wit_pushed_trees.specs.StayingIncludes.{ListsIncludes, HasIncludes, AreNamedWorlds}
@@ -65,14 +65,16 @@ pub record HasWorld (owners : Owners) (p : UnresolvedPackage) (t : WorldScope) :
   pub includes : HasIncludes owners (text_of p.name) t.members made
   pub inners : HasItsInners p t.members made
 
--- each interface and each world of these texts is one of a package's own, and no two of one sort have one name
+-- each interface and each world of these texts is one of a package's own, whose have names are these, and no two of one sort have one name
 pub record HasItems (ts : List ItemScope) (p : UnresolvedPackage) : Type 0 where
   pub interfaces : (t : InterfaceScope) → Has (interfaces_of ts) t → HasInterface p t
+  pub only_interfaces : (k : ℕ) (d : Interface) (x : String Global) → slice_get (own_parts p).interfaces k ≡ Some d → d.name ≡ Some x → (t : InterfaceScope) × Has (interfaces_of ts) t × IsNamedBy t d
   pub interfaces_apart : AreInterfacesNamedApart p
   pub owners : Owners
   pub owned : AreNamedOwners owners p
   pub worlds_owned : AreNamedWorlds owners p
   pub worlds : (t : WorldScope) → Has (worlds_of ts) t → HasWorld owners p t
+  pub only_worlds : (k : ℕ) (w : World) → slice_get (own_parts p).worlds k ≡ Some w → (t : WorldScope) × Has (worlds_of ts) t × IsWorldNamedBy t w
   pub worlds_apart : AreWorldsNamedApart p
 
 -- so it is of a package to which files are resolved
@@ -106,10 +108,12 @@ pub record ListsWorld (features : FeatureSet) (t : WorldScope) (q : Package) (ta
   pub includes : ListsIncludes features tables.packages tables.worlds.listed (text_of q.name) t.members made.imports.entries made.exports.entries
   pub inners : ListsItsInners features tables.interfaces.all t.members made.imports.entries made.exports.entries
 
--- a package has those that stay by these features under their names
+-- a package has those that stay by these features under their names, and no others
 pub record ListsItems (features : FeatureSet) (ts : List ItemScope) (q : Package) (t : Tables) : Type 0 where
   pub interfaces_are : (i : InterfaceScope) → Has (interfaces_of ts) i → Stays features i.attributes → ListsInterface features i q t.interfaces.all
+  pub only_interfaces : (e : String Global × ℕ) → Has q.interfaces.entries e → (i : InterfaceScope) × Has (interfaces_of ts) i × (string_bytes e.0 ≡ i.name.text) × Remains features i.attributes
   pub worlds_are : (w : WorldScope) → Has (worlds_of ts) w → Stays features w.attributes → ListsWorld features w q t
+  pub only_worlds : (e : String Global × ℕ) → Has q.worlds.entries e → (w : WorldScope) × Has (worlds_of ts) w × (string_bytes e.0 ≡ w.name.text) × Remains features w.attributes
 
 -- so it does when it was pushed
 abbrev pub PushedPackagesListTheirItems : Type 0

@@ -9,7 +9,7 @@ use Rattle.wit_types.specs.declared.world.WorldInclude.{WorldInclude}
 use Rattle.wit_types.specs.declared.world.WorldItem.{WorldItem}
 use Rattle.wit_types.specs.declared.world.WorldItem.TheVariants as item
 use Rattle.wit_types.specs.declared.world_key.WorldKey.{WorldKey}
-use Rattle.wit_types.specs.WorldKey.{spelled, known}
+use Rattle.wit_types.specs.WorldKey.{Known, spelled, placed, known}
 use Rattle.wit_scopes.specs.declared.worlds.Side.{Side}
 use Rattle.wit_scopes.specs.declared.worlds.Side.TheVariants.{Import, Export}
 use Rattle.wit_scopes.specs.Scopes as scope
@@ -59,8 +59,14 @@ extern_owner c w l (scope.ExternKind.function f) = None
 extern_owner c w l (scope.ExternKind.interface ms) = Some (own_owner c (in_listed w l.side l.name.text))
 extern_owner c w l (scope.item t) = Some (target_owner c.me in_interface t)
 
--- an interface that a world imports, or exports, is one that its text lists there
-pub record IsInterfaceListed (c : Context) (owners : Owners) (ws : List WorldScope) (name : String Global) (side : Side) (id : ℕ) : Type 0 where
+-- by what it is known: one that stands in the world by its label, what a path names by its id
+abbrev pub listed_key : ListedTree → ExternKind → ℕ → Known
+listed_key l (scope.ExternKind.function f) id = spelled l.name.text
+listed_key l (scope.ExternKind.interface ms) id = spelled l.name.text
+listed_key l (scope.item t) id = placed id
+
+-- an interface that a world imports, or exports, by a key is one that its text lists there
+pub record IsInterfaceListed (c : Context) (owners : Owners) (ws : List WorldScope) (name : String Global) (side : Side) (key : WorldKey) (id : ℕ) : Type 0 where
   pub text : WorldScope
   pub is_text : IsTextOf ws name text
   pub listed : ListedTree
@@ -69,6 +75,7 @@ pub record IsInterfaceListed (c : Context) (owners : Owners) (ws : List WorldSco
   pub whose : Owner
   pub listed_as : extern_owner c text.name.text listed listed.kind ≡ Some whose
   pub owner : slice_get owners.interfaces id ≡ Some whose
+  pub keyed : known key ≡ listed_key listed listed.kind id
 
 -- a world includes the one to which a path of its text leads, with names that change as written
 pub record IsIncludeMeant (c : Context) (owners : Owners) (ws : List WorldScope) (name : String Global) (n : WorldInclude) : Type 0 where
@@ -79,12 +86,14 @@ pub record IsIncludeMeant (c : Context) (owners : Owners) (ws : List WorldScope)
   pub owner : slice_get owners.worlds n.id ≡ Some (target_owner c.me in_world written.world)
   pub names : map include_name n.names.items ≡ map written_name written.names
 
--- so it is of all that a world of this name imports and exports itself, and of what it includes
+-- one of these texts is that of a world of this name, and so it is of all that this imports and exports itself, and of what it includes
 pub record IsWorldMeant (given : Owner → Name → Tree) (c : Context) (owners : Owners) (types : List TypeDef) (ws : List WorldScope) (name : String Global) (imports exports : List (WorldKey × WorldItem)) (includes : List WorldInclude) : Type 0 where
+  pub text : WorldScope
+  pub is_text : IsTextOf ws name text
   pub own_types : (key : WorldKey) (id : ℕ) (span : Span) → Has imports (key, item.TypeItem id span) → IsTypeMeant given c owners types ws name key id
   pub imported_functions : (key : WorldKey) (f : Function) → Has imports (key, item.Function f) → IsOwnFunctionMeant given c owners types ws name Import f
   pub exported_functions : (key : WorldKey) (f : Function) → Has exports (key, item.Function f) → IsOwnFunctionMeant given c owners types ws name Export f
-  pub imported : (key : WorldKey) (id : ℕ) (gate : Stability) (span : Span) → Has imports (key, item.Interface id gate span) → IsInterfaceListed c owners ws name Import id
-  pub exported : (key : WorldKey) (id : ℕ) (gate : Stability) (span : Span) → Has exports (key, item.Interface id gate span) → IsInterfaceListed c owners ws name Export id
+  pub imported : (key : WorldKey) (id : ℕ) (gate : Stability) (span : Span) → Has imports (key, item.Interface id gate span) → IsInterfaceListed c owners ws name Import key id
+  pub exported : (key : WorldKey) (id : ℕ) (gate : Stability) (span : Span) → Has exports (key, item.Interface id gate span) → IsInterfaceListed c owners ws name Export key id
   pub no_exported_types : (key : WorldKey) (id : ℕ) (span : Span) → Has exports (key, item.TypeItem id span) → ⊥
   pub included : (n : WorldInclude) → Has includes n → IsIncludeMeant c owners ws name n

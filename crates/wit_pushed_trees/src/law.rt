@@ -6,7 +6,7 @@ ghost use Rattle.wit_pushed_trees.specs.Asked.{MovedPackagesAskByName, ResolvedP
 ghost use Rattle.wit_pushed_trees.specs.Found.{AskedItemsAreFoundByName, AskedTypesStandForTheSame, EmptyNamesStand, EqualNamesAreTheSame, PushedNamesStand};
 ghost use Rattle.wit_pushed_trees.specs.Giving.{GraphsGiveTheirNames, KnownTypesStandAlone};
 ghost use Rattle.wit_pushed_trees.specs.Known.{EmptyTypesAreKnown, MovedTypesAreKnown, PushedTypesAreKnown, ResolvedTypesAreKnown};
-ghost use Rattle.wit_pushed_trees.specs.Meant.{EmptyGraphsAreMeant, PushedGraphsMeanTheirTexts, ResolvedPackagesAreOfTexts};
+ghost use Rattle.wit_pushed_trees.specs.Meant.{EmptyGraphsAreMeant, PushedGraphsMeanTheirTexts, PushedPackagesAreSaid, ResolvedPackagesAreOfTexts};
 ghost use Rattle.wit_pushed_trees.specs.MeantWorlds.{EmptyWorldsAreMeant, PushedWorldsAreMeant};
 ghost use Rattle.wit_pushed_trees.specs.Owned.{EmptyGraphsAreOwned, MovedPackagesHaveOwners, PushedGraphsAreOwned, ResolvedPackagesHaveOwners};
 ghost use Rattle.wit_pushed_trees.specs.Packages.{MovedPackagesMeanTheirTexts, ResolvedPackagesMeanTheirTexts};
@@ -193,6 +193,12 @@ pub fn law_resolved_packages_are_of_texts()
 /// In a graph without packages no interface means anything.
 pub fn law_empty_graphs_are_meant()
     ensures { EmptyGraphsAreMeant }
+{}
+
+/// Each package of a graph has the name that one of some texts says; and so it is, with one package's texts more, when `Graph::push` has answered for that
+/// package (WIT, Package Names).
+pub fn law_pushed_packages_are_said()
+    ensures { PushedPackagesAreSaid }
 {}
 
 /// Each interface of a graph is of the package of one of some texts, and means what one of these does, each name that its text takes of another package standing

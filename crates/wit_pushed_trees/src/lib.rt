@@ -14,7 +14,7 @@ pub use law::{
     law_pushed_graphs_have_names_stand, law_pushed_graphs_have_trees,
     law_pushed_graphs_keep_what_was, law_pushed_graphs_mean_their_texts,
     law_pushed_interfaces_mean_their_texts, law_pushed_packages_are_agreed,
-    law_pushed_packages_list_their_items, law_pushed_types_are_known,
+    law_pushed_packages_are_said, law_pushed_packages_list_their_items, law_pushed_types_are_known,
     law_pushed_types_stand_for_the_same, law_pushed_worlds_are_meant, law_pushed_worlds_are_said,
     law_pushed_worlds_mean_their_texts, law_resolved_packages_are_of_texts,
     law_resolved_packages_ask_by_name, law_resolved_packages_have_owners,

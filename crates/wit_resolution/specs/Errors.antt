@@ -1,10 +1,11 @@
 -- Why calls are refused.
-use Rattle.std.specs.Prelude.{◌≡◌, ◌⊎◌, ℕ, Option, Some, None}
+use Rattle.std.specs.Prelude.{◌≡◌, ◌⊎◌, ℕ, List, Option, Some, None, IfSome}
 use Rattle.std.specs.Borrow.{Lends, MutBor, Fml}
 use Rattle.wit_words.specs.declared.source_map.Span.{Span}
 use Rattle.wit_words.specs.declared.source_map.SourceFault.{SourceFault}
 use Rattle.wit_words.specs.declared.source_map.SourceFault.TheVariants as source
 use Rattle.wit_words.specs.declared.fault.SyntaxFault.TheVariants as syntax
+use Rattle.wit_words.specs.Sources.{SourceText, IsLineOf}
 use Rattle.wit_rules.specs.declared.fault.PackageFault.{PackageFault}
 use Rattle.wit_rules.specs.declared.fault.PackageFault.TheVariants as text
 use Rattle.wit_offsets.specs.Offsets.{span_at, SpanFits}
@@ -38,6 +39,10 @@ span_of (GateVersion at) = Some at
 span_of WorldNotFound = None
 span_of (ForeignShape at) = Some at
 span_of OutOfMemory = None
+
+-- it is the line of a refusal, which begins with its place, if that has one
+abbrev pub IsErrorLine : List SourceText → ResolveErrorKind → List ℕ → Type 0
+IsErrorLine texts kind line = IfSome (span_of kind) (λ at. IsLineOf texts at line)
 
 -- ---- what is refused elsewhere, under its name here
 

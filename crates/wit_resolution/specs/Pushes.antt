@@ -11,6 +11,7 @@ use Rattle.wit_package.specs.declared.group.UnresolvedPackageGroup.{UnresolvedPa
 use Rattle.wit_package.specs.Group.{IsTextsFault, IsBeginning}
 use Rattle.wit_offsets.specs.Offsets.{package_at, Fits, Passes}
 use Rattle.wit_graph.specs.Graph.{Graph, nothing}
+pub use Rattle.wit_graph.specs.Push.{HasMorePackages}
 use Rattle.wit_graph.specs.Push.{IsPushed, IsPushCause}
 use Rattle.wit_graph_parts.specs.declared.fault.PushFault.{PushFault}
 use Rattle.wit_groups.specs.Pushed.{AreTogether, IsTogetherCause}

@@ -1,6 +1,6 @@
 //! Why a call is refused.
 
-ghost use Rattle.std.specs.Prelude.{◌≡◌, Some, None, IfSome};
+ghost use Rattle.std.specs.Prelude.{◌≡◌, Some, None, IfOk, IfSome, string_bytes};
 ghost use Rattle.wit_offsets.specs.Offsets.{SpanFits, span_at};
 ghost use Rattle.wit_resolution.specs.Errors as spec;
 
@@ -152,16 +152,14 @@ impl ResolveError {
     }
 
     /// It as a line: its place in those texts, as `PATH:LINE:COLUMN`, and what it is, as in `a.wit:2:5: G2 ItemNotFound`. One without a
-    /// place is its own text.
-    pub fn render(&self, alloc: Global, source_map: &SourceMap) -> Result<String, AllocError> {
-        let kind = self.kind;
+    /// place is its own text. Fails for want of memory alone.
+    pub fn render(&self, alloc: Global, source_map: &SourceMap) -> Result<String, AllocError>
+        ensures { IfOk result (λ line. spec.IsErrorLine source_map.now self.now (string_bytes line)) }
+    {
+        let what = self.kind.to_string(alloc)?;
         match self.span() {
-            Some(span) => {
-                let place = source_map.render_location(span)?;
-                let place = place.as_str();
-                format!(in alloc; "{place}: {kind}")
-            }
-            None => format!(in alloc; "{kind}"),
+            Some(span) => source_map.render_at(span, what.as_str()),
+            None => Ok(what),
         }
     }
 }

@@ -1,6 +1,6 @@
 //! Packages that are resolved together.
 
-ghost use Rattle.std.specs.Prelude.{◌≡◌, ◌⊎◌, ◌<◌, ◌^◌, ◌+◌, ◌≤◌, ◌++◌, ◌∷◌, [], ℕ, Some, false, length, option_map, IfOk, IfErr, OnOk, OnErr};
+ghost use Rattle.std.specs.Prelude.{◌≡◌, ◌⊎◌, ◌<◌, ◌^◌, ◌+◌, ◌≤◌, ◌++◌, ◌∷◌, [], ℕ, Some, false, length, option_map, string_bytes, IfOk, IfErr, OnOk, OnErr};
 ghost use Rattle.wit_features.specs.Features.{with_name};
 ghost use Rattle.wit_arena.specs.Tree.{Tree, resource_leaf};
 ghost use Rattle.wit_arena.specs.Unfold.{Owners, trees, value_tree};
@@ -13,14 +13,14 @@ ghost use Rattle.wit_graph_parts.specs.Own.{IsWellFormed};
 ghost use Rattle.wit_order.specs.Order.{Has};
 ghost use Rattle.wit_package.specs.GroupView.{texts};
 ghost use Rattle.wit_package.specs.declared.group.UnresolvedPackageGroup.{UnresolvedPackageGroup};
-ghost use Rattle.wit_resolution.specs.Errors.{of_selection, IsOfTexts, IsSizeError};
+ghost use Rattle.wit_resolution.specs.Errors.{of_selection, IsErrorLine, IsOfTexts, IsSizeError};
 ghost use Rattle.wit_resolution.specs.Groups.{packages_of};
 ghost use Rattle.wit_resolution.specs.Pushes as spec;
 ghost use Rattle.wit_resolution.specs.Texts.{files_of};
 ghost use Rattle.wit_selection.specs.Selection.{IsSelected, IsSelectCause};
 ghost use Rattle.wit_selection.specs.declared.selection.SelectFault.{SelectFault};
 ghost use Rattle.wit_types.specs.declared.«package».UnresolvedPackage.{UnresolvedPackage};
-ghost use Rattle.wit_words.specs.Sources.{total};
+ghost use Rattle.wit_words.specs.Sources.{total, IsLocation};
 
 use crate::error::ResolveError;
 use crate::groups::{packages_of_groups, push_packages};
@@ -350,14 +350,18 @@ impl Resolve {
     }
 
     /// Where a span begins, as `PATH:LINE:COLUMN`, both from 1, the column in characters: in the first text in which all of the span lies. A
-    /// span that lies in none has no place, which is `?`.
-    pub fn render_location(&self, span: Span) -> Result<String, AllocError> {
+    /// span that lies in none has no place, which is `?`. Fails for want of memory alone.
+    pub fn render_location(&self, span: Span) -> Result<String, AllocError>
+        ensures { IfOk result (λ place. IsLocation self.now.texts span (string_bytes place)) }
+    {
         self.source_map.render_location(span)
     }
 
     /// A refusal as a line: its place, as `render_location` says, and what it is, as in `a.wit:2:5: G2 ItemNotFound`. One without a place
-    /// is its own text.
-    pub fn render_error(&self, error: &ResolveError) -> Result<String, AllocError> {
+    /// is its own text. Fails for want of memory alone.
+    pub fn render_error(&self, error: &ResolveError) -> Result<String, AllocError>
+        ensures { IfOk result (λ line. IsErrorLine self.now.texts error.now (string_bytes line)) }
+    {
         error.render(self.alloc, &self.source_map)
     }
 }

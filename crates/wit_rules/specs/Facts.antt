@@ -4,7 +4,7 @@ use Rattle.wit_words.specs.declared.source_map.Span.{Span}
 use Rattle.wit_words.specs.Slice.{Slice}
 use Rattle.wit_items.specs.ItemTree as item
 use Rattle.wit_items.specs.ItemTree.{TypeDefKindTree}
-use Rattle.wit_syntax.specs.Ast.{PackageNameTree, HeaderTree, FileTree}
+use Rattle.wit_syntax.specs.Ast.{PackageNameTree, GatedTree, FileItemTree, HeaderTree, FileTree}
 use Rattle.wit_scopes.specs.declared.worlds.Side.{Side}
 use Rattle.wit_scopes.specs.declared.worlds.Side.TheVariants.{Import, Export}
 use Rattle.wit_scopes.specs.Paths.{same_package}
@@ -135,9 +135,19 @@ abbrev pub package_name : List FileTree → Option PackageNameTree
 package_name [] = None
 package_name (f ∷ fs) = name_of_header f.header (package_name fs)
 
+-- where the first of items stands, or else something
+abbrev pub place_or : Span → List (GatedTree FileItemTree) → Span
+place_or other [] = other
+place_or other (g ∷ gs) = g.span
+
+-- where a header is wanted: in front of the first item of files, nowhere where there is none
+abbrev pub header_place : List FileTree → Span
+header_place [] = record { start = 0; end = 0 }
+header_place (f ∷ fs) = place_or (header_place fs) f.items
+
 -- no file has a header, or the package that the first one names has a break
 pub data FilesBreak (files : List FileTree) (rule : PackageRule) (at : Span) : Type 0 where
-  no_header : rule ≡ NoPackageName → package_name files ≡ None → at ≡ record { start = 0; end = 0 } → FilesBreak files rule at
+  no_header : rule ≡ NoPackageName → package_name files ≡ None → at ≡ header_place files → FilesBreak files rule at
   in_package : (me : PackageNameTree) → package_name files ≡ Some me → PackageBreaks me files rule at → FilesBreak files rule at
 
 -- no header of files names another package than this, and no file has two names of one key

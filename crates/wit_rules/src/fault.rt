@@ -9,7 +9,7 @@ use wit_syntax::{Span, SyntaxFault};
 /// The rule that the files of a package break.
 #[derive(Clone, Copy, Debug, PartialEq, Eq, Error)]
 pub enum PackageRule {
-    /// P1: no file of the package has a header.
+    /// P1: no file of the package has a header. It stands at the first item, nowhere where there is none.
     #[error("P1 NoPackageName")]
     NoPackageName,
     /// P2: two headers of one package differ.

@@ -111,6 +111,18 @@ fn first_name<'a>(files: &[File<'a>]) -> Option<PackageName<'a>>
     None
 }
 
+/// Where the first item of files stands, in front of which a header is wanted: nowhere, where there is none.
+fn header_place<'a>(files: &[File<'a>]) -> Span
+    ensures { result ≡ spec.header_place (map view.file files.now) }
+{
+    for file in files {
+        if let Some(first) = file.items.first() {
+            return first.span;
+        }
+    }
+    Span { start: 0, end: 0 }
+}
+
 /// What the files of a package declare.
 #[derive(Drop)]
 pub struct Declared<'a> {
@@ -167,7 +179,7 @@ fn checked_name<'a>(
     match first_name(texts.files.as_slice()) {
         None => Err(PackageFault::Broken {
             rule: PackageRule::NoPackageName,
-            span: Span { start: 0, end: 0 },
+            span: header_place(texts.files.as_slice()),
         }),
         Some(name) => check_files(alloc, &name, texts.files.as_slice()).and(Ok(name)),
     }

@@ -1,10 +1,14 @@
 -- Texts behind others.
-use Rattle.std.proofs.Common.{◌≡◌, ℕ, ◌+◌, ◌-◌, ◌<◌, ◌≤◌, ◌⊎◌, true, List, [], ◌∷◌, ◌++◌, length, map, take, drop, get_or, sym, ap, ◌∙◌, arith, inl, inr}
-use Rattle.std.specs.Prelude.{not}
+use Rattle.std.proofs.Common.{◌≡◌, ℕ, ◌+◌, ◌-◌, ◌<◌, ◌≤◌, ◌⊎◌, true, List, [], ◌∷◌, ◌++◌, length, map, take, drop, get_or, sym, ap, ◌∙◌, arith, inl, inr, refl, Result, Ok, Err}
+use Rattle.std.specs.Prelude.{not, IfOk}
 use Rattle.std.specs.List.{list_all}
 use Rattle.std.proofs.lemmas.List.{take_all, take_more, take-append-drop, length-drop}
 use Rattle.wit_words.specs.declared.source_map.Source.{Source}
-use Rattle.wit_words.specs.Sources.{source_text, total, is_line_feed, IsLastLine}
+use Rattle.wit_words.specs.declared.source_map.Span.{Span}
+use Rattle.wit_words.specs.declared.fault.Rule.{Rule}
+use Rattle.wit_words.specs.declared.fault.SyntaxFault.{SyntaxFault}
+use Rattle.wit_words.specs.declared.fault.SyntaxFault.TheVariants.{OutOfMemory, TooLarge, Broken}
+use Rattle.wit_words.specs.Sources.{SourceText, source_text, total, is_line_feed, IsLastLine, IsFaultLine}
 
 -- texts behind others have as many bytes more as they have together
 pub total_behind : (ss rs : List Source) → total (map source_text (ss ++ rs)) ≡ total (map source_text ss) + total (map source_text rs)
@@ -31,3 +35,16 @@ module _ (front : List ℕ) (at : ℕ) (le : at ≤ length front) (none : list_a
       let more : take ((at - 1) + 1) front ≡ take (at - 1) front ++ get_or front (at - 1) d ∷ [] = take_more front (at - 1) d (omega arith) in
       let same : (at - 1) + 1 ≡ at = omega arith in
       with_ends (inr (take (at - 1) front, ap (λ n. take n front) (sym same) ∙ more ∙ ap (λ b. take (at - 1) front ++ b ∷ []) is))
+
+-- ---- lines of faults
+
+-- a fault without a place may have any line
+pub placeless : (texts : List SourceText) (f : SyntaxFault) → ((rule : Rule) (at : Span) → f ≡ Broken rule at → ⊥) → (line : List ℕ) → IsFaultLine texts f line
+placeless texts OutOfMemory none line = tt
+placeless texts TooLarge none line = tt
+placeless texts (Broken rule at) none line = absurd (none rule at refl)
+
+-- what holds of all holds of what a call answers
+pub in_any_case : {T E : Type 0} (r : Result T E) (P : T → Type 0) → ((x : T) → P x) → IfOk r P
+in_any_case (Ok x) P all = all x
+in_any_case (Err e) P all = tt

@@ -1,8 +1,8 @@
 //! Texts, one behind the other, and where something stands in them.
 
-ghost use Rattle.std.specs.Prelude.{◌≡◌, ◌+◌, ◌≤◌, ◌^◌, ◌⊎◌, ◌<◌, ◌++◌, ◌∷◌, [], true, length, string_bytes, IfOk, IfErr, OnOk, OnErr};
+ghost use Rattle.std.specs.Prelude.{◌≡◌, ◌+◌, ◌≤◌, ◌^◌, ◌⊎◌, ◌<◌, ◌++◌, ◌∷◌, [], length, take, string_bytes, IfOk, IfErr, OnOk, OnErr};
 ghost use Rattle.wit_words.specs.Sources as spec;
-ghost use Rattle.wit_words.specs.Sources.{total, paths_of, paths_left, IsLastLine, line_behind, column_behind};
+ghost use Rattle.wit_words.specs.Sources.{total, paths_of, paths_left, source_text, lies_in, IsFaultLine, IsLastLine, IsLineAt, IsLocation, IsPlaceBehind, line_behind, column_behind};
 
 use crate::fault::SyntaxFault;
 use std::alloc::{AllocError, AllocFailed, Global};
@@ -140,7 +140,9 @@ impl SourceMap {
 
     /// Where a span begins, as `PATH:LINE:COLUMN`, both from 1, the column in characters: in the first text in which all
     /// of the span lies. A span that lies in none has no place, which is `?`.
-    pub fn render_location(&self, span: Span) -> Result<String, AllocError> {
+    pub fn render_location(&self, span: Span) -> Result<String, AllocError>
+        ensures { IfOk result (λ place. IsLocation self.now span (string_bytes place)) }
+    {
         let mut offset = 0;
         for source in &self.sources {
             if source.holds(offset, span) {
@@ -151,16 +153,26 @@ impl SourceMap {
         String::from_str(self.alloc, "?")
     }
 
+    /// A line that says where a span begins, as `render_location` does, and then what is there, as in `a.wit:2:5: S3 Unexpected`.
+    pub fn render_at(&self, span: Span, what: &str) -> Result<String, AllocError>
+        ensures { IfOk result (λ line. IsLineAt self.now span what.now (string_bytes line)) }
+    {
+        let place = self.render_location(span)?;
+        let place = place.as_str();
+        format!(in self.alloc; "{place}: {what}")
+    }
+
     /// A fault as a line: where it is, as `render_location` says, and which rule the text breaks there, as in
     /// `a.wit:2:5: S3 Unexpected`. A fault without a place is its own text.
-    pub fn render_fault(&self, fault: &SyntaxFault) -> Result<String, AllocError> {
+    pub fn render_fault(&self, fault: &SyntaxFault) -> Result<String, AllocError>
+        ensures { IfOk result (λ line. IsFaultLine self.now fault.now (string_bytes line)) }
+    {
         match *fault {
             SyntaxFault::Broken { rule, span } => {
-                let place = self.render_location(span)?;
-                let place = place.as_str();
-                format!(in self.alloc; "{place}: {rule}")
+                let what = rule.to_string(self.alloc)?;
+                self.render_at(span, what.as_str())
             }
-            other => format!(in self.alloc; "{other}"),
+            other => other.to_string(self.alloc),
         }
     }
 }
@@ -191,7 +203,7 @@ impl<'a> Iterator for SourceNames<'a> {
 impl Source {
     /// Whether all of a span lies in the text, which begins there.
     fn holds(&self, offset: usize, span: Span) -> bool
-        ensures { result ≡ true → (offset ≤ span.start) × (span.start ≤ span.end) × (span.end ≤ offset + length (string_bytes self.now.contents)) }
+        ensures { result ≡ lies_in span (record { offset = offset; text = source_text self.now }) }
     {
         offset <= span.start as usize
             && span.start <= span.end
@@ -201,6 +213,7 @@ impl Source {
     /// The line and the column behind so many bytes.
     fn location(&self, alloc: Global, at: usize) -> Result<String, AllocError>
         requires { at ≤ length (string_bytes self.now.contents) }
+        ensures { IfOk result (λ place. IsPlaceBehind (source_text self.now) (take at (string_bytes self.now.contents)) (string_bytes place)) }
     {
         let (front, _) = self.contents.as_bytes().split_at(at);
         let path = self.path.as_str();

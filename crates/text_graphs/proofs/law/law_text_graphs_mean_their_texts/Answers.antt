@@ -6,6 +6,7 @@ returns c =
     text_graphs_meant (record {
       resolved_of_texts = c.law_resolved_packages_are_of_texts.ensures;
       moved_meant = c.law_moved_packages_mean_their_texts.ensures;
+      pushed_packages = c.law_pushed_packages_are_said.ensures;
       empty_meant = c.law_empty_graphs_are_meant.ensures;
       pushed_meant = c.law_pushed_graphs_mean_their_texts.ensures;
       empty_worlds = c.law_empty_worlds_are_meant.ensures;

@@ -31,4 +31,4 @@ pub returns-in-None-clause-cause : goal.returns-in-None-clause-cause
 returns-in-None-clause-cause c =
     let files : List FileTree = map view.file c.args.texts.now.files.items in
     let first : option_map view.package_name c.first_name.result ≡ package_name files = rw c.as_slice.ensures.value at c.first_name.ensures in
-    no_header refl (sym first ∙ ap (option_map view.package_name) c.in-None.is) refl
+    no_header refl (sym first ∙ ap (option_map view.package_name) c.in-None.is) (rw c.as_slice-in-None.ensures.value at c.header_place.ensures)
