@@ -5,19 +5,21 @@ use Rattle.binary_grammar.proofs.Lawful.{lawful}
 use Rattle.component_entries.specs.Entries.{nothing}
 use Rattle.component_sections.specs.Component as whole
 use Rattle.component_sections.specs.Component.{component, BreaksComponent}
+use Rattle.component_sections.proofs.Reading.{one_break}
 use Rattle.plain_worlds.specs.World.{each_of}
 use Rattle.known_definitions.specs.Known.{known_of}
 use Rattle.wit_component.specs.declared.fault.Fault.{Fault}
 use Rattle.wit_component.specs.declared.fault.Fault.TheVariants as faults
 use Rattle.known_definitions.specs.Definition.{DefinitionValue}
 use Rattle.known_definitions.specs.Component.{IsComponent}
+use Rattle.known_definitions.proofs.Laws.{one_list, no_break, not_known}
 use Rattle.wit_component.specs.Linking.{Linking}
 use Rattle.wit_component.specs.Cause.{IsLinkable}
 use Rattle.wit_component.specs.Meaning.{Spaces, meaning}
 use Rattle.wit_component.specs.declared.finding.FindingKind.TheVariants as findings
 use Rattle.component_audit.specs.declared.verdict.Verdict.{Verdict}
 use Rattle.component_audit.specs.declared.verdict.Verdict.TheVariants.{Yes, Finding}
-use Rattle.component_audit.specs.Judged.{IsJudgeCause, Says, SaysOf}
+use Rattle.component_audit.specs.Judged.{IsBeyond, IsJudgeCause, Says, SaysOf}
 
 -- memory ran out, or a core module isn't the one that was handed in
 abbrev pub IsNotJudged : Linking → Spaces → Fault → Type 0
@@ -33,6 +35,16 @@ break_within bytes e h = (lawful component nothing).within bytes e ((lawful comp
 
 pub is_beyond : (l : Linking) (bytes : List ℕ) (xs : List whole.DefinitionValue) → IsLinkable l → whole.IsComponent bytes xs → each_of known_of xs ≡ None → IsJudgeCause l bytes faults.NotYet
 is_beyond l bytes xs linkable is none = inr (linkable, inl (xs, is, none))
+
+-- bytes that break a rule aren't beyond what is judged: they are no component
+pub broken_is_here : (l : Linking) (bytes : List ℕ) (e : Broken) → BreaksComponent bytes e → IsBeyond l bytes → ⊥
+broken_is_here l bytes e broken (inl (xs, is, none)) = (one_break bytes e broken).0 xs is
+broken_is_here l bytes e broken (inr (ds, is, other)) = no_break bytes ds e broken is
+
+-- nor is a component of known definitions whose core modules were all handed in: bytes have one list of definitions
+pub known_is_here : (l : Linking) (bytes : List ℕ) (ds : List DefinitionValue) → IsComponent bytes ds → (Any (λ m. m ≢ l.main.bytes) (meaning l.main ds).modules → ⊥) → IsBeyond l bytes → ⊥
+known_is_here l bytes ds is handed (inl unknown) = not_known bytes ds unknown is
+known_is_here l bytes ds is handed (inr (es, has, other)) = handed (subst (λ fs. Any (λ m. m ≢ l.main.bytes) (meaning l.main fs).modules) (one_list bytes es ds has is) other)
 
 -- what is said of what the definitions stand for is said of their bytes
 pub says_of : (l : Linking) (bytes : List ℕ) (ds : List DefinitionValue) (n : ℕ) → IsComponent bytes ds → n ≡ length bytes → (v : Verdict) → SaysOf l (meaning l.main ds) n v → Says l bytes v

@@ -23,6 +23,7 @@ use Rattle.component_audit.specs.declared.spaces.CoreInstance.{CoreInstance}
 use Rattle.component_audit.specs.Tests.{Finds, IsOutside, function_named, is_type_of, is_listed, is_there}
 use Rattle.wit_component.proofs.Lists.{bytes_eq_refl, bytes_eq_is, each_in, each_at, each_map, in_map, from_filter}
 use Rattle.component_audit.proofs.Equal.{type_of_function_decides}
+use Rattle.wit_component.proofs.NoCause.{any_each}
 use Rattle.wit_component.proofs.WrittenNames.{names_of, is_new-append, all_new_without}
 
 -- ---- lists
@@ -323,6 +324,9 @@ not_handed main (m ∷ ms) h = elim (cases_Bool (bytes_eq m main)) [
       (suc later.0, later.1, omega (arith, later.2), later.3, later.4)
   | inr t ↦ (0, m, omega arith, refl, λ e. let bad : true ≡ false = sym (ap (λ x. bytes_eq x main) e ∙ bytes_eq_refl main) ∙ t in absurd cc)
 ]
+
+pub none_other : (main : List ℕ) (ms : List (List ℕ)) → Each (λ m. m ≡ main) ms → Any (λ m. m ≢ main) ms → ⊥
+none_other main ms each other = let at = any_each (λ m. m ≡ main) (λ m. m ≢ main) ms each other in at.2 at.1
 
 pub exports_found : (l : Linking) (s : Spaces) (n : ℕ) (fs : List FunctionItem) → fs ≡ l.world.exports → (o : Option ℕ) → Finds n (IsOutside fs fs (map type_seen s.exports)) o → Finds n (ExportsRight l s) o
 exports_found l s n fs same o h = exports_same l s n o (subst (λ gs. Finds n (IsOutside gs gs (map type_seen s.exports)) o) same h)

@@ -1,6 +1,6 @@
 //! Whether a component is right for its input.
 
-ghost use Rattle.std.specs.Prelude.{◌≡◌, ◌≢◌, ◌⊎◌, ◌≤◌, ◌++◌, nat_le, ℕ, List, Option, [], None, Any, bytes_eq, map, option_map, slice_get, string_bytes, true, length, IfOk, IfErr, IfSome};
+ghost use Rattle.std.specs.Prelude.{◌≡◌, ◌≢◌, ◌⊎◌, ◌≤◌, ◌++◌, nat_le, ℕ, List, Option, [], None, Any, bytes_eq, map, option_map, slice_get, string_bytes, true, length, IfOk, IfErr, IfSome, OnOk};
 ghost use Rattle.std.specs.Bool.{Decides};
 ghost use Rattle.std.specs.Cmp.Lexicographic.{pointwise};
 ghost use Rattle.std.specs.List.{list_all, AllByRecursion as Each};
@@ -13,7 +13,7 @@ ghost use Rattle.component_sections.specs.Component.{BreaksComponent};
 ghost use Rattle.wit_component.specs.Linking.{Linking as LinkingValue, core_import, core_export};
 ghost use Rattle.wit_component.specs.Cause.{IsLinkable};
 ghost use Rattle.component_audit.specs.Tests.{Finds, IsOutside, IsSoFar, function_named, is_listed, is_there, is_export_of, is_lift_of, is_import_of, is_lowering_of, IsOwnExport};
-ghost use Rattle.component_audit.specs.Judged.{IsJudgeCause, Says, SaysOf};
+ghost use Rattle.component_audit.specs.Judged.{IsBeyond, IsJudgeCause, Says, SaysOf};
 ghost use Rattle.wit_component.specs.Meaning as meant;
 ghost use Rattle.wit_component.specs.Places.{ArePlaces, ImportPlace};
 ghost use Rattle.wit_component.specs.Right.{IsIn, IsOnce, IsGiven, EachGiven, TakesOwn, LiftsOwn, ImportsRight, LinksRight, type_seen};
@@ -40,11 +40,12 @@ use wit_component::{Fault, FindingKind, Linking, Table, needed_functions, refere
 /// that fails of them, and where.
 ///
 /// Refuses as `table_of` does, and with X1 where the bytes have a definition that index meaning doesn't know, or a core module
-/// other than the main one.
+/// other than the main one: of such bytes no verdict is given.
 pub fn judge(alloc: Global, linking: &Linking, bytes: &[u8]) -> Result<Verdict, Fault>
     requires { world_fits (view.linking linking.now).world ≡ true }
     ensures verdict { IfOk result (Says (view.linking linking.now) bytes.now) }
     ensures linkable { IfOk result (λ v. IsLinkable (view.linking linking.now)) }
+    ensures here { OnOk result (IsBeyond (view.linking linking.now) bytes.now → ⊥) }
     ensures cause { IfErr result (IsJudgeCause (view.linking linking.now) bytes.now) }
 {
     let table = table_of(alloc, linking)?;
@@ -62,6 +63,7 @@ fn judge_bytes(
     requires places { ArePlaces (view.linking linking.now) (view.places table.now) }
     requires linkable { IsLinkable (view.linking linking.now) }
     ensures verdict { IfOk result (Says (view.linking linking.now) bytes.now) }
+    ensures here { OnOk result (IsBeyond (view.linking linking.now) bytes.now → ⊥) }
     ensures cause { IfErr result (IsJudgeCause (view.linking linking.now) bytes.now) }
 {
     let definitions = match read_definitions(alloc, bytes) {
@@ -95,9 +97,13 @@ fn judge_component<'c>(
     requires places { ArePlaces (view.linking linking.now) (view.places table.now) }
     requires within { DefinitionsWithin length definitions.now }
     ensures verdict { IfOk result (SaysOf (view.linking linking.entry.now) (meant.meaning (view.linking linking.entry.now).main (definition_values definitions.entry.now)) length) }
+    ensures handed { OnOk result (Any (λ m. m ≢ (view.linking linking.entry.now).main.bytes) (meant.meaning (view.linking linking.entry.now).main (definition_values definitions.entry.now)).modules → ⊥) }
     ensures cause { IfErr result (λ e. (e ≡ Fault.OutOfMemory) ⊎ ((e ≡ Fault.NotYet) × Any (λ m. m ≢ (view.linking linking.entry.now).main.bytes) (meant.meaning (view.linking linking.entry.now).main (definition_values definitions.entry.now)).modules)) }
 {
     let walk = walk_over(alloc, linking, definitions, length)?;
+    if !are_handed(linking, &walk.spaces) {
+        return Err(Fault::NotYet);
+    }
     judge_spaces(alloc, linking, table, &walk.spaces, length)
 }
 
@@ -120,7 +126,19 @@ fn walk_over<'c>(
     Ok(walk)
 }
 
-/// Judges what the definitions of a component of so many bytes stand for.
+/// Whether each core module is the one that was handed in.
+fn are_handed(linking: &Linking, spaces: &Spaces) -> bool
+    ensures { result ≡ list_all (λ m. bytes_eq m linking.now.bytes.now) (map seen.module_bytes spaces.now.modules.items) }
+{
+    for found in &spaces.modules {
+        if found.bytes != linking.bytes {
+            return false;
+        }
+    }
+    true
+}
+
+/// Judges what the definitions of a component of so many bytes stand for, where each core module is the one that was handed in.
 fn judge_spaces(
     alloc: Global,
     linking: &Linking,
@@ -131,12 +149,10 @@ fn judge_spaces(
     requires fits { world_fits (view.linking linking.now).world ≡ true }
     requires places { ArePlaces (view.linking linking.now) (view.places table.now) }
     requires within { seen.AreWithin length spaces.now }
+    requires handed { Each (λ m. m ≡ (view.linking linking.now).main.bytes) (seen.spaces (view.linking linking.now).main spaces.now).modules }
     ensures verdict { IfOk result (SaysOf (view.linking linking.now) (seen.spaces (view.linking linking.now).main spaces.now) length) }
-    ensures cause { IfErr result (λ e. (e ≡ Fault.OutOfMemory) ⊎ ((e ≡ Fault.NotYet) × Any (λ m. m ≢ (view.linking linking.now).main.bytes) (seen.spaces (view.linking linking.now).main spaces.now).modules)) }
+    ensures memory { IfErr result (λ e. e ≡ Fault.OutOfMemory) }
 {
-    if !are_handed(linking, spaces) {
-        return Err(Fault::NotYet);
-    }
     if let Some(offset) = instances_finding(&spaces.instances, length) {
         return Ok(Verdict::Finding(FindingKind::Module, offset));
     }
@@ -151,18 +167,6 @@ fn judge_spaces(
         return Ok(Verdict::Finding(FindingKind::Link, offset));
     }
     Ok(Verdict::Yes)
-}
-
-/// Whether each core module is the one that was handed in.
-fn are_handed(linking: &Linking, spaces: &Spaces) -> bool
-    ensures { result ≡ list_all (λ m. bytes_eq m linking.now.bytes.now) (map seen.module_bytes spaces.now.modules.items) }
-{
-    for found in &spaces.modules {
-        if found.bytes != linking.bytes {
-            return false;
-        }
-    }
-    true
 }
 
 /// Where the main module is instantiated once more, or without all that it asks; the end, where it is never.

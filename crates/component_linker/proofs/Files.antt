@@ -68,7 +68,7 @@ module _ (files : Files) where
   pub fault_here : (is : List Input) (k : ℕ) (x : Input) (s : Stop) → k < length is → x ≡ get_or is k x → file_fault files is ≡ file_fault files (drop k is)
       → IsFileStop (λ p. input_fault files x ≡ Some p) s → IsFileStop (λ p. file_fault files is ≡ Some p) s
   fault_here is k x (stops.Refused fault) lt at left why = why
-  fault_here is k x (stops.Unresolved error text) lt at left why = why
+  fault_here is k x (stops.Unresolved error place) lt at left why = why
   fault_here is k x (stops.File path) lt at left why = left ∙ ap (file_fault files) (item_left is k x lt at) ∙ ap (λ o. option_or o (file_fault files (drop (suc k) is))) why
   fault_here is k x stops.Usage lt at left why = why
 
@@ -81,15 +81,15 @@ module _ (files : Files) where
       → IsInputStop files r main chosen x s → IsHandStop files r main chosen is s
   hand_at r main chosen is k x (stops.Refused fault) lt at (inl memory) = inl memory
   hand_at r main chosen is k x (stops.Refused fault) lt at (inr why) = inr (k, x, lt, sym at, why)
-  hand_at r main chosen is k x (stops.Unresolved error text) lt at why = (k, x, lt, sym at, why)
+  hand_at r main chosen is k x (stops.Unresolved error place) lt at why = (k, x, lt, sym at, why)
   hand_at r main chosen is k x (stops.File path) lt at why = faulty is k x path.now lt (ap (input_fault files) (sym at) ∙ why)
   hand_at r main chosen is k x stops.Usage lt at why = why
 
   -- the text of an input isn't there
-  pub text_missing : (IsWanted : ResolveErrorKind → Type 0) (is : List Input) (k : ℕ) (x : Input) (path : List ℕ) (s : Stop) → k < length is → x ≡ get_or is k x → input_fault files x ≡ textless_path path (file_at files path)
+  pub text_missing : (IsWanted : ResolveErrorKind → Option (String Global) → Type 0) (is : List Input) (k : ℕ) (x : Input) (path : List ℕ) (s : Stop) → k < length is → x ≡ get_or is k x → input_fault files x ≡ textless_path path (file_at files path)
       → IsFileStop (λ p. textless_path path (file_at files path) ≡ Some p) s → IsTextsStop files IsWanted is s
   text_missing IsWanted is k x path (stops.Refused fault) lt at of why = absurd why
-  text_missing IsWanted is k x path (stops.Unresolved error text) lt at of why = absurd why
+  text_missing IsWanted is k x path (stops.Unresolved error place) lt at of why = absurd why
   text_missing IsWanted is k x path (stops.File p) lt at of why = faulty is k x p.now lt (ap (input_fault files) (sym at) ∙ of ∙ why)
   text_missing IsWanted is k x path stops.Usage lt at of why = why
 
@@ -97,7 +97,7 @@ module _ (files : Files) where
       → p ≡ string_bytes path → IfErr r (IsFileStop (λ q. missing_path p (file_at files p) ≡ Some q)) → IfErr r (IsComponentStop files is)
   no_component_file is k x path p (Ok b) lt at this same why = why
   no_component_file is k x path p (Err (stops.Refused fault)) lt at this same why = why
-  no_component_file is k x path p (Err (stops.Unresolved error text)) lt at this same why = why
+  no_component_file is k x path p (Err (stops.Unresolved error place)) lt at this same why = why
   no_component_file is k x path p (Err (stops.File q)) lt at this same why =
       faulty is k x q.now lt (ap (input_fault files) (sym at ∙ this) ∙ ap (λ b. missing_path b (file_at files b)) (sym same) ∙ why)
   no_component_file is k x path p (Err stops.Usage) lt at this same why = absurd why

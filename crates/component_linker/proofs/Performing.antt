@@ -12,7 +12,7 @@ module _ (eq : PackageName → PackageName → Bool) (files : Files) (l : Line) 
   -- where it isn't handed in
   pub prepared : (Untouched : Type 0) → Untouched → (s : Stop) → IsPrepareStop eq files l s → IsStop eq files l Untouched old new s
   prepared Untouched same (stops.Refused fault) why = (same, inl why)
-  prepared Untouched same (stops.Unresolved error text) why = (same, why)
+  prepared Untouched same (stops.Unresolved error place) why = (same, why)
   prepared Untouched same (stops.File path) why = inl (same, why)
   prepared Untouched same stops.Usage why = absurd why
 
@@ -22,6 +22,6 @@ module _ (eq : PackageName → PackageName → Bool) (files : Files) (l : Line) 
 
     pub stopped : (Untouched : Type 0) (s : Stop) → IsAnswerStop files l given Untouched old new s → IsStop eq files l Untouched old new s
     stopped Untouched (stops.Refused fault) why = (why.0, inr (given, handed, why.1))
-    stopped Untouched (stops.Unresolved error text) why = absurd why
+    stopped Untouched (stops.Unresolved error place) why = absurd why
     stopped Untouched (stops.File path) why = inr (handed.there, why.0, (why.1.0, why.1.1, (given, handed, why.1.2), why.1.3))
     stopped Untouched stops.Usage why = why

@@ -1,5 +1,5 @@
 -- Why the program ends without its answer, and what it writes then.
-use Rattle.std.specs.Prelude.{◌≡◌, ◌≢◌, ◌⊎◌, ℕ, ◌<◌, Bool, List, [], ◌∷◌, ◌++◌, Option, Some, None, Any, codes, length, filter, take, String, string_bytes}
+use Rattle.std.specs.Prelude.{◌≡◌, ◌≢◌, ◌⊎◌, ℕ, ◌<◌, Bool, List, [], ◌∷◌, ◌++◌, Option, Some, None, option_map, Any, codes, length, filter, take, String, string_bytes}
 use Rattle.std.specs.Io.KnownBytes.{Appends}
 use Rattle.std.specs.declared.alloc.Global.{Global}
 use Rattle.command_line.specs.Line.{is_component}
@@ -16,11 +16,14 @@ use Rattle.component_session.specs.Faults.{code, name, place}
 use Rattle.component_session.specs.declared.fault.Fault.{Fault}
 use Rattle.component_session.specs.declared.fault.Fault.TheVariants as causes
 use Rattle.component_session.specs.Coming.{ResolveErrorKind}
-use Rattle.component_session.specs.Errors.{of_selection}
-use Rattle.component_session.specs.Pushes.{Resolved, AreTextsPushed, AreTextsError}
+use Rattle.component_session.specs.Errors as errors
+use Rattle.component_session.specs.Errors.{of_selection, span_of}
+use Rattle.component_session.specs.Pushes.{Resolved, AreTextsPushed, AreTextsError, AreTextsKept}
 use Rattle.wit_selection.specs.Selection.{IsSelectCause}
 use Rattle.wit_selection.specs.declared.selection.SelectFault.{SelectFault}
 use Rattle.wit_types.specs.declared.«package».PackageName.{PackageName}
+use Rattle.wit_words.specs.Sources.{SourceText, IsLocation}
+use Rattle.wit_words.specs.declared.source_map.Span.{Span}
 use Rattle.component_linker.specs.Program.{Files, IsFile, input_fault, file_fault, opened, packages_of, text_or, HasComponent, Handed, IsAnswer, IsLineAnswer}
 use Rattle.component_linker.specs.declared.program.Stop.{Stop}
 use Rattle.component_linker.specs.declared.program.Stop.TheVariants as stops
@@ -45,9 +48,12 @@ refusal_text (Some code) name (Some place) = codes "error: " ++ (code ++ 32 ∷ 
 abbrev pub fault_text : Fault → List ℕ
 fault_text fault = refusal_text (code fault) (name fault) (place fault)
 
+abbrev pub error_text : ResolveErrorKind → Option (String Global) → List ℕ
+error_text error place = refusal_text (errors.code error) (errors.name error) (option_map string_bytes place)
+
 abbrev pub stop_text : Stop → List ℕ
 stop_text (stops.Refused fault) = fault_text fault
-stop_text (stops.Unresolved error text) = codes "error: " ++ (string_bytes text ++ 10 ∷ [])
+stop_text (stops.Unresolved error place) = error_text error place
 stop_text (stops.File path) = file_text path.now
 stop_text stops.Usage = usage_text
 
@@ -73,34 +79,50 @@ WritesPart IsWanted old new = (status : ℕ) × (text : List ℕ) × IsWanted st
 
 abbrev pub stop_status : Stop → ℕ
 stop_status (stops.Refused fault) = 1
-stop_status (stops.Unresolved error text) = 1
+stop_status (stops.Unresolved error place) = 1
 stop_status (stops.File path) = 3
 stop_status stops.Usage = 2
 
 -- the stop names a path of which this is so
 abbrev pub IsFileStop : (List ℕ → Type 0) → Stop → Type 0
 IsFileStop IsWanted (stops.Refused fault) = ⊥
-IsFileStop IsWanted (stops.Unresolved error text) = ⊥
+IsFileStop IsWanted (stops.Unresolved error place) = ⊥
 IsFileStop IsWanted (stops.File path) = IsWanted path.now
 IsFileStop IsWanted stops.Usage = ⊥
 
--- packages can't be resolved for that, or memory is wanting
-abbrev pub IsResolveStop : (ResolveErrorKind → Type 0) → Stop → Type 0
+-- it is where that span begins in these texts, as `PATH:LINE:COLUMN`; what has no span has no place
+abbrev pub IsPlaceAt : List SourceText → Option Span → Option (String Global) → Type 0
+IsPlaceAt texts None place = place ≡ None
+IsPlaceAt texts (Some at) place = (text : String Global) × (place ≡ Some text) × IsLocation texts at (string_bytes text)
+
+-- it is the place of what isn't resolved
+abbrev pub IsPlaceOf : List SourceText → ResolveErrorKind → Option (String Global) → Type 0
+IsPlaceOf texts error place = IsPlaceAt texts (span_of error) place
+
+-- packages can't be resolved for that, which stands there, or memory is wanting
+abbrev pub IsResolveStop : (ResolveErrorKind → Option (String Global) → Type 0) → Stop → Type 0
 IsResolveStop IsWanted (stops.Refused fault) = fault ≡ causes.OutOfMemory
-IsResolveStop IsWanted (stops.Unresolved error text) = IsWanted error
+IsResolveStop IsWanted (stops.Unresolved error place) = IsWanted error place
 IsResolveStop IsWanted (stops.File path) = ⊥
 IsResolveStop IsWanted stops.Usage = ⊥
 
 -- of all inputs together: as `IsResolveStop`, or a file isn't there
-abbrev pub IsTextsStop : Files → (ResolveErrorKind → Type 0) → List LineInput → Stop → Type 0
+abbrev pub IsTextsStop : Files → (ResolveErrorKind → Option (String Global) → Type 0) → List LineInput → Stop → Type 0
 IsTextsStop files IsWanted is (stops.Refused fault) = fault ≡ causes.OutOfMemory
-IsTextsStop files IsWanted is (stops.Unresolved error text) = IsWanted error
+IsTextsStop files IsWanted is (stops.Unresolved error place) = IsWanted error place
 IsTextsStop files IsWanted is (stops.File path) = file_fault files is ≢ None
 IsTextsStop files IsWanted is stops.Usage = ⊥
 
--- a text names no world, where that is the main package
-abbrev pub IsNameError : Resolved → ℕ → List ℕ → ResolveErrorKind → Type 0
-IsNameError r main text error = (fault : SelectFault) × IsSelectCause r.graph.tables.packages (main ∷ []) (Some text) fault × (error ≡ of_selection fault)
+-- texts aren't taken for that; its place is one in the texts that are there then, as `AreTextsKept` says which those are
+pub record AreTextsNotTaken (eq : PackageName → PackageName → Bool) (old : Resolved) (packages : List (List SourceText)) (error : ResolveErrorKind) (place : Option (String Global)) : Type 0 where
+  pub why : AreTextsError eq old packages error
+  pub left : Resolved
+  pub kept : AreTextsKept old packages error left
+  pub stands : IsPlaceOf left.texts error place
+
+-- a text names no world, where that is the main package; this has no place
+abbrev pub IsNameError : Resolved → ℕ → List ℕ → ResolveErrorKind → Option (String Global) → Type 0
+IsNameError r main text error place = (fault : SelectFault) × IsSelectCause r.graph.tables.packages (main ∷ []) (Some text) fault × (error ≡ of_selection fault) × (place ≡ None)
 
 -- the bytes of a module aren't read
 abbrev pub IsBytesCause : Files → Fault → LineInput → Type 0
@@ -110,55 +132,55 @@ IsBytesCause files fault (inputs.Main world path) = (bytes : List ℕ) × IsFile
 IsBytesCause files fault (inputs.Component path) = ⊥
 
 -- nor is its world there; an empty text stands for the chosen one's
-abbrev pub IsMainError : Resolved → ℕ → List ℕ → ResolveErrorKind → LineInput → Type 0
-IsMainError r main chosen error (inputs.Text path) = ⊥
-IsMainError r main chosen error (inputs.Dep path) = ⊥
-IsMainError r main chosen error (inputs.Main world path) = IsNameError r main (text_or (string_bytes world) chosen) error
-IsMainError r main chosen error (inputs.Component path) = ⊥
+abbrev pub IsMainError : Resolved → ℕ → List ℕ → ResolveErrorKind → Option (String Global) → LineInput → Type 0
+IsMainError r main chosen error place (inputs.Text path) = ⊥
+IsMainError r main chosen error place (inputs.Dep path) = ⊥
+IsMainError r main chosen error place (inputs.Main world path) = IsNameError r main (text_or (string_bytes world) chosen) error place
+IsMainError r main chosen error place (inputs.Component path) = ⊥
 
 -- an input isn't taken
 abbrev pub IsInputStop : Files → Resolved → ℕ → List ℕ → LineInput → Stop → Type 0
 IsInputStop files r main chosen i (stops.Refused fault) = (fault ≡ causes.OutOfMemory) ⊎ IsBytesCause files fault i
-IsInputStop files r main chosen i (stops.Unresolved error text) = IsMainError r main chosen error i
+IsInputStop files r main chosen i (stops.Unresolved error place) = IsMainError r main chosen error place i
 IsInputStop files r main chosen i (stops.File path) = input_fault files i ≡ Some path.now
 IsInputStop files r main chosen i stops.Usage = ⊥
 
 -- one of the inputs isn't, or a file isn't there
 abbrev pub IsHandStop : Files → Resolved → ℕ → List ℕ → List LineInput → Stop → Type 0
 IsHandStop files r main chosen is (stops.Refused fault) = (fault ≡ causes.OutOfMemory) ⊎ Any (IsBytesCause files fault) is
-IsHandStop files r main chosen is (stops.Unresolved error text) = Any (IsMainError r main chosen error) is
+IsHandStop files r main chosen is (stops.Unresolved error place) = Any (IsMainError r main chosen error place) is
 IsHandStop files r main chosen is (stops.File path) = file_fault files is ≢ None
 IsHandStop files r main chosen is stops.Usage = ⊥
 
 -- the chosen world isn't there, or an input isn't taken
 abbrev pub IsCompleteStop : Files → Resolved → ℕ → Line → Stop → Type 0
 IsCompleteStop files r main l (stops.Refused fault) = (fault ≡ causes.OutOfMemory) ⊎ Any (IsBytesCause files fault) l.inputs.items
-IsCompleteStop files r main l (stops.Unresolved error text) = IsNameError r main (string_bytes l.world) error ⊎ Any (IsMainError r main (string_bytes l.world) error) l.inputs.items
+IsCompleteStop files r main l (stops.Unresolved error place) = IsNameError r main (string_bytes l.world) error place ⊎ Any (IsMainError r main (string_bytes l.world) error place) l.inputs.items
 IsCompleteStop files r main l (stops.File path) = file_fault files l.inputs.items ≢ None
 IsCompleteStop files r main l stops.Usage = ⊥
 
 -- where the packages are those of the line's texts, the chosen world or one of a module isn't there
-pub record IsUnnamed (eq : PackageName → PackageName → Bool) (files : Files) (l : Line) (error : ResolveErrorKind) : Type 0 where
+pub record IsUnnamed (eq : PackageName → PackageName → Bool) (files : Files) (l : Line) (error : ResolveErrorKind) (place : Option (String Global)) : Type 0 where
   pub resolved : Resolved
   pub main : ℕ
   pub packages : AreTextsPushed eq (opened l).resolved (packages_of files l.inputs.items) resolved main
-  pub none : IsNameError resolved main (string_bytes l.world) error ⊎ Any (IsMainError resolved main (string_bytes l.world) error) l.inputs.items
+  pub none : IsNameError resolved main (string_bytes l.world) error place ⊎ Any (IsMainError resolved main (string_bytes l.world) error place) l.inputs.items
 
 -- the texts aren't taken, or what they say has no such world
-abbrev pub IsUnresolved : (PackageName → PackageName → Bool) → Files → Line → ResolveErrorKind → Type 0
-IsUnresolved eq files l error = AreTextsError eq (opened l).resolved (packages_of files l.inputs.items) error ⊎ IsUnnamed eq files l error
+abbrev pub IsUnresolved : (PackageName → PackageName → Bool) → Files → Line → ResolveErrorKind → Option (String Global) → Type 0
+IsUnresolved eq files l error place = AreTextsNotTaken eq (opened l).resolved (packages_of files l.inputs.items) error place ⊎ IsUnnamed eq files l error place
 
 -- the inputs aren't taken, or a file isn't there, the first at fault
 abbrev pub IsPrepareStop : (PackageName → PackageName → Bool) → Files → Line → Stop → Type 0
 IsPrepareStop eq files l (stops.Refused fault) = (fault ≡ causes.OutOfMemory) ⊎ Any (IsBytesCause files fault) l.inputs.items
-IsPrepareStop eq files l (stops.Unresolved error text) = IsUnresolved eq files l error
+IsPrepareStop eq files l (stops.Unresolved error place) = IsUnresolved eq files l error place
 IsPrepareStop eq files l (stops.File path) = file_fault files l.inputs.items ≡ Some path.now
 IsPrepareStop eq files l stops.Usage = ⊥
 
 -- no component is named, or its file isn't there
 abbrev pub IsComponentStop : Files → List LineInput → Stop → Type 0
 IsComponentStop files is (stops.Refused fault) = ⊥
-IsComponentStop files is (stops.Unresolved error text) = ⊥
+IsComponentStop files is (stops.Unresolved error place) = ⊥
 IsComponentStop files is (stops.File path) = file_fault files is ≢ None
 IsComponentStop files is stops.Usage = filter is_component is ≡ []
 
@@ -180,14 +202,14 @@ out_path l = written_path l.out
 -- why an answer isn't written: nothing is and it is refused, or OUT can't be written and a part of it is
 abbrev pub IsWriteStop : (Fault → Type 0) → List ℕ → Type 0 → Type 0 → Stop → Type 0
 IsWriteStop Cause out Untouched Part (stops.Refused fault) = Untouched × Cause fault
-IsWriteStop Cause out Untouched Part (stops.Unresolved error text) = ⊥
+IsWriteStop Cause out Untouched Part (stops.Unresolved error place) = ⊥
 IsWriteStop Cause out Untouched Part (stops.File path) = (path.now ≡ out) × Part
 IsWriteStop Cause out Untouched Part stops.Usage = ⊥
 
 -- as `IsStop`, of what is handed to a session
 abbrev pub IsAnswerStop : Files → Line → Input → Type 0 → Option (List ℕ) → Option (List ℕ) → Stop → Type 0
 IsAnswerStop files l given Untouched old new (stops.Refused fault) = Untouched × IsAnswerCause files l.inputs.items given l.action fault
-IsAnswerStop files l given Untouched old new (stops.Unresolved error text) = ⊥
+IsAnswerStop files l given Untouched old new (stops.Unresolved error place) = ⊥
 IsAnswerStop files l given Untouched old new (stops.File path) = (path.now ≡ out_path l) × WritesPart (IsAnswer files l.inputs.items given l.action) old new
 IsAnswerStop files l given Untouched old new stops.Usage = Untouched × (l.action ≡ Audit) × (filter is_component l.inputs.items ≡ [])
 
@@ -198,7 +220,7 @@ module _ (eq : PackageName → PackageName → Bool) (files : Files) (l : Line) 
       Untouched
       × (((fault ≡ causes.OutOfMemory) ⊎ Any (IsBytesCause files fault) l.inputs.items)
       ⊎ ((given : Input) × Handed eq files l given × IsAnswerCause files l.inputs.items given l.action fault))
-  IsStop (stops.Unresolved error text) = Untouched × IsUnresolved eq files l error
+  IsStop (stops.Unresolved error place) = Untouched × IsUnresolved eq files l error place
   IsStop (stops.File path) =
       (Untouched × (file_fault files l.inputs.items ≡ Some path.now))
       ⊎ ((file_fault files l.inputs.items ≡ None) × (path.now ≡ out_path l) × WritesPart (IsLineAnswer eq files l) old new)

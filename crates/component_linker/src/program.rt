@@ -7,7 +7,8 @@ ghost use Rattle.component_linker.specs.Program as spec;
 ghost use Rattle.component_linker.specs.Stops as stops;
 ghost use Rattle.component_session.specs.Refusals.{IsCause, IsBuildCause, IsAuditCause};
 ghost use Rattle.component_session.specs.GroupView.{texts};
-ghost use Rattle.component_session.specs.Pushes.{AreTextsPushed, AreTextsError};
+ghost use Rattle.component_session.specs.Texts.{files_of};
+ghost use Rattle.component_session.specs.Pushes.{AreTextsPushed};
 
 use command_line::{Action, Encoding, Input, Line, LineFault};
 use component_builder::{EmitFault, emit};
@@ -23,8 +24,8 @@ use wit_types::{PackageId, PackageName};
 enum Stop<'a> {
     /// A call is refused.
     Refused(Fault),
-    /// Packages aren't resolved, or have no such world; with the text of that and of its place.
-    Unresolved(ResolveError, String),
+    /// Packages aren't resolved, or have no such world; with the place of that in the texts of the session, if it has one.
+    Unresolved(ResolveError, Option<String>),
     /// A file can't be read, is no text, or can't be written.
     File(&'a str),
     /// The inputs don't fit the action.
@@ -116,28 +117,25 @@ fn look_at_files<'a>(inputs: &'a [Input], files: &'a [(&'a str, &'a [u8])]) -> R
     Ok(())
 }
 
-/// What isn't resolved as a text, with its place in the texts of the session: as in `G2 ItemNotFound at a.wit:2:5`.
-fn text_of(
-    alloc: Global,
-    session: &Session<'_>,
-    error: &ResolveError,
-) -> Result<String, AllocError> {
+/// The place of what isn't resolved in the texts of the session, as `a.wit:2:5`, if it has one.
+fn place_of(session: &Session<'_>, error: &ResolveError) -> Result<Option<String>, AllocError>
+    ensures { IfOk result (stops.IsPlaceOf session.now.resolved.texts error.now) }
+{
     match error.span() {
         Some(span) => {
             let place = session.resolve().render_location(span)?;
-            let place = place.as_str();
-            format!(in alloc; "{error} at {place}")
+            Ok(Some(place))
         }
-        None => format!(in alloc; "{error}"),
+        None => Ok(None),
     }
 }
 
 /// The end for packages that aren't resolved.
-fn unresolved<'a>(alloc: Global, session: &Session<'_>, error: ResolveError) -> Stop<'a>
-    ensures { stops.IsResolveStop (λ e. e ≡ error) result }
+fn unresolved<'a>(session: &Session<'_>, error: ResolveError) -> Stop<'a>
+    ensures { stops.IsResolveStop (λ e place. (e ≡ error) × stops.IsPlaceOf session.now.resolved.texts e place) result }
 {
-    match text_of(alloc, session, &error) {
-        Ok(text) => Stop::Unresolved(error, text),
+    match place_of(session, &error) {
+        Ok(place) => Stop::Unresolved(error, place),
         Err(_) => Stop::Refused(Fault::OutOfMemory),
     }
 }
@@ -149,7 +147,7 @@ fn main_texts<'a>(
     files: &'a [(&'a str, &'a [u8])],
 ) -> Result<Vec<(&'a str, &'a str)>, Stop<'a>>
     ensures ok { IfOk result (λ v. texts v.items ≡ flat_map (spec.main_text files.entry.now) inputs.entry.now) }
-    ensures err { IfErr result (stops.IsTextsStop files.entry.now (λ _. ⊥) inputs.entry.now) }
+    ensures err { IfErr result (stops.IsTextsStop files.entry.now (λ _ _. ⊥) inputs.entry.now) }
 {
     let mut found = Vec::new(alloc);
     for input in inputs {
@@ -167,7 +165,7 @@ fn dep_texts<'a>(
     files: &'a [(&'a str, &'a [u8])],
 ) -> Result<Vec<(&'a str, &'a str)>, Stop<'a>>
     ensures ok { IfOk result (λ v. texts v.items ≡ flat_map (spec.dep_text files.entry.now) inputs.entry.now) }
-    ensures err { IfErr result (stops.IsTextsStop files.entry.now (λ _. ⊥) inputs.entry.now) }
+    ensures err { IfErr result (stops.IsTextsStop files.entry.now (λ _ _. ⊥) inputs.entry.now) }
 {
     let mut found = Vec::new(alloc);
     for input in inputs {
@@ -176,6 +174,22 @@ fn dep_texts<'a>(
         }
     }
     Ok(found)
+}
+
+/// Pushes the package of some texts and packages of one text each, and answers the first.
+fn take_texts<'a>(
+    session: &mut Session<'a>,
+    main: &[(&str, &str)],
+    deps: &[(&str, &str)],
+) -> Result<PackageId, Stop<'a>>
+    ensures ok { IfOk result (AreTextsPushed ⟦<PackageName as PartialEq>⟧.eq session.old.resolved (files_of (texts main.now) (texts deps.now)) session.new.resolved) }
+    ensures rest { OnOk result (session.new ≡ record session.old { resolved = session.new.resolved }) }
+    ensures err { IfErr result (stops.IsResolveStop (stops.AreTextsNotTaken ⟦<PackageName as PartialEq>⟧.eq session.old.resolved (files_of (texts main.now) (texts deps.now)))) }
+{
+    match session.push_texts(main, deps) {
+        Ok(id) => Ok(id),
+        Err(error) => Err(unresolved(session, error)),
+    }
 }
 
 /// Pushes the packages of all texts together, and answers the main one.
@@ -187,29 +201,21 @@ fn push_texts<'a>(
 ) -> Result<PackageId, Stop<'a>>
     ensures ok { IfOk result (AreTextsPushed ⟦<PackageName as PartialEq>⟧.eq session.old.resolved (spec.packages_of files.entry.now inputs.entry.now) session.new.resolved) }
     ensures rest { OnOk result (session.new ≡ record session.old { resolved = session.new.resolved }) }
-    ensures err { IfErr result (stops.IsTextsStop files.entry.now (AreTextsError ⟦<PackageName as PartialEq>⟧.eq session.old.resolved (spec.packages_of files.entry.now inputs.entry.now)) inputs.entry.now) }
+    ensures err { IfErr result (stops.IsTextsStop files.entry.now (stops.AreTextsNotTaken ⟦<PackageName as PartialEq>⟧.eq session.old.resolved (spec.packages_of files.entry.now inputs.entry.now)) inputs.entry.now) }
 {
     let main = main_texts(alloc, inputs, files)?;
     let deps = dep_texts(alloc, inputs, files)?;
-    match session.push_texts(&main, &deps) {
-        Ok(id) => Ok(id),
-        Err(error) => Err(unresolved(alloc, session, error)),
-    }
+    take_texts(session, &main, &deps)
 }
 
 /// Chooses the world of a name.
-fn choose<'a>(
-    alloc: Global,
-    session: &mut Session<'a>,
-    package: PackageId,
-    world: &str,
-) -> Result<(), Stop<'a>>
+fn choose<'a>(session: &mut Session<'a>, package: PackageId, world: &str) -> Result<(), Stop<'a>>
     ensures ok { OnOk result ((w : ℕ) × (session.new ≡ record session.old { world = Some w }) × spec.Names session.old.resolved «package» world.now w) }
     ensures err { IfErr result (stops.IsResolveStop (stops.IsNameError session.old.resolved «package» world.now)) }
 {
     match session.select_world([package].as_slice(), Some(world)) {
         Ok(_) => Ok(()),
-        Err(error) => Err(unresolved(alloc, session, error)),
+        Err(error) => Err(unresolved(session, error)),
     }
 }
 
@@ -232,7 +238,6 @@ fn encoding_of(encoding: Encoding) -> StringEncoding
 
 /// Hands in the module that an input may be; an empty world is the chosen one.
 fn hand_in_one<'a>(
-    alloc: Global,
     session: &mut Session<'a>,
     package: PackageId,
     line: &'a Line,
@@ -249,7 +254,7 @@ fn hand_in_one<'a>(
     let name = text_or(world.as_str(), line.world.as_str());
     let world = match session.world_named([package].as_slice(), Some(name)) {
         Ok(world) => world,
-        Err(error) => return Err(unresolved(alloc, session, error)),
+        Err(error) => return Err(unresolved(session, error)),
     };
     let bytes = bytes_at(files, path.as_str())?;
     session.module(bytes, world, encoding_of(line.encoding))?;
@@ -258,7 +263,6 @@ fn hand_in_one<'a>(
 
 /// Hands in the modules in order.
 fn hand_in<'a>(
-    alloc: Global,
     session: &mut Session<'a>,
     package: PackageId,
     line: &'a Line,
@@ -270,7 +274,7 @@ fn hand_in<'a>(
     ensures err { IfErr result (stops.IsHandStop files.entry.now session.old.resolved «package» (string_bytes line.entry.now.world) line.entry.now.inputs.items) }
 {
     for input in &line.inputs {
-        hand_in_one(alloc, session, package, line, input, files)?;
+        hand_in_one(session, package, line, input, files)?;
     }
     Ok(())
 }
@@ -418,7 +422,6 @@ fn opened<'a>(alloc: Global, line: &Line) -> Result<Session<'a>, AllocError>
 
 /// Chooses the world of a line, and hands in its modules.
 fn complete<'a>(
-    alloc: Global,
     session: &mut Session<'a>,
     package: PackageId,
     line: &'a Line,
@@ -428,8 +431,8 @@ fn complete<'a>(
     ensures ok { OnOk result (spec.IsCompleted files.entry.now «package» line.entry.now session.old session.new) }
     ensures err { IfErr result (stops.IsCompleteStop files.entry.now session.old.resolved «package» line.entry.now) }
 {
-    choose(alloc, session, package, line.world.as_str())?;
-    hand_in(alloc, session, package, line, files)
+    choose(session, package, line.world.as_str())?;
+    hand_in(session, package, line, files)
 }
 
 /// Looks at the files, and hands the texts, the chosen world and the modules to a session.
@@ -444,7 +447,7 @@ fn prepare<'a>(
     look_at_files(&line.inputs, files)?;
     let mut session = opened(alloc, line)?;
     let package = push_texts(alloc, &mut session, &line.inputs, files)?;
-    complete(alloc, &mut session, package, line, files)?;
+    complete(&mut session, package, line, files)?;
     Ok(session)
 }
 
@@ -493,6 +496,21 @@ fn report_fault<E: Write>(fault: &Fault, err: &mut E)
     }
 }
 
+/// Writes the line of what isn't resolved.
+fn report_error<E: Write>(error: &ResolveError, place: &Option<String>, err: &mut E)
+    ensures { stops.AppendsFront (E.contents err.old) (E.contents err.new) (stops.error_text error.now place.now) }
+{
+    let kind = error.kind();
+    let place = match place {
+        Some(place) => Some(place.as_str()),
+        None => None,
+    };
+    match kind.code() {
+        Some(code) => report_coded(code, kind.name(), place, err),
+        None => write_texts(&["error: out of memory\n"], err),
+    }
+}
+
 /// Writes why the program ends, and answers the exit status.
 fn report<E: Write>(stop: &Stop<'_>, err: &mut E) -> u8
     ensures status { result ≡ stops.stop_status stop.now }
@@ -503,8 +521,8 @@ fn report<E: Write>(stop: &Stop<'_>, err: &mut E) -> u8
             report_fault(fault, err);
             1
         }
-        Stop::Unresolved(_, text) => {
-            write_texts(&["error: ", text.as_str(), "\n"], err);
+        Stop::Unresolved(error, place) => {
+            report_error(error, place, err);
             1
         }
         Stop::File(path) => {

@@ -5,12 +5,12 @@ use Rattle.known_definitions.specs.Component.{Fits}
 use Rattle.component_session.specs.Input.{Input, IsLinkingOf, IsWideLinkingOf}
 use Rattle.wit_component.specs.Linking.{Linking}
 use Rattle.wit_component.specs.Cause.{IsLinkable}
-use Rattle.component_session.specs.Refusals.{AsksBeyond, IsWide, OptionsBeyond, IsReady}
+use Rattle.component_session.specs.Refusals.{AsksBeyond, AreExportsSupplied, IsWide, OptionsBeyond, IsReady}
 use Rattle.link_table.specs.Linking.{Linking as WideLinking}
 use Rattle.linked_components.specs.Build.{HasLines, IsComponentOf}
 use Rattle.wit_component.specs.Component.{component_of}
 use Rattle.component_session.specs.Headline.{IsRight, IsBuilt, IsLinkTable, IsJudged, IsVerdict}
-use Rattle.component_audit.specs.Judged.{Says}
+use Rattle.component_audit.specs.Judged.{IsBeyond, Says}
 use Rattle.component_audit.specs.declared.verdict.Verdict.{Verdict}
 use Rattle.component_audit.specs.declared.verdict.Verdict.TheVariants.{Yes, Finding}
 use Rattle.link_lines.specs.Line.{LinkValue}
@@ -30,9 +30,9 @@ says input l bytes (Finding kind offset) links h = h
 
 -- ---- plain functions
 
-module _ (input : Input) (l : Linking) (links : IsLinkingOf input l) (here : AsksBeyond input → ⊥) (plain : IsWide input → ⊥) where
+module _ (input : Input) (l : Linking) (links : IsLinkingOf input l) (here : AsksBeyond input → ⊥) (exports : AreExportsSupplied input) (plain : IsWide input → ⊥) where
   ready : IsLinkable l → IsReady input l
-  ready linkable = record { links_input = links; here = here; plain = plain; linkable = linkable }
+  ready linkable = record { links_input = links; here = here; exports = exports; plain = plain; linkable = linkable }
 
   pub built : (bytes : List ℕ) → IsLinkable l → Fits (component_of l) → IsComponent bytes (component_of l) → IsBuilt input bytes
   built bytes linkable fits is = inl (record {
@@ -43,17 +43,17 @@ module _ (input : Input) (l : Linking) (links : IsLinkingOf input l) (here : Ask
     imports = λ ds h. ap (λ es. (meaning l.main es).imports) (one_list bytes ds (component_of l) h is) ∙ ap (λ (s : Spaces). s.imports) (written l linkable.linked);
   })
 
-  pub judged : (bytes : List ℕ) (verdict : Verdict) → Says l bytes verdict → IsLinkable l → IsJudged input bytes verdict
-  judged bytes verdict h linkable = record { linking = l; ready = ready linkable; says = says input l bytes verdict links h }
+  pub judged : (bytes : List ℕ) (verdict : Verdict) → (IsBeyond l bytes → ⊥) → Says l bytes verdict → IsLinkable l → IsJudged input bytes verdict
+  judged bytes verdict within h linkable = record { linking = l; ready = ready linkable; here = within; says = says input l bytes verdict links h }
 
   pub listed : (found : List LinkValue) → AreLinks l found → IsLinkable l → IsLinkTable input found
   listed found h linkable = IsLinkTable.plain (record { linking = l; ready = ready linkable; links = h })
 
 -- ---- all that a world has
 
-module _ (input : Input) (l : WideLinking) (links : IsWideLinkingOf input l) (here : AsksBeyond input → ⊥) (wide : IsWide input) (options : OptionsBeyond input → ⊥) where
+module _ (input : Input) (l : WideLinking) (links : IsWideLinkingOf input l) (here : AsksBeyond input → ⊥) (exports : AreExportsSupplied input) (wide : IsWide input) (options : OptionsBeyond input → ⊥) where
   pub wide_listed : (found : List LinkValue) → HasLines l found → IsLinkTable input found
-  wide_listed found (t, is, lines) = IsLinkTable.wide (record { linking = l; ready = record { links_input = links; here = here; wide = wide; options = options; table = t; is = is }; links = lines })
+  wide_listed found (t, is, lines) = IsLinkTable.wide (record { linking = l; ready = record { links_input = links; here = here; exports = exports; wide = wide; options = options; table = t; is = is }; links = lines })
 
   pub wide_built : (bytes : List ℕ) → IsComponentOf l links.handed.bytes bytes → IsBuilt input bytes
-  wide_built bytes (t, is, right) = inr (record { linking = l; ready = record { links_input = links; here = here; wide = wide; options = options; table = t; is = is }; right = right })
+  wide_built bytes (t, is, right) = inr (record { linking = l; ready = record { links_input = links; here = here; exports = exports; wide = wide; options = options; table = t; is = is }; right = right })

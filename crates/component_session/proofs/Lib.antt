@@ -5,4 +5,5 @@ pub mod Exact
 pub mod Linked
 pub mod Chosen
 pub mod Keeping
+pub mod Exporting
 pub mod Grouped

@@ -90,6 +90,8 @@ module _ (input : Input) (l : Linking) (h : IsReady input l) where
   no_cause faults.NotYet (inr (inr (inr cause))) = no_wide_cause faults.NotYet cause
   no_cause faults.NoModule cause = let bad = sym h.links_input.hands ∙ cause in absurd cc
   no_cause faults.NoWorld cause = let bad = sym h.links_input.chooses ∙ cause in absurd cc
+  no_cause faults.ExportUnsupplied cause = absurd (h.exports.all cause)
+  no_cause faults.ExportNotInWorld cause = absurd (h.exports.alone cause)
   no_cause (faults.BadModule m) cause = absurd (no_bad_module input h.links_input.handed h.links_input.core h.links_input.hands h.links_input.reads m cause)
   no_cause (faults.Linking fault) cause = absurd (no_linking_cause fault cause)
   no_cause faults.NoMemory cause = no_wide_cause faults.NoMemory cause
@@ -155,6 +157,8 @@ module _ (input : Input) (l : WideLinking) (law : LinkedHaveNoCause) (whole : Is
   wide_no_cause faults.NotYet (inr (inr (inr cause))) = let bad = no_table_cause tables.NotYet cause in absurd cc
   wide_no_cause faults.NoModule cause = let bad = sym h.links_input.hands ∙ cause in absurd cc
   wide_no_cause faults.NoWorld cause = let bad = sym h.links_input.chooses ∙ cause in absurd cc
+  wide_no_cause faults.ExportUnsupplied cause = absurd (h.exports.all cause)
+  wide_no_cause faults.ExportNotInWorld cause = absurd (h.exports.alone cause)
   wide_no_cause (faults.BadModule m) cause = absurd (no_bad_module input h.links_input.handed l.main h.links_input.hands h.links_input.reads m cause)
   wide_no_cause (faults.Linking fault) cause = absurd (no_core_cause fault cause)
   wide_no_cause faults.NoMemory cause = let bad = no_table_cause tables.NoMemory cause in absurd cc

@@ -17,7 +17,7 @@ use Rattle.component_session.specs.Faults.{of_linking, of_core, of_table, of_com
 use Rattle.component_session.specs.Input.{Input, IsLinkingOf, IsWideLinkingOf}
 use Rattle.wit_component.specs.Linking.{Linking}
 use Rattle.wit_component.specs.Cause.{IsLinkCause, IsEncodeCause}
-use Rattle.component_session.specs.Refusals.{AsksBeyond, IsWide, OptionsBeyond, IsInputCause, IsCause, IsBuildCause, IsAuditCause, of_links, of_size, of_wide_size, of_names}
+use Rattle.component_session.specs.Refusals.{AsksBeyond, AreExportsSupplied, IsWide, OptionsBeyond, IsInputCause, IsCause, IsBuildCause, IsAuditCause, of_links, of_size, of_wide_size, of_names}
 use Rattle.component_audit.specs.Judged.{IsJudgeCause}
 
 -- ---- of an input
@@ -26,6 +26,8 @@ pub input_cause_is : (input : Input) (fault : Fault) → IsInputCause input faul
 input_cause_is input faults.NotYet cause = inl cause
 input_cause_is input faults.NoModule cause = cause
 input_cause_is input faults.NoWorld cause = cause
+input_cause_is input faults.ExportUnsupplied cause = cause
+input_cause_is input faults.ExportNotInWorld cause = cause
 input_cause_is input (faults.BadModule m) cause = cause
 input_cause_is input (faults.Linking f) cause = absurd cause
 input_cause_is input faults.NoMemory cause = absurd cause
@@ -41,7 +43,7 @@ input_audit_cause_is input bytes fault cause = IsAuditCause.of_input cause
 
 -- ---- of plain functions
 
-module _ (input : Input) (l : Linking) (links : IsLinkingOf input l) (here : AsksBeyond input → ⊥) (plain : IsWide input → ⊥) where
+module _ (input : Input) (l : Linking) (links : IsLinkingOf input l) (here : AsksBeyond input → ⊥) (exports : AreExportsSupplied input) (plain : IsWide input → ⊥) where
   pub link_cause_is : (fault : LinkFault) → IsLinkCause l fault → IsCause input (of_linking fault)
   link_cause_is linking.NotYet cause = inr (inl (l, links, here, plain, cause))
   link_cause_is linking.DuplicateImport cause = inl (l, links, here, plain, cause)
@@ -55,11 +57,11 @@ module _ (input : Input) (l : Linking) (links : IsLinkingOf input l) (here : Ask
 
   pub encode_cause_is : (fault : LinkFault) → IsEncodeCause l fault → IsBuildCause input (of_linking fault)
   encode_cause_is fault (inl cause) = of_links (link_cause_is fault cause)
-  encode_cause_is fault (inr (is, linkable, large)) = of_size (ap of_linking is) l (record { links_input = links; here = here; plain = plain; linkable = linkable }) large
+  encode_cause_is fault (inr (is, linkable, large)) = of_size (ap of_linking is) l (record { links_input = links; here = here; exports = exports; plain = plain; linkable = linkable }) large
 
   pub audit_cause_is : (bytes : List ℕ) (fault : LinkFault) → IsJudgeCause l bytes fault → IsAuditCause input bytes (of_linking fault)
   audit_cause_is bytes linking.NotYet (inl cause) = IsAuditCause.of_links plain (link_cause_is linking.NotYet cause)
-  audit_cause_is bytes linking.NotYet (inr (linkable, beyond)) = IsAuditCause.of_bytes refl l (record { links_input = links; here = here; plain = plain; linkable = linkable }) beyond
+  audit_cause_is bytes linking.NotYet (inr (linkable, beyond)) = IsAuditCause.of_bytes refl l (record { links_input = links; here = here; exports = exports; plain = plain; linkable = linkable }) beyond
   audit_cause_is bytes linking.DuplicateImport cause = IsAuditCause.of_links plain (link_cause_is linking.DuplicateImport cause)
   audit_cause_is bytes linking.UnknownImport cause = IsAuditCause.of_links plain (link_cause_is linking.UnknownImport cause)
   audit_cause_is bytes linking.Ambiguous cause = IsAuditCause.of_links plain (link_cause_is linking.Ambiguous cause)
@@ -74,7 +76,7 @@ module _ (input : Input) (l : Linking) (links : IsLinkingOf input l) (here : Ask
 pub options_cause_is : (input : Input) (l : WideLinking) → IsWideLinkingOf input l → (AsksBeyond input → ⊥) → IsWide input → OptionsBeyond input → IsCause input faults.NotYet
 options_cause_is input l links here wide cause = inr (inr (inl (l, links, here, wide, cause)))
 
-module _ (input : Input) (l : WideLinking) (links : IsWideLinkingOf input l) (here : AsksBeyond input → ⊥) (wide : IsWide input) (options : OptionsBeyond input → ⊥) where
+module _ (input : Input) (l : WideLinking) (links : IsWideLinkingOf input l) (here : AsksBeyond input → ⊥) (exports : AreExportsSupplied input) (wide : IsWide input) (options : OptionsBeyond input → ⊥) where
   core_cause_is : (fault : CoreFault) → IsTableCause l (tables.Link fault) → IsCause input (of_core fault)
   core_cause_is core.NotYet cause = absurd cause
   core_cause_is core.DuplicateImport cause = inr (l, links, here, wide, cause)
@@ -95,5 +97,5 @@ module _ (input : Input) (l : WideLinking) (links : IsWideLinkingOf input l) (he
 
   pub component_cause_is : (fault : ComponentFault) → IsComponentCause l fault → IsBuildCause input (of_component fault)
   component_cause_is (components.Table fault) (inl cause) = of_links (table_cause_is fault cause)
-  component_cause_is (components.Table fault) (inr (is, (t, at), two)) = of_names (ap of_table is) l (record { links_input = links; here = here; wide = wide; options = options; table = t; is = at }) two
-  component_cause_is components.TooLarge (t, at) = of_wide_size refl l (record { links_input = links; here = here; wide = wide; options = options; table = t; is = at })
+  component_cause_is (components.Table fault) (inr (is, (t, at), two)) = of_names (ap of_table is) l (record { links_input = links; here = here; exports = exports; wide = wide; options = options; table = t; is = at }) two
+  component_cause_is components.TooLarge (t, at) = of_wide_size refl l (record { links_input = links; here = here; exports = exports; wide = wide; options = options; table = t; is = at })

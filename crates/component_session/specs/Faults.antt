@@ -81,6 +81,8 @@ abbrev pub code : Fault → Option (List ℕ)
 code faults.NotYet = Some (codes "X1")
 code faults.NoModule = Some (codes "B1")
 code faults.NoWorld = Some (codes "B2")
+code faults.ExportUnsupplied = Some (codes "B3")
+code faults.ExportNotInWorld = Some (codes "B5")
 code (faults.BadModule cause) = Some (module_code cause)
 code (faults.Linking fault) = link.code fault
 code faults.NoMemory = Some (codes "B13")
@@ -104,6 +106,8 @@ abbrev pub name : Fault → List ℕ
 name faults.NotYet = codes "NotYet"
 name faults.NoModule = codes "NoModule"
 name faults.NoWorld = codes "NoWorld"
+name faults.ExportUnsupplied = codes "ExportUnsupplied"
+name faults.ExportNotInWorld = codes "ExportNotInWorld"
 name (faults.BadModule cause) = module_name cause
 name (faults.Linking fault) = link.name fault
 name faults.NoMemory = codes "NoMemory"

@@ -20,7 +20,7 @@ use Rattle.wit_component.specs.Right.{MeetsAll, listed}
 use Rattle.wit_component.specs.Cause.{IsTooLarge}
 use Rattle.component_audit.specs.declared.verdict.Verdict.{Verdict}
 use Rattle.component_audit.specs.declared.verdict.Verdict.TheVariants.{Yes, Finding}
-use Rattle.component_audit.specs.Judged.{IsFinding}
+use Rattle.component_audit.specs.Judged.{IsBeyond, IsFinding}
 use Rattle.component_session.specs.Input.{Input, IsLinkingOf}
 use Rattle.linked_components.specs.Build.{IsEncoding}
 use Rattle.link_table.specs.Linking.{Linking as WideLinking}
@@ -87,8 +87,9 @@ abbrev pub IsVerdict : Input → Linking → List ℕ → Verdict → Type 0
 IsVerdict input l bytes Yes = IsRight input bytes
 IsVerdict input l bytes (Finding kind offset) = (offset ≤ length bytes) × IsFinding l bytes kind offset
 
--- nothing stands in the way, and this is a verdict on the bytes
+-- nothing stands in the way, the bytes have nothing that is still to come, and this is a verdict on them
 pub record IsJudged (input : Input) (bytes : List ℕ) (verdict : Verdict) : Type 0 where
   pub linking : Linking
   pub ready : IsReady input linking
+  pub here : IsBeyond linking bytes → ⊥
   pub says : IsVerdict input linking bytes verdict

@@ -13,5 +13,7 @@ pub record WellKept (eq : PackageName → PackageName → Bool) (resolved : Reso
   pub come : ComeOfTexts eq resolved
   -- the chosen world is there
   pub chosen : ForSome world (λ w. w < length (worlds_of resolved))
-  -- the main module was read
+  -- so is the world of the main module
+  pub there : ForSome main (λ m. m.world < length (worlds_of resolved))
+  -- which was read
   pub handed : ForSome main (λ m. (core : ModuleValue) × IsModule m.bytes core)

@@ -21,6 +21,7 @@ use Rattle.link_table.specs.Cause.{IsTableCause}
 use Rattle.linked_components.specs.Build.{HasTwoNames}
 use Rattle.linked_components.specs.Tracks.{HasOneTrack}
 use Rattle.component_audit.specs.Judged.{IsBeyond}
+use Rattle.export_keys.specs.Keys.{ExportsMore}
 use Rattle.wit_resolution.specs.Names.{known_of}
 use Rattle.wit_types.specs.declared.world.World.{World}
 use Rattle.component_session.specs.Input.{Input, ModuleInput, IsChosen, IsLinkingOf, IsWideLinkingOf, world_at, worlds_of}
@@ -45,6 +46,30 @@ pub record ImportsBeyond (input : Input) : Type 0 where
 pub data AsksBeyond (input : Input) : Type 0 where
   by_stand_ins : input.options.shim_return_call_ref ≡ true → AsksBeyond input
   by_names : input.options.debug_names ≡ true → AsksBeyond input
+
+-- ---- what worlds export
+
+-- the chosen world, and that of the main module
+pub record HaveWorlds (input : Input) (chosen handed : World) : Type 0 where
+  pub chosen_id : ℕ
+  pub main : ModuleInput
+  pub chooses : input.world ≡ Some chosen_id
+  pub hands : input.main ≡ Some main
+  pub chosen_is : slice_get (worlds_of input.resolved) chosen_id ≡ Some chosen
+  pub handed_is : slice_get (worlds_of input.resolved) main.world ≡ Some handed
+
+-- the chosen world exports something under a key under which that of the main module doesn't
+abbrev pub LacksExports : Input → Type 0
+LacksExports input = (chosen : World) × (handed : World) × HaveWorlds input chosen handed × ExportsMore chosen handed
+
+-- or the other way round
+abbrev pub HasOtherExports : Input → Type 0
+HasOtherExports input = (chosen : World) × (handed : World) × HaveWorlds input chosen handed × ExportsMore handed chosen
+
+-- the main module's world exports exactly what the chosen one does
+pub record AreExportsSupplied (input : Input) : Type 0 where
+  pub all : LacksExports input → ⊥
+  pub alone : HasOtherExports input → ⊥
 
 -- ---- plain and wide inputs
 
@@ -100,6 +125,8 @@ abbrev pub IsInputCause : Input → Fault → Type 0
 IsInputCause input faults.NotYet = AsksBeyond input
 IsInputCause input faults.NoModule = input.main ≡ None
 IsInputCause input faults.NoWorld = input.world ≡ None
+IsInputCause input faults.ExportUnsupplied = LacksExports input
+IsInputCause input faults.ExportNotInWorld = HasOtherExports input
 IsInputCause input (faults.BadModule cause) = (handed : ModuleInput) × (input.main ≡ Some handed) × IsModuleCause handed.bytes (faults.BadModule cause)
 IsInputCause input (faults.Linking cause) = ⊥
 IsInputCause input faults.NoMemory = ⊥
@@ -112,6 +139,8 @@ abbrev pub IsCause : Input → Fault → Type 0
 IsCause input faults.NotYet = IsInputCause input faults.NotYet ⊎ (OfLinking input IsStillToCome ⊎ (OfWide input (λ l. OptionsBeyond input) ⊎ OfWide input (λ l. IsTableCause l tables.NotYet)))
 IsCause input faults.NoModule = IsInputCause input faults.NoModule
 IsCause input faults.NoWorld = IsInputCause input faults.NoWorld
+IsCause input faults.ExportUnsupplied = IsInputCause input faults.ExportUnsupplied
+IsCause input faults.ExportNotInWorld = IsInputCause input faults.ExportNotInWorld
 IsCause input (faults.BadModule cause) = IsInputCause input (faults.BadModule cause)
 IsCause input (faults.Linking cause) = IsLinkingCause input cause
 IsCause input faults.NoMemory = OfWide input (λ l. IsTableCause l tables.NoMemory)
@@ -125,6 +154,7 @@ IsCause input faults.OutOfMemory = Unit {0}
 pub record IsReady (input : Input) (l : Linking) : Type 0 where
   pub links_input : IsLinkingOf input l
   pub here : AsksBeyond input → ⊥
+  pub exports : AreExportsSupplied input
   pub plain : IsWide input → ⊥
   pub linkable : IsLinkable l
 
@@ -132,6 +162,7 @@ pub record IsReady (input : Input) (l : Linking) : Type 0 where
 pub record IsWideReady (input : Input) (l : WideLinking) : Type 0 where
   pub links_input : IsWideLinkingOf input l
   pub here : AsksBeyond input → ⊥
+  pub exports : AreExportsSupplied input
   pub wide : IsWide input
   pub options : OptionsBeyond input → ⊥
   pub table : Table

@@ -39,6 +39,12 @@ pub enum Fault {
     /// B2: no world was chosen.
     #[error("B2 NoWorld")]
     NoWorld,
+    /// B3: the chosen world exports something under a key under which no module's world does.
+    #[error("B3 ExportUnsupplied")]
+    ExportUnsupplied,
+    /// B5: a module's world exports something under a key under which the chosen one doesn't.
+    #[error("B5 ExportNotInWorld")]
+    ExportNotInWorld,
     /// B6: the bytes of a module can't be read, for M1, M2 or M3.
     #[error("{0}")]
     BadModule(ModuleCause),
@@ -218,6 +224,8 @@ impl Fault {
             Fault::NotYet => Some("X1"),
             Fault::NoModule => Some("B1"),
             Fault::NoWorld => Some("B2"),
+            Fault::ExportUnsupplied => Some("B3"),
+            Fault::ExportNotInWorld => Some("B5"),
             Fault::BadModule(cause) => Some(cause.code()),
             Fault::Linking(fault) => fault.code(),
             Fault::NoMemory => Some("B13"),
@@ -235,6 +243,8 @@ impl Fault {
             Fault::NotYet => "NotYet",
             Fault::NoModule => "NoModule",
             Fault::NoWorld => "NoWorld",
+            Fault::ExportUnsupplied => "ExportUnsupplied",
+            Fault::ExportNotInWorld => "ExportNotInWorld",
             Fault::BadModule(cause) => cause.name(),
             Fault::Linking(fault) => fault.name(),
             Fault::NoMemory => "NoMemory",

@@ -1,6 +1,7 @@
 //! What a session links: its link table, its component, and the judgement of one.
 
 ghost use Rattle.std.specs.Prelude.{◌≡◌, ◌<◌, true, false, length, None, Some, Err, IfOk, IfErr, IfSome, OnOk, Any, map, slice_get};
+ghost use Rattle.component_session.specs.Handed.{module_input};
 ghost use Rattle.component_session.specs.Headline as headline;
 ghost use Rattle.component_session.specs.Input as inputs;
 ghost use Rattle.component_session.specs.Refusals as refusals;
@@ -14,11 +15,12 @@ ghost use Rattle.wit_resolution.specs.Names.{known_of};
 ghost use Rattle.wit_types.specs.declared.world.World.{World as WitWorld};
 
 use crate::fault::{Fault, module_refusal};
-use crate::session::Session;
+use crate::session::{HandedModule, Session};
 use binary_grammar::ReadError;
 use component_audit::{Verdict, judge};
 use component_sections::read_definitions;
 use core_links::CoreNames;
+use export_keys::exports_all;
 use labelled_worlds::{law_exported_functions_are_apart, law_worlds_have_parts_apart};
 use link_table::Linking as WideLinking;
 use linked_components::tracks_are_apart;
@@ -39,14 +41,36 @@ struct MainModule<'a> {
 }
 
 impl<'a> Session<'a> {
-    /// The chosen world, where options ask for nothing that is still to come.
+    /// Refuses a main module whose world doesn't export exactly what the chosen one does, by keys.
+    fn check_exports(&self, world: WorldId, main: &HandedModule<'_>) -> Result<(), Fault>
+        requires chosen { self.now.world ≡ Some world }
+        requires main { self.now.main ≡ Some (module_input main.now) }
+        ensures ok { OnOk result (refusals.AreExportsSupplied self.now) }
+        ensures cause { IfErr result (refusals.IsInputCause self.now) }
+    {
+        self.law_chosen_is_there();
+        self.law_main_world_is_there();
+        let worlds = self.resolve().worlds();
+        let chosen = worlds.get(world);
+        let handed = worlds.get(main.world);
+        if !exports_all(handed, chosen) {
+            return Err(Fault::ExportUnsupplied);
+        }
+        if !exports_all(chosen, handed) {
+            return Err(Fault::ExportNotInWorld);
+        }
+        Ok(())
+    }
+
+    /// The chosen world, where options ask for nothing that is still to come, and the main module's world exports what it does.
     fn chosen_world(&self) -> Result<WorldId, Fault>
         ensures found { IfOk result (λ w. self.now.world ≡ Some w) }
         ensures options { OnOk result (refusals.AsksBeyond self.now → ⊥) }
+        ensures exports { OnOk result (refusals.AreExportsSupplied self.now) }
         ensures cause { IfErr result (refusals.IsInputCause self.now) }
         ensures first { self.now.main ≡ None → result ≡ Err Fault.NoModule }
     {
-        let Some(_main) = self.main() else {
+        let Some(main) = self.main() else {
             return Err(Fault::NoModule);
         };
         let options = self.options();
@@ -56,6 +80,7 @@ impl<'a> Session<'a> {
         let Some(world) = self.world() else {
             return Err(Fault::NoWorld);
         };
+        self.check_exports(world, main)?;
         Ok(world)
     }
 
@@ -185,6 +210,7 @@ impl<'a> Session<'a> {
     /// The lines of plain functions.
     fn plain_links(&self, plain: &World, main: MainModule<'a>) -> Result<Vec<Link>, Fault>
         requires here { refusals.AsksBeyond self.now → ⊥ }
+        requires exports { refusals.AreExportsSupplied self.now }
         requires plain { refusals.IsPlain self.now (world_meaning plain.now) }
         requires fits { world_fits (world_meaning plain.now) ≡ true }
         requires main { inputs.IsMainModule self.now main.bytes.now main.encoding (module_value main.core) }
@@ -199,6 +225,7 @@ impl<'a> Session<'a> {
     /// The lines of all that the chosen world has.
     fn wide_links(&self, world: WorldId, main: &MainModule<'a>) -> Result<Vec<Link>, Fault>
         requires here { refusals.AsksBeyond self.now → ⊥ }
+        requires exports { refusals.AreExportsSupplied self.now }
         requires wide { refusals.IsWide self.now }
         requires chosen { self.now.world ≡ Some world }
         requires there { world < length (inputs.worlds_of self.now.resolved) }
@@ -216,7 +243,7 @@ impl<'a> Session<'a> {
     /// The link table: what each core import of the main module and each exported function of the world ends at,
     /// imports first, by module text and then by name.
     ///
-    /// Answers B1 before any other cause, X1, B2, and B7 to B17.
+    /// Answers B1 before any other cause, X1, B2, B3, B5, and B7 to B17.
     pub fn links(&self) -> Result<Vec<Link>, Fault>
         ensures links { IfOk result (λ v. headline.IsLinkTable self.now (map link_value v.items)) }
         ensures cause { IfErr result (refusals.IsCause self.now) }
@@ -234,6 +261,7 @@ impl<'a> Session<'a> {
     /// The bytes of the component of plain functions.
     fn plain_build(&self, plain: &World, main: MainModule<'a>) -> Result<Vec<u8>, Fault>
         requires here { refusals.AsksBeyond self.now → ⊥ }
+        requires exports { refusals.AreExportsSupplied self.now }
         requires plain { refusals.IsPlain self.now (world_meaning plain.now) }
         requires fits { world_fits (world_meaning plain.now) ≡ true }
         requires main { inputs.IsMainModule self.now main.bytes.now main.encoding (module_value main.core) }
@@ -248,6 +276,7 @@ impl<'a> Session<'a> {
     /// The bytes of the component of all that the chosen world has.
     fn wide_build(&self, world: WorldId, main: &MainModule<'a>) -> Result<Vec<u8>, Fault>
         requires here { refusals.AsksBeyond self.now → ⊥ }
+        requires exports { refusals.AreExportsSupplied self.now }
         requires wide { refusals.IsWide self.now }
         requires chosen { self.now.world ≡ Some world }
         requires there { world < length (inputs.worlds_of self.now.resolved) }
@@ -283,7 +312,7 @@ impl<'a> Session<'a> {
 
     /// The bytes of the component that joins the main module with the chosen world.
     ///
-    /// Answers B1 before any other cause, X1, B2, B7 to B17, and B25 where none of the others holds.
+    /// Answers B1 before any other cause, X1, B2, B3, B5, B7 to B17, and B25 where none of the others holds.
     pub fn build(&self) -> Result<Vec<u8>, Fault>
         ensures right { IfOk result (λ v. headline.IsBuilt self.now v.items) }
         ensures cause { IfErr result (refusals.IsBuildCause self.now) }
@@ -314,6 +343,7 @@ impl<'a> Session<'a> {
         bytes: &[u8],
     ) -> Result<Verdict, Fault>
         requires here { refusals.AsksBeyond self.now → ⊥ }
+        requires exports { refusals.AreExportsSupplied self.now }
         requires plain { refusals.IsPlain self.now (world_meaning plain.now) }
         requires fits { world_fits (world_meaning plain.now) ≡ true }
         requires main { inputs.IsMainModule self.now main.bytes.now main.encoding (module_value main.core) }

@@ -152,6 +152,13 @@ impl<'a> Session<'a> {
         let _ = &self.resolve;
     }
 
+    /// And so is the world of the main module.
+    pub(crate) fn law_main_world_is_there(&self)
+        ensures { ForSome self.now.main (λ m. m.world < length (worlds_of self.now.resolved)) }
+    {
+        let _ = &self.resolve;
+    }
+
     /// The chosen world.
     pub fn world(&self) -> Option<WorldId>
         ensures { result ≡ self.now.world }

@@ -1,11 +1,13 @@
 -- Why calls are refused.
-use Rattle.std.specs.Prelude.{◌≡◌, ◌⊎◌, ℕ, List, Option, Some, None, IfSome}
+use Rattle.std.specs.Prelude.{◌≡◌, ◌⊎◌, ℕ, List, Option, Some, None, IfSome, codes}
 use Rattle.std.specs.Borrow.{Lends, MutBor, Fml}
 use Rattle.wit_words.specs.declared.source_map.Span.{Span}
 use Rattle.wit_words.specs.declared.source_map.SourceFault.{SourceFault}
 use Rattle.wit_words.specs.declared.source_map.SourceFault.TheVariants as source
 use Rattle.wit_words.specs.declared.fault.SyntaxFault.TheVariants as syntax
 use Rattle.wit_words.specs.Sources.{SourceText, IsLineOf}
+use Rattle.wit_words.specs.Codes as words
+use Rattle.wit_rules.specs.Codes as rules
 use Rattle.wit_rules.specs.declared.fault.PackageFault.{PackageFault}
 use Rattle.wit_rules.specs.declared.fault.PackageFault.TheVariants as text
 use Rattle.wit_offsets.specs.Offsets.{span_at, SpanFits}
@@ -43,6 +45,39 @@ span_of OutOfMemory = None
 -- it is the line of a refusal, which begins with its place, if that has one
 abbrev pub IsErrorLine : List SourceText → ResolveErrorKind → List ℕ → Type 0
 IsErrorLine texts kind line = IfSome (span_of kind) (λ at. IsLineOf texts at line)
+
+-- ---- codes and names, which are part of what is printed
+
+-- want of memory has no code
+abbrev pub code : ResolveErrorKind → Option (List ℕ)
+code (Syntax rule at) = Some (words.code rule)
+code (Package rule at) = Some (rules.code rule)
+code TooLarge = Some (codes "S8")
+code (PackageNotFound at) = Some (codes "G1")
+code (ItemNotFound at) = Some (codes "G2")
+code (PackageCycle at) = Some (codes "G3")
+code (DuplicatePackage at) = Some (codes "G4")
+code (IncludeClash at) = Some (codes "G5")
+code (ExportConflict at) = Some (codes "G6")
+code (GateVersion at) = Some (codes "G7")
+code WorldNotFound = Some (codes "G8")
+code (ForeignShape at) = Some (codes "G10")
+code OutOfMemory = None
+
+abbrev pub name : ResolveErrorKind → List ℕ
+name (Syntax rule at) = words.name rule
+name (Package rule at) = rules.name rule
+name TooLarge = codes "TooLarge"
+name (PackageNotFound at) = codes "PackageNotFound"
+name (ItemNotFound at) = codes "ItemNotFound"
+name (PackageCycle at) = codes "PackageCycle"
+name (DuplicatePackage at) = codes "DuplicatePackage"
+name (IncludeClash at) = codes "IncludeClash"
+name (ExportConflict at) = codes "ExportConflict"
+name (GateVersion at) = codes "GateVersion"
+name WorldNotFound = codes "WorldNotFound"
+name (ForeignShape at) = codes "ForeignShape"
+name OutOfMemory = codes "OutOfMemory"
 
 -- ---- what is refused elsewhere, under its name here
 

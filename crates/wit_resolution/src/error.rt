@@ -91,6 +91,52 @@ pub enum ResolveErrorKind {
     OutOfMemory,
 }
 
+impl ResolveErrorKind {
+    ghost use Rattle.std.specs.Prelude.{option_map};
+
+    /// The code of what it is, as `G2`; none for want of memory.
+    pub fn code(&self) -> Option<&'static str>
+        ensures { option_map (λ s. s.now) result ≡ spec.code self.now }
+    {
+        match self {
+            ResolveErrorKind::Syntax { rule, .. } => Some(rule.code()),
+            ResolveErrorKind::Package { rule, .. } => Some(rule.code()),
+            ResolveErrorKind::TooLarge => Some("S8"),
+            ResolveErrorKind::PackageNotFound { .. } => Some("G1"),
+            ResolveErrorKind::ItemNotFound { .. } => Some("G2"),
+            ResolveErrorKind::PackageCycle { .. } => Some("G3"),
+            ResolveErrorKind::DuplicatePackage { .. } => Some("G4"),
+            ResolveErrorKind::IncludeClash { .. } => Some("G5"),
+            ResolveErrorKind::ExportConflict { .. } => Some("G6"),
+            ResolveErrorKind::GateVersion { .. } => Some("G7"),
+            ResolveErrorKind::WorldNotFound => Some("G8"),
+            ResolveErrorKind::ForeignShape { .. } => Some("G10"),
+            ResolveErrorKind::OutOfMemory => None,
+        }
+    }
+
+    /// The name of what it is, as `ItemNotFound`.
+    pub fn name(&self) -> &'static str
+        ensures { result.now ≡ spec.name self.now }
+    {
+        match self {
+            ResolveErrorKind::Syntax { rule, .. } => rule.name(),
+            ResolveErrorKind::Package { rule, .. } => rule.name(),
+            ResolveErrorKind::TooLarge => "TooLarge",
+            ResolveErrorKind::PackageNotFound { .. } => "PackageNotFound",
+            ResolveErrorKind::ItemNotFound { .. } => "ItemNotFound",
+            ResolveErrorKind::PackageCycle { .. } => "PackageCycle",
+            ResolveErrorKind::DuplicatePackage { .. } => "DuplicatePackage",
+            ResolveErrorKind::IncludeClash { .. } => "IncludeClash",
+            ResolveErrorKind::ExportConflict { .. } => "ExportConflict",
+            ResolveErrorKind::GateVersion { .. } => "GateVersion",
+            ResolveErrorKind::WorldNotFound => "WorldNotFound",
+            ResolveErrorKind::ForeignShape { .. } => "ForeignShape",
+            ResolveErrorKind::OutOfMemory => "OutOfMemory",
+        }
+    }
+}
+
 /// Why a call of a `Resolve` is refused.
 #[derive(Clone, Debug, PartialEq, Eq, Drop, Error)]
 #[error("{kind}")]

@@ -1,4 +1,4 @@
-//! Groups of files: those of one package, and of the packages that are nested in them.
+//! Groups of files: those of one package, and of the packages that are nested in them; and steps, of groups that are pushed together.
 
 use std::alloc::{AllocError, Global};
 use std::rt::Files;
@@ -71,11 +71,29 @@ fn group_of_texts(alloc: Global, first: usize, texts: &str) -> Result<Group, All
     Ok(group)
 }
 
-/// The groups of a row, by the steps in which they are pushed.
-pub type Steps = Vec<Vec<Group>>;
+/// Groups that are pushed together, the main one first.
+#[derive(Drop)]
+pub struct Step {
+    /// Whether each group is parsed by itself, and all are pushed as groups.
+    pub parsed: bool,
+    /// The groups.
+    pub groups: Vec<Group>,
+}
 
-/// The groups of texts that are pushed together, of which the first file is that of the row.
-fn step_of_texts(alloc: Global, first: usize, texts: &str) -> Result<Vec<Group>, AllocError> {
+/// The steps of a row.
+pub type Steps = Vec<Step>;
+
+/// Whether the groups of a step are parsed by themselves, and the words behind that.
+fn manner(words: &str) -> (bool, &str) {
+    match words.strip_prefix("groups ") {
+        Some(words) => (true, words),
+        None => (false, words),
+    }
+}
+
+/// The step of texts, of which the first file is that of the row.
+fn step_of_texts(alloc: Global, first: usize, words: &str) -> Result<Step, AllocError> {
+    let (parsed, texts) = manner(words);
     let mut groups = Vec::new(alloc);
     let mut first = first;
     for texts in texts.split(" ++ ") {
@@ -83,7 +101,7 @@ fn step_of_texts(alloc: Global, first: usize, texts: &str) -> Result<Vec<Group>,
         first = first.saturating_add(group.paths.len());
         groups.push(group)?;
     }
-    Ok(groups)
+    Ok(Step { parsed, groups })
 }
 
 /// How many files groups have.
@@ -99,10 +117,10 @@ fn files_in(groups: &[Group]) -> usize {
 pub fn steps_of_texts(alloc: Global, row: &str) -> Result<Steps, AllocError> {
     let mut steps = Vec::new(alloc);
     let mut first = 0_usize;
-    for texts in row.split(" || ") {
-        let groups = step_of_texts(alloc, first, texts)?;
-        first = first.saturating_add(files_in(groups.as_slice()));
-        steps.push(groups)?;
+    for words in row.split(" || ") {
+        let step = step_of_texts(alloc, first, words)?;
+        first = first.saturating_add(files_in(step.groups.as_slice()));
+        steps.push(step)?;
     }
     Ok(steps)
 }
@@ -116,20 +134,21 @@ fn group_of_files(rt: &(impl Files + AllocGlobal), names: &str) -> io::Result<Gr
     Ok(group)
 }
 
-/// The groups of files that are pushed together.
-fn step_of_files(rt: &(impl Files + AllocGlobal), names: &str) -> io::Result<Vec<Group>> {
+/// The step of files of those names.
+fn step_of_files(rt: &(impl Files + AllocGlobal), words: &str) -> io::Result<Step> {
+    let (parsed, names) = manner(words);
     let mut groups = Vec::new(rt.alloc());
     for names in names.split(" ++ ") {
         groups.push(group_of_files(rt, names)?)?;
     }
-    Ok(groups)
+    Ok(Step { parsed, groups })
 }
 
 /// The steps of a row that names files.
 pub fn steps_of_files(rt: &(impl Files + AllocGlobal), row: &str) -> io::Result<Steps> {
     let mut steps = Vec::new(rt.alloc());
-    for names in row.split(" || ") {
-        steps.push(step_of_files(rt, names)?)?;
+    for words in row.split(" || ") {
+        steps.push(step_of_files(rt, words)?)?;
     }
     Ok(steps)
 }

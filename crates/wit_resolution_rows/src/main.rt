@@ -3,17 +3,23 @@
 //!
 //! Files of one group are parted by ` | ` and are one package, with the packages that are nested in them; groups that are pushed
 //! together are parted by ` ++ `, of which those behind the first have a file each; those that come behind others are parted by
-//! ` || `, and `\n` in a row is a line feed. A line that begins with `= ` gives the words that stand in front of each row behind
-//! it, up to the next such line, and `=` alone says that nothing does; one that begins with `+` names the features that are active
-//! for the rows behind it, of which `*` stands for all. A line that begins with `& ` names files that lie where the
-//! program runs, groups of them parted in the same way. Behind ` >> ` stand questions, parted by ` ; ` (`questions.rt`). Lines that
-//! begin with `# ` are titles.
+//! ` || `, and `\n` in a row is a line feed. Where `groups ` stands in front of groups that are pushed together, each of them is
+//! parsed by itself, they may all have several files, and they are pushed as groups. A line that begins with `= ` gives the words that
+//! stand in front of each row behind it, up to the next such line, and `=` alone says that nothing does; one that begins with `+` names
+//! the features that are active for the rows behind it, of which `*` stands for all. A line that begins with `& ` names files that lie
+//! where the program runs, groups of them parted in the same way. Behind ` >> ` stand questions, parted by ` ; ` (`questions.rt`). Lines
+//! that begin with `# ` are titles.
 #![tactic(auto)]
 
+mod core_exports;
+mod core_imports;
+mod core_names;
 mod deps;
 mod groups;
+mod named;
 mod names;
 mod packages;
+mod parsing;
 mod places;
 mod pushes;
 mod questions;

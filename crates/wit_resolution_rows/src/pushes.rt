@@ -1,6 +1,7 @@
 //! Groups of files that are pushed.
 
-use crate::groups::Group;
+use crate::groups::{Group, Step};
+use crate::parsing::{parsed, parsed_each};
 use std::alloc::{AllocError, Global};
 use wit_pages::Page;
 use wit_resolution::{Resolve, ResolveError};
@@ -38,7 +39,7 @@ fn push_texts(
 }
 
 /// Pushes the packages of a group of files together with those of others, which have a file each.
-fn push_groups(page: &mut Page, resolve: &mut Resolve, main: &Group, deps: &[Group]) {
+fn push_files(page: &mut Page, resolve: &mut Resolve, main: &Group, deps: &[Group]) {
     let alloc = page.alloc;
     match &main.files(alloc) {
         Ok(main) => match &only_files(alloc, deps) {
@@ -49,16 +50,35 @@ fn push_groups(page: &mut Page, resolve: &mut Resolve, main: &Group, deps: &[Gro
     }
 }
 
-/// Pushes groups of files together, and writes why that is refused, if it is.
-pub fn push(page: &mut Page, resolve: &mut Resolve, groups: &[Group]) {
-    let Some((main, deps)) = groups.split_first() else {
+/// Pushes a group that is parsed together with others, if there are some.
+fn push_parsed(page: &mut Page, resolve: &mut Resolve, main: &Group, deps: &[Group]) {
+    let Some(main) = parsed(page, main) else {
         return;
     };
+    let Some(deps) = parsed_each(page, deps) else {
+        return;
+    };
+    let pushed = if deps.is_empty() {
+        resolve.push_group(main)
+    } else {
+        resolve.push_groups(main, deps)
+    };
+    outcome(page, resolve, pushed);
+}
+
+/// Pushes the groups of a step together, and writes why that is refused, if it is.
+pub fn push(page: &mut Page, resolve: &mut Resolve, step: &Step) {
+    let Some((main, deps)) = step.groups.split_first() else {
+        return;
+    };
+    if step.parsed {
+        return push_parsed(page, resolve, main, deps);
+    }
     match main.only_file() {
         Some((path, text)) if deps.is_empty() => {
             let pushed = resolve.push_source(path, text);
             outcome(page, resolve, pushed);
         }
-        _ => push_groups(page, resolve, main, deps),
+        _ => push_files(page, resolve, main, deps),
     }
 }

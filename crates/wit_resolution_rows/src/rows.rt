@@ -1,6 +1,6 @@
 //! Rows, and the answers to them.
 
-use crate::groups::{Group, Steps, steps_of_files, steps_of_texts};
+use crate::groups::{Step, Steps, steps_of_files, steps_of_texts};
 use crate::pushes::push;
 use crate::{packages, questions};
 use std::alloc::{AllocError, Global};
@@ -30,13 +30,13 @@ fn activate(resolve: &mut Resolve, names: &str) -> Result<(), AllocError> {
 }
 
 /// The answer to groups of files that are pushed in those steps, one behind the other.
-fn answer_steps(page: &mut Page, active: &str, steps: &[Vec<Group>], asked: Option<&str>) {
+fn answer_steps(page: &mut Page, active: &str, steps: &[Step], asked: Option<&str>) {
     let mut resolve = Resolve::new(page.alloc);
     if activate(&mut resolve, active).is_err() {
         return page.refuse();
     }
-    for groups in steps {
-        push(page, &mut resolve, groups.as_slice());
+    for step in steps {
+        push(page, &mut resolve, step);
     }
     match asked {
         Some(asked) => questions::answer(page, &resolve, asked),

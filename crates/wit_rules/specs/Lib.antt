@@ -5,3 +5,4 @@ pub mod Labels
 pub mod Facts
 pub mod View
 pub mod DeclaredView
+pub mod Codes

@@ -1,6 +1,7 @@
 //! Why files aren't taken as a package.
 
 ghost use Rattle.std.specs.Prelude.{◌≡◌};
+ghost use Rattle.wit_rules.specs.Codes as codes;
 
 use std::alloc::{AllocError, AllocFailed};
 use thiserror::Error;
@@ -48,6 +49,48 @@ pub enum PackageRule {
     BadVersion,
 }
 
+impl PackageRule {
+    /// Its code, as `P4`.
+    pub fn code(self) -> &'static str
+        ensures { result.now ≡ codes.code self }
+    {
+        match self {
+            PackageRule::NoPackageName => "P1",
+            PackageRule::PackageMismatch => "P2",
+            PackageRule::DuplicateName => "P3",
+            PackageRule::NameNotFound => "P4",
+            PackageRule::WrongKind => "P5",
+            PackageRule::Cycle => "P6",
+            PackageRule::BorrowInResult => "P7",
+            PackageRule::BadConstructor => "P8",
+            PackageRule::BadHandle => "P9",
+            PackageRule::EmptyCases => "P10",
+            PackageRule::BadGate => "P11",
+            PackageRule::BadVersion => "S5",
+        }
+    }
+
+    /// Its name, as `NameNotFound`.
+    pub fn name(self) -> &'static str
+        ensures { result.now ≡ codes.name self }
+    {
+        match self {
+            PackageRule::NoPackageName => "NoPackageName",
+            PackageRule::PackageMismatch => "PackageMismatch",
+            PackageRule::DuplicateName => "DuplicateName",
+            PackageRule::NameNotFound => "NameNotFound",
+            PackageRule::WrongKind => "WrongKind",
+            PackageRule::Cycle => "Cycle",
+            PackageRule::BorrowInResult => "BorrowInResult",
+            PackageRule::BadConstructor => "BadConstructor",
+            PackageRule::BadHandle => "BadHandle",
+            PackageRule::EmptyCases => "EmptyCases",
+            PackageRule::BadGate => "BadGate",
+            PackageRule::BadVersion => "BadVersion",
+        }
+    }
+}
+
 /// Why files aren't taken as a package.
 #[derive(Clone, Copy, Debug, PartialEq, Eq, Drop, Error)]
 pub enum PackageFault {
@@ -62,8 +105,8 @@ pub enum PackageFault {
     Broken {
         /// The rule.
         rule: PackageRule,
-        /// Where: the name, the type, the result, the version or the first gate that breaks it. Where no file has a header it is empty
-        /// and stands where texts begin.
+        /// Where: the name, the type, the result, the version or the first gate that breaks it. Where no file has a header it is the
+        /// first item, and empty where there is none.
         span: Span,
     },
 }

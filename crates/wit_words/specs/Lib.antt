@@ -8,3 +8,4 @@ pub mod Version
 pub mod Sources
 pub mod NameKey
 pub mod Docs
+pub mod Codes

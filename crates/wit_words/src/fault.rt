@@ -1,6 +1,7 @@
 //! Why a text isn't taken.
 
 ghost use Rattle.std.specs.Prelude.{◌≡◌};
+ghost use Rattle.wit_words.specs.Codes as codes;
 
 use crate::source_map::Span;
 use std::alloc::{AllocError, AllocFailed};
@@ -30,6 +31,38 @@ pub enum Rule {
     /// S7: a type stands in more than 100 angle brackets.
     #[error("S7 TooDeep")]
     TooDeep,
+}
+
+impl Rule {
+    /// Its code, as `S3`.
+    pub fn code(self) -> &'static str
+        ensures { result.now ≡ codes.code self }
+    {
+        match self {
+            Rule::BadCharacter => "S1",
+            Rule::OpenComment => "S2",
+            Rule::BadIdentifier => "S4",
+            Rule::Unexpected => "S3",
+            Rule::BadVersion => "S5",
+            Rule::BadNumber => "S6",
+            Rule::TooDeep => "S7",
+        }
+    }
+
+    /// Its name, as `Unexpected`.
+    pub fn name(self) -> &'static str
+        ensures { result.now ≡ codes.name self }
+    {
+        match self {
+            Rule::BadCharacter => "BadCharacter",
+            Rule::OpenComment => "OpenComment",
+            Rule::BadIdentifier => "BadIdentifier",
+            Rule::Unexpected => "Unexpected",
+            Rule::BadVersion => "BadVersion",
+            Rule::BadNumber => "BadNumber",
+            Rule::TooDeep => "TooDeep",
+        }
+    }
 }
 
 /// Why a text isn't taken.

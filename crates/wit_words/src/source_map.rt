@@ -242,18 +242,12 @@ fn column_behind(last: &[u8]) -> usize
 {
     let mut column = 1;
     for byte in last {
-        if !goes_on(*byte) {
+        // (bytes that go on with a character of UTF-8)
+        if !(0x80..0xc0).contains(byte) {
             column += 1;
         }
     }
     column
-}
-
-/// Whether a byte goes on with a character of UTF-8.
-fn goes_on(byte: u8) -> bool
-    ensures { result ≡ spec.goes_on byte }
-{
-    (0x80..0xc0).contains(&byte)
 }
 
 /// The bytes behind the last line feed.

@@ -155,13 +155,6 @@ pub fn version_len(text: &[u8]) -> Option<usize>
     longest
 }
 
-/// Whether a number of more than 64 bits was read last.
-fn is_past(state: State) -> bool
-    ensures { result ≡ spec.is_past state }
-{
-    matches!(state, State::Digits(_, None))
-}
-
 /// Whether `semver` reads the text: it is a version, and its numbers have at most 64 bits.
 #[tactic(auto, using(crate::proofs::Versions::version_read))]
 pub fn is_read_by_semver(text: &str) -> bool
@@ -170,8 +163,9 @@ pub fn is_read_by_semver(text: &str) -> bool
     let mut state = State::Before(Number::Major);
     for byte in text.as_bytes() {
         match step(state, *byte) {
-            Some(next) if !is_past(next) => state = next,
-            _ => return false,
+            // (a number of more than 64 bits)
+            Some(State::Digits(_, None)) | None => return false,
+            Some(next) => state = next,
         }
     }
     is_whole(state)

@@ -1,4 +1,4 @@
-use Rattle.std.proofs.Common.{◌≡◌, true, [], map, sym, ap, subst, ◌∙◌, inr, refl}
+use Rattle.std.proofs.Common.{◌≡◌, true, [], map, sym, ap, subst, ◌∙◌}
 use Rattle.std.proofs.lemmas.Bool.{and_parts}
 use Rattle.distinct_names.specs.Names.{all_new}
 use Rattle.plain_worlds.specs.World.{function_item, functions_fit}
@@ -6,12 +6,8 @@ use Rattle.wit_component.specs.Right.{IsOnce, ImportsRight, ExportsRight}
 use Rattle.component_audit.specs.SpacesView as seen
 use Rattle.wit_component.specs.View as view
 use Rattle.wit_component.proofs.WrittenNames.{functions_differ, names_of}
-use Rattle.component_audit.proofs.Judged.{not_handed, handed_is, exports_found, given_seen, meets_all, met, failed}
+use Rattle.component_audit.proofs.Judged.{exports_found, given_seen, meets_all, met, failed}
 use Rattle.component_audit.proofs.auditor.judge_spaces.Goals as goal
-
-pub returns-then-not-are_handed-clause-cause : goal.returns-then-not-are_handed-clause-cause
-returns-then-not-are_handed-clause-cause c =
-    inr (refl, not_handed c.args.linking.now.bytes.now (map seen.module_bytes c.args.spaces.now.modules.items) (sym c.are_handed.ensures ∙ c.if-not-are_handed.true))
 
 pub returns-in-Some-clause-verdict : goal.returns-in-Some-clause-verdict
 returns-in-Some-clause-verdict c =
@@ -44,7 +40,7 @@ returns-clause-verdict c =
     let same : map function_item c.in_ok-exports.exports.functions.now ≡ l.world.exports = ap (λ fs. map function_item fs) (c.in_ok-exports.ensures ∙ c.deref-2.ensures.value) in
     meets_all l s
     (record {
-      modules = handed_is c.args.linking.now.bytes.now (map seen.module_bytes c.args.spaces.now.modules.items) (sym c.are_handed.ensures ∙ c.if-not-are_handed.false);
+      modules = c.requires.handed;
       once = subst IsOnce (ap seen.all_given c.deref.ensures.value ∙ given_seen l.main c.args.spaces.now.instances.items) c.in_default.ensures;
     })
     (met c.args.length (ImportsRight l s) c.in_ok-offset.field-0 c.in_ok-offset.ensures c.in_default-2.is)

@@ -1,10 +1,10 @@
 use Rattle.std.proofs.Common.{◌≡◌, ◌∙◌, None, Some, sym, ap, subst}
 use Rattle.wit_component.proofs.Results.{moved_up}
-use Rattle.component_session.specs.Pushes.{AreTextsPushed, AreTextsError}
+use Rattle.component_session.specs.Pushes.{AreTextsPushed}
 use Rattle.wit_types.specs.contracts.«package».PackageNamePartialEq.TheImpl.{eq-value as package_eq}
 use Rattle.component_session.specs.Input.{Input}
 use Rattle.component_linker.specs.Program.{file_fault, packages_of}
-use Rattle.component_linker.specs.Stops.{IsFileStop, IsTextsStop, IsPrepareStop}
+use Rattle.component_linker.specs.Stops.{IsFileStop, IsTextsStop, AreTextsNotTaken, IsPrepareStop}
 use Rattle.component_linker.proofs.Handing.{looked, texts_stop, complete_stop, handed}
 use Rattle.component_linker.proofs.program.prepare.Goals as goal
 
@@ -26,8 +26,8 @@ returns-in_err-package-clause-err c =
     let none : file_fault files is ≡ None = ap (file_fault files) (sym c.deref.ensures.value) ∙ c.in_ok-look_at_files.ensures.ok in
     moved_up c.from_residual-in_err-package.result stop (IsPrepareStop package_eq.it files line) c.from_residual-in_err-package.ensures.1
     (texts_stop package_eq.it files line stop none
-    (subst (λ (i : Input). IsTextsStop files (AreTextsError package_eq.it i.resolved (packages_of files is)) is stop) c.in_ok-session.ensures
-    (subst (λ js. IsTextsStop files (AreTextsError package_eq.it session.resolved (packages_of files js)) js stop) c.deref-2.ensures.value c.in_err-package.ensures.err)))
+    (subst (λ (i : Input). IsTextsStop files (AreTextsNotTaken package_eq.it i.resolved (packages_of files is)) is stop) c.in_ok-session.ensures
+    (subst (λ js. IsTextsStop files (AreTextsNotTaken package_eq.it session.resolved (packages_of files js)) js stop) c.deref-2.ensures.value c.in_err-package.ensures.err)))
 
 pub returns-in_err-complete-clause-err : goal.returns-in_err-complete-clause-err
 returns-in_err-complete-clause-err c =
