@@ -5,6 +5,7 @@ import sys
 
 COUNTS = [1000, 2000, 4000, 8000, 16000]
 PACKAGES = 100
+FUNCTIONS = 10
 HEADER = "package sample:bench@1.0.0;\n"
 
 
@@ -85,7 +86,17 @@ def united(count):
     yield from block("world w", [f"    include v{number};\n" for number in range(count)])
 
 
-PATTERNS = [chain, needed, packages, shared, included, types, united]
+def imported(count):
+    """A world that imports so many functions: a tenth of them its own, the others by interfaces of ten functions each."""
+    interfaces = (count - count // 10) // FUNCTIONS
+    for number in range(interfaces):
+        yield from block(f"interface i{number}", [f"    call-{place}: func();\n" for place in range(FUNCTIONS)])
+    imports = [f"    import i{number};\n" for number in range(interfaces)]
+    own = [f"    import own-{number}: func();\n" for number in range(count - interfaces * FUNCTIONS)]
+    yield from block("world w", imports + own)
+
+
+PATTERNS = [chain, needed, packages, shared, included, types, united, imported]
 
 
 def make(folder, *counts):
@@ -96,25 +107,37 @@ def make(folder, *counts):
                 file.write(HEADER + "".join(pattern(count)))
 
 
+def grown(now, before):
+    """How many times the one before it is; nothing where there is none."""
+    return f"{now / before:.2f}" if before else ""
+
+
 def table():
-    """The program's lines as a table: how long a text is resolved, how long its packages are pushed, and how that grows."""
-    print("| graph | bytes | resolved, s | pushed, s | pushed / resolved | microseconds each | times the one before |")
-    print("| --- | --- | --- | --- | --- | --- | --- |")
-    before = (None, None)
+    """The program's lines as a table: how long a text is resolved, how long its packages are pushed, how long the names by
+    which core modules import functions of its last world are read, and how the latter two grow."""
+    print(
+        "| graph | bytes | resolved, s | pushed, s | pushed / resolved | microseconds each | times the one before"
+        " | names read | names read, s | microseconds a name | times the one before |"
+    )
+    print("| --- " * 11 + "|")
+    before = (None, None, None)
     for line in sys.stdin:
         path, size, *took = line.split()
         name = os.path.basename(path).removesuffix(".wit").split("_", 1)[1].replace("_", " ")
         pattern, count = name.split()
         if took == ["refused"]:
-            print(f"| {name} | {int(size):,} | refused | | | | |")
+            print(f"| {name} | {int(size):,} | refused |" + " |" * 8)
             continue
-        resolving, pushing = [int(it) / 1e9 for it in took]
-        ratio = f"{pushing / before[1]:.2f}" if before[0] == pattern else ""
+        resolving, pushing, reading = [int(it) / 1e9 for it in took[:3]]
+        names = int(took[3])
+        pushed_before, read_before = before[1:] if before[0] == pattern else (None, None)
+        each, ratio = (f"{reading / names * 1e6:.2f}", grown(reading, read_before)) if names else ("", "")
         print(
             f"| {name} | {int(size):,} | {resolving:.4f} | {pushing:.4f} | {pushing / resolving:.1f}"
-            f" | {pushing / int(count) * 1e6:.1f} | {ratio} |"
+            f" | {pushing / int(count) * 1e6:.1f} | {grown(pushing, pushed_before)}"
+            f" | {names:,} | {reading:.4f} | {each} | {ratio} |"
         )
-        before = (pattern, pushing)
+        before = (pattern, pushing, reading)
 
 
 if sys.argv[1] == "make":

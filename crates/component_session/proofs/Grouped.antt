@@ -9,7 +9,7 @@ use Rattle.wit_resolution.specs.Groups.{packages_of, texts_of}
 use Rattle.wit_types.specs.declared.«package».UnresolvedPackage.{UnresolvedPackage}
 use Rattle.wit_resolution.specs.Pushes.{Resolved, AreGroupsPushed, IsGroupsError, AreGroupsRefused, AreTextsPushed, AreTextsError, AreTextsRefused, AreGroupTextsKept, AreTextsKept}
 use Rattle.wit_resolution.specs.Texts.{IsGroupOf, AreTextsLeft}
-use Rattle.wit_resolution.specs.declared.error.ResolveErrorKind.{ResolveErrorKind}
+use Rattle.wit_resolve_errors.specs.declared.error.ResolveErrorKind.{ResolveErrorKind}
 use Rattle.wit_types.specs.declared.«package».PackageName.{PackageName}
 use Rattle.wit_words.specs.Sources.{SourceText}
 use Rattle.component_session.specs.Coming.{files_of_groups}

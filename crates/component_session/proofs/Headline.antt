@@ -5,7 +5,7 @@ use Rattle.known_definitions.specs.Component.{Fits}
 use Rattle.component_session.specs.Input.{Input, IsLinkingOf, IsWideLinkingOf}
 use Rattle.wit_component.specs.Linking.{Linking}
 use Rattle.wit_component.specs.Cause.{IsLinkable}
-use Rattle.component_session.specs.Refusals.{AsksBeyond, AreExportsSupplied, IsWide, OptionsBeyond, IsReady}
+use Rattle.component_session.specs.Refusals.{AreExportsSupplied, IsWide, OptionsBeyond, IsReady}
 use Rattle.link_table.specs.Linking.{Linking as WideLinking}
 use Rattle.linked_components.specs.Build.{HasLines, IsComponentOf}
 use Rattle.wit_component.specs.Component.{component_of}
@@ -30,9 +30,9 @@ says input l bytes (Finding kind offset) links h = h
 
 -- ---- plain functions
 
-module _ (input : Input) (l : Linking) (links : IsLinkingOf input l) (here : AsksBeyond input → ⊥) (exports : AreExportsSupplied input) (plain : IsWide input → ⊥) where
+module _ (input : Input) (l : Linking) (links : IsLinkingOf input l) (exports : AreExportsSupplied input) (plain : IsWide input → ⊥) where
   ready : IsLinkable l → IsReady input l
-  ready linkable = record { links_input = links; here = here; exports = exports; plain = plain; linkable = linkable }
+  ready linkable = record { links_input = links; exports = exports; plain = plain; linkable = linkable }
 
   pub built : (bytes : List ℕ) → IsLinkable l → Fits (component_of l) → IsComponent bytes (component_of l) → IsBuilt input bytes
   built bytes linkable fits is = inl (record {
@@ -51,9 +51,9 @@ module _ (input : Input) (l : Linking) (links : IsLinkingOf input l) (here : Ask
 
 -- ---- all that a world has
 
-module _ (input : Input) (l : WideLinking) (links : IsWideLinkingOf input l) (here : AsksBeyond input → ⊥) (exports : AreExportsSupplied input) (wide : IsWide input) (options : OptionsBeyond input → ⊥) where
+module _ (input : Input) (l : WideLinking) (links : IsWideLinkingOf input l) (exports : AreExportsSupplied input) (wide : IsWide input) (options : OptionsBeyond input → ⊥) where
   pub wide_listed : (found : List LinkValue) → HasLines l found → IsLinkTable input found
-  wide_listed found (t, is, lines) = IsLinkTable.wide (record { linking = l; ready = record { links_input = links; here = here; exports = exports; wide = wide; options = options; table = t; is = is }; links = lines })
+  wide_listed found (t, is, lines) = IsLinkTable.wide (record { linking = l; ready = record { links_input = links; exports = exports; wide = wide; options = options; table = t; is = is }; links = lines })
 
   pub wide_built : (bytes : List ℕ) → IsComponentOf l links.handed.bytes bytes → IsBuilt input bytes
-  wide_built bytes (t, is, right) = inr (record { linking = l; ready = record { links_input = links; here = here; exports = exports; wide = wide; options = options; table = t; is = is }; right = right })
+  wide_built bytes (t, is, right) = inr (record { linking = l; ready = record { links_input = links; exports = exports; wide = wide; options = options; table = t; is = is }; right = right })

@@ -7,3 +7,4 @@ pub mod Chosen
 pub mod Keeping
 pub mod Exporting
 pub mod Grouped
+pub mod Switches

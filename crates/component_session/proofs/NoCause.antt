@@ -23,15 +23,13 @@ use Rattle.link_table.specs.Linking.{Linking as WideLinking}
 use Rattle.link_table.specs.Cause.{IsTableCause}
 use Rattle.link_table.specs.declared.fault.TableFault.{TableFault}
 use Rattle.link_table.specs.declared.fault.TableFault.TheVariants as tables
-use Rattle.distinct_names.specs.Names.{all_new}
 use Rattle.linked_components.specs.Build.{LinkedHaveNoCause, HasTwoNames}
-use Rattle.linked_components.specs.Tracks.{tracks, HasOneTrack}
 use Rattle.right_components.specs.Outside.{AreInterfaceNames}
 use Rattle.type_sinks.specs.Root.{InterfaceNames}
 use Rattle.wit_resolution.specs.Graph.{IsGraph}
 use Rattle.component_session.specs.Input.{Input, ModuleInput, world_at, IsLinkingOf, IsWideLinkingOf}
 use Rattle.component_session.specs.Faults.{of_module}
-use Rattle.component_session.specs.Refusals.{OptionsBeyond, by_canonical_names, by_given_names, by_tracks, OfWide, HasNoTable, IsLinkingCause, IsCause, IsBuildCause, IsReady, IsWideReady}
+use Rattle.component_session.specs.Refusals.{ChangesNames, MergesTracks, OptionsBeyond, by_canonical_names, by_given_names, by_tracks, OfWide, HasNoTable, IsLinkingCause, IsCause, IsBuildCause, IsReady, IsWideReady}
 use Rattle.component_session.specs.Headline.{IsPlainlyBuilt, IsWidelyBuilt}
 
 -- ---- an input is linked in one way
@@ -66,8 +64,8 @@ no_bad_module input here read_as given reads m (handed, hands, (n, is, cause)) =
 
 module _ (input : Input) (l : Linking) (h : IsReady input l) where
   linked_cause : (fault : LinkFault) (wide : CoreFault) → HasNoTable input fault wide → fault ≡ linking.OutOfMemory
-  linked_cause fault wide (inl (m, links, here, plain, cause)) = no_link_cause l h.linkable fault (subst (λ (x : Linking). IsLinkCause x fault) (one_linking input m l links h.links_input) cause)
-  linked_cause fault wide (inr (m, links, here, is_wide, cause)) = absurd (h.plain is_wide)
+  linked_cause fault wide (inl (m, links, plain, cause)) = no_link_cause l h.linkable fault (subst (λ (x : Linking). IsLinkCause x fault) (one_linking input m l links h.links_input) cause)
+  linked_cause fault wide (inr (m, links, is_wide, cause)) = absurd (h.plain is_wide)
 
   no_linking_cause : (fault : LinkFault) → IsLinkingCause input fault → ⊥
   no_linking_cause linking.NotYet cause = absurd cause
@@ -81,13 +79,12 @@ module _ (input : Input) (l : Linking) (h : IsReady input l) where
   no_linking_cause linking.OutOfMemory cause = absurd cause
 
   no_wide_cause : {P : WideLinking → Type 0} (fault : Fault) → OfWide input P → fault ≡ faults.OutOfMemory
-  no_wide_cause {P} fault (m, links, here, is_wide, cause) = absurd (h.plain is_wide)
+  no_wide_cause {P} fault (m, links, is_wide, cause) = absurd (h.plain is_wide)
 
   pub no_cause : (fault : Fault) → IsCause input fault → fault ≡ faults.OutOfMemory
-  no_cause faults.NotYet (inl beyond) = absurd (h.here beyond)
-  no_cause faults.NotYet (inr (inl (m, links, here, plain, cause))) = absurd (h.linkable.plain (subst IsStillToCome (one_linking input m l links h.links_input) cause))
-  no_cause faults.NotYet (inr (inr (inl cause))) = no_wide_cause faults.NotYet cause
-  no_cause faults.NotYet (inr (inr (inr cause))) = no_wide_cause faults.NotYet cause
+  no_cause faults.NotYet (inl (m, links, plain, cause)) = absurd (h.linkable.plain (subst IsStillToCome (one_linking input m l links h.links_input) cause))
+  no_cause faults.NotYet (inr (inl cause)) = no_wide_cause faults.NotYet cause
+  no_cause faults.NotYet (inr (inr cause)) = no_wide_cause faults.NotYet cause
   no_cause faults.NoModule cause = let bad = sym h.links_input.hands ∙ cause in absurd cc
   no_cause faults.NoWorld cause = let bad = sym h.links_input.chooses ∙ cause in absurd cc
   no_cause faults.ExportUnsupplied cause = absurd (h.exports.all cause)
@@ -119,24 +116,19 @@ one_wide_linking input l m h k =
       encoding = encoding i;
     }
 
--- no option of its is beyond where its own imports are of tracks apart
-pub options_here : (input : Input) (l : WideLinking) → IsWideLinkingOf input l → input.options.emit_canonical_names ≡ false → input.options.import_name_map ≡ []
-    → (input.options.merge_imports_based_on_semver ≡ true → all_new [] (tracks l.names) ≡ true) → OptionsBeyond input → ⊥
-options_here input l links plain none apart (by_canonical_names on) = absurd cc
-options_here input l links plain none apart (by_given_names some) = some none
-options_here input l links plain none apart (by_tracks on m of one) =
-    let same = one_wide_linking input m l of links in
-    let here : all_new [] (tracks l.names) ≡ false = subst (λ (x : WideLinking). HasOneTrack x.names) same one in
-    let bad : true ≡ false = sym (apart on) ∙ here in
-    absurd cc
+-- no option of its is beyond where no names are given, and none of its own imports changes or is one with another
+pub options_here : (input : Input) (l : WideLinking) → IsWideLinkingOf input l → input.options.import_name_map ≡ [] → (ChangesNames input l → ⊥) → (MergesTracks input l → ⊥) → OptionsBeyond input → ⊥
+options_here input l links none same apart (by_given_names some) = some none
+options_here input l links none same apart (by_canonical_names m of changes) = same (subst (ChangesNames input) (one_wide_linking input m l of links) changes)
+options_here input l links none same apart (by_tracks m of merges) = apart (subst (MergesTracks input) (one_wide_linking input m l of links) merges)
 
 module _ (input : Input) (l : WideLinking) (law : LinkedHaveNoCause) (whole : IsGraph input.resolved.graph) (h : IsWideReady input l) where
   no_table_cause : (fault : TableFault) → OfWide input (λ m. IsTableCause m fault) → fault ≡ tables.OutOfMemory
-  no_table_cause fault (m, links, here, wide, cause) =
+  no_table_cause fault (m, links, wide, cause) =
       law l h.table (input.resolved.graph.tables, h.links_input.chosen, whole.whole, h.links_input.names) h.is fault (subst (λ (x : WideLinking). IsTableCause x fault) (one_wide_linking input m l links h.links_input) cause)
 
   no_link : (fault : LinkFault) (wide : CoreFault) → HasNoTable input fault wide → tables.Link wide ≡ tables.OutOfMemory
-  no_link fault wide (inl (m, links, here, plain, cause)) = absurd (plain h.wide)
+  no_link fault wide (inl (m, links, plain, cause)) = absurd (plain h.wide)
   no_link fault wide (inr cause) = no_table_cause (tables.Link wide) cause
 
   no_core_cause : (fault : LinkFault) → IsLinkingCause input fault → ⊥
@@ -151,10 +143,9 @@ module _ (input : Input) (l : WideLinking) (law : LinkedHaveNoCause) (whole : Is
   no_core_cause linking.OutOfMemory cause = absurd cause
 
   pub wide_no_cause : (fault : Fault) → IsCause input fault → fault ≡ faults.OutOfMemory
-  wide_no_cause faults.NotYet (inl beyond) = absurd (h.here beyond)
-  wide_no_cause faults.NotYet (inr (inl (m, links, here, plain, cause))) = absurd (plain h.wide)
-  wide_no_cause faults.NotYet (inr (inr (inl (m, links, here, wide, cause)))) = absurd (h.options cause)
-  wide_no_cause faults.NotYet (inr (inr (inr cause))) = let bad = no_table_cause tables.NotYet cause in absurd cc
+  wide_no_cause faults.NotYet (inl (m, links, plain, cause)) = absurd (plain h.wide)
+  wide_no_cause faults.NotYet (inr (inl (m, links, wide, cause))) = absurd (h.options cause)
+  wide_no_cause faults.NotYet (inr (inr cause)) = let bad = no_table_cause tables.NotYet cause in absurd cc
   wide_no_cause faults.NoModule cause = let bad = sym h.links_input.hands ∙ cause in absurd cc
   wide_no_cause faults.NoWorld cause = let bad = sym h.links_input.chooses ∙ cause in absurd cc
   wide_no_cause faults.ExportUnsupplied cause = absurd (h.exports.all cause)

@@ -17,13 +17,13 @@ use Rattle.component_session.specs.Faults.{of_linking, of_core, of_table, of_com
 use Rattle.component_session.specs.Input.{Input, IsLinkingOf, IsWideLinkingOf}
 use Rattle.wit_component.specs.Linking.{Linking}
 use Rattle.wit_component.specs.Cause.{IsLinkCause, IsEncodeCause}
-use Rattle.component_session.specs.Refusals.{AsksBeyond, AreExportsSupplied, IsWide, OptionsBeyond, IsInputCause, IsCause, IsBuildCause, IsAuditCause, of_links, of_size, of_wide_size, of_names}
+use Rattle.component_session.specs.Refusals.{AreExportsSupplied, IsWide, OptionsBeyond, IsInputCause, IsCause, IsBuildCause, IsAuditCause, of_links, of_size, of_wide_size, of_names}
 use Rattle.component_audit.specs.Judged.{IsJudgeCause}
 
 -- ---- of an input
 
 pub input_cause_is : (input : Input) (fault : Fault) → IsInputCause input fault → IsCause input fault
-input_cause_is input faults.NotYet cause = inl cause
+input_cause_is input faults.NotYet cause = absurd cause
 input_cause_is input faults.NoModule cause = cause
 input_cause_is input faults.NoWorld cause = cause
 input_cause_is input faults.ExportUnsupplied cause = cause
@@ -43,25 +43,25 @@ input_audit_cause_is input bytes fault cause = IsAuditCause.of_input cause
 
 -- ---- of plain functions
 
-module _ (input : Input) (l : Linking) (links : IsLinkingOf input l) (here : AsksBeyond input → ⊥) (exports : AreExportsSupplied input) (plain : IsWide input → ⊥) where
+module _ (input : Input) (l : Linking) (links : IsLinkingOf input l) (exports : AreExportsSupplied input) (plain : IsWide input → ⊥) where
   pub link_cause_is : (fault : LinkFault) → IsLinkCause l fault → IsCause input (of_linking fault)
-  link_cause_is linking.NotYet cause = inr (inl (l, links, here, plain, cause))
-  link_cause_is linking.DuplicateImport cause = inl (l, links, here, plain, cause)
-  link_cause_is linking.UnknownImport cause = inl (l, links, here, plain, cause)
-  link_cause_is linking.Ambiguous cause = inl (l, links, here, plain, cause)
-  link_cause_is linking.LegacyName cause = inl (l, links, here, plain, cause)
-  link_cause_is linking.WrongCoreType cause = inl (l, links, here, plain, cause)
-  link_cause_is linking.MissingCoreExport cause = inl (l, links, here, plain, cause)
+  link_cause_is linking.NotYet cause = inl (l, links, plain, cause)
+  link_cause_is linking.DuplicateImport cause = inl (l, links, plain, cause)
+  link_cause_is linking.UnknownImport cause = inl (l, links, plain, cause)
+  link_cause_is linking.Ambiguous cause = inl (l, links, plain, cause)
+  link_cause_is linking.LegacyName cause = inl (l, links, plain, cause)
+  link_cause_is linking.WrongCoreType cause = inl (l, links, plain, cause)
+  link_cause_is linking.MissingCoreExport cause = inl (l, links, plain, cause)
   link_cause_is linking.TooLarge cause = absurd cause
   link_cause_is linking.OutOfMemory cause = tt
 
   pub encode_cause_is : (fault : LinkFault) → IsEncodeCause l fault → IsBuildCause input (of_linking fault)
   encode_cause_is fault (inl cause) = of_links (link_cause_is fault cause)
-  encode_cause_is fault (inr (is, linkable, large)) = of_size (ap of_linking is) l (record { links_input = links; here = here; exports = exports; plain = plain; linkable = linkable }) large
+  encode_cause_is fault (inr (is, linkable, large)) = of_size (ap of_linking is) l (record { links_input = links; exports = exports; plain = plain; linkable = linkable }) large
 
   pub audit_cause_is : (bytes : List ℕ) (fault : LinkFault) → IsJudgeCause l bytes fault → IsAuditCause input bytes (of_linking fault)
   audit_cause_is bytes linking.NotYet (inl cause) = IsAuditCause.of_links plain (link_cause_is linking.NotYet cause)
-  audit_cause_is bytes linking.NotYet (inr (linkable, beyond)) = IsAuditCause.of_bytes refl l (record { links_input = links; here = here; exports = exports; plain = plain; linkable = linkable }) beyond
+  audit_cause_is bytes linking.NotYet (inr (linkable, beyond)) = IsAuditCause.of_bytes refl l (record { links_input = links; exports = exports; plain = plain; linkable = linkable }) beyond
   audit_cause_is bytes linking.DuplicateImport cause = IsAuditCause.of_links plain (link_cause_is linking.DuplicateImport cause)
   audit_cause_is bytes linking.UnknownImport cause = IsAuditCause.of_links plain (link_cause_is linking.UnknownImport cause)
   audit_cause_is bytes linking.Ambiguous cause = IsAuditCause.of_links plain (link_cause_is linking.Ambiguous cause)
@@ -73,29 +73,29 @@ module _ (input : Input) (l : Linking) (links : IsLinkingOf input l) (here : Ask
 
 -- ---- of all that a world has
 
-pub options_cause_is : (input : Input) (l : WideLinking) → IsWideLinkingOf input l → (AsksBeyond input → ⊥) → IsWide input → OptionsBeyond input → IsCause input faults.NotYet
-options_cause_is input l links here wide cause = inr (inr (inl (l, links, here, wide, cause)))
+pub options_cause_is : (input : Input) (l : WideLinking) → IsWideLinkingOf input l → IsWide input → OptionsBeyond input → IsCause input faults.NotYet
+options_cause_is input l links wide cause = inr (inl (l, links, wide, cause))
 
-module _ (input : Input) (l : WideLinking) (links : IsWideLinkingOf input l) (here : AsksBeyond input → ⊥) (exports : AreExportsSupplied input) (wide : IsWide input) (options : OptionsBeyond input → ⊥) where
+module _ (input : Input) (l : WideLinking) (links : IsWideLinkingOf input l) (exports : AreExportsSupplied input) (wide : IsWide input) (options : OptionsBeyond input → ⊥) where
   core_cause_is : (fault : CoreFault) → IsTableCause l (tables.Link fault) → IsCause input (of_core fault)
   core_cause_is core.NotYet cause = absurd cause
-  core_cause_is core.DuplicateImport cause = inr (l, links, here, wide, cause)
-  core_cause_is core.UnknownImport cause = inr (l, links, here, wide, cause)
-  core_cause_is core.Ambiguous cause = inr (l, links, here, wide, cause)
-  core_cause_is core.LegacyName cause = inr (l, links, here, wide, cause)
-  core_cause_is core.WrongCoreType cause = inr (l, links, here, wide, cause)
-  core_cause_is core.MissingCoreExport cause = inr (l, links, here, wide, cause)
+  core_cause_is core.DuplicateImport cause = inr (l, links, wide, cause)
+  core_cause_is core.UnknownImport cause = inr (l, links, wide, cause)
+  core_cause_is core.Ambiguous cause = inr (l, links, wide, cause)
+  core_cause_is core.LegacyName cause = inr (l, links, wide, cause)
+  core_cause_is core.WrongCoreType cause = inr (l, links, wide, cause)
+  core_cause_is core.MissingCoreExport cause = inr (l, links, wide, cause)
   core_cause_is core.OutOfMemory cause = tt
 
   pub table_cause_is : (fault : TableFault) → IsTableCause l fault → IsCause input (of_table fault)
-  table_cause_is tables.NotYet cause = inr (inr (inr (l, links, here, wide, cause)))
+  table_cause_is tables.NotYet cause = inr (inr (l, links, wide, cause))
   table_cause_is (tables.Link fault) cause = core_cause_is fault cause
-  table_cause_is tables.NoMemory cause = (l, links, here, wide, cause)
-  table_cause_is tables.NoRealloc cause = (l, links, here, wide, cause)
-  table_cause_is (tables.Types fault) cause = (l, links, here, wide, cause)
+  table_cause_is tables.NoMemory cause = (l, links, wide, cause)
+  table_cause_is tables.NoRealloc cause = (l, links, wide, cause)
+  table_cause_is (tables.Types fault) cause = (l, links, wide, cause)
   table_cause_is tables.OutOfMemory cause = tt
 
   pub component_cause_is : (fault : ComponentFault) → IsComponentCause l fault → IsBuildCause input (of_component fault)
   component_cause_is (components.Table fault) (inl cause) = of_links (table_cause_is fault cause)
-  component_cause_is (components.Table fault) (inr (is, (t, at), two)) = of_names (ap of_table is) l (record { links_input = links; here = here; exports = exports; wide = wide; options = options; table = t; is = at }) two
-  component_cause_is components.TooLarge (t, at) = of_wide_size refl l (record { links_input = links; here = here; exports = exports; wide = wide; options = options; table = t; is = at })
+  component_cause_is (components.Table fault) (inr (is, (t, at), two)) = of_names (ap of_table is) l (record { links_input = links; exports = exports; wide = wide; options = options; table = t; is = at }) two
+  component_cause_is components.TooLarge (t, at) = of_wide_size refl l (record { links_input = links; exports = exports; wide = wide; options = options; table = t; is = at })

@@ -5,7 +5,8 @@ pub mod Handed
 pub mod Faults
 pub mod Refusals
 pub mod Headline
-pub use Rattle.wit_resolution.specs.Errors
+pub mod Switches
+pub use Rattle.wit_resolve_errors.specs.Errors
 pub use Rattle.wit_resolution.specs.GroupView
 pub use Rattle.wit_resolution.specs.Pushes
 pub use Rattle.wit_resolution.specs.Texts

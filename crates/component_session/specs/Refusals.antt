@@ -19,14 +19,14 @@ use Rattle.link_table.specs.Linking.{Linking as WideLinking}
 use Rattle.link_table.specs.Table.{Table, IsTable}
 use Rattle.link_table.specs.Cause.{IsTableCause}
 use Rattle.linked_components.specs.Build.{HasTwoNames}
-use Rattle.linked_components.specs.Tracks.{HasOneTrack}
+use Rattle.linked_components.specs.Tracks.{HasOneTrack, HasOtherNames}
 use Rattle.component_audit.specs.Judged.{IsBeyond}
 use Rattle.export_keys.specs.Keys.{ExportsMore}
 use Rattle.wit_resolution.specs.Names.{known_of}
 use Rattle.wit_types.specs.declared.world.World.{World}
 use Rattle.component_session.specs.Input.{Input, ModuleInput, IsChosen, IsLinkingOf, IsWideLinkingOf, world_at, worlds_of}
 
--- ---- what isn't plain, and what is still to come
+-- ---- what isn't plain
 
 -- a core import of the main module stands for something of the chosen world that isn't one of its plain functions, or for two things
 pub record ImportsBeyond (input : Input) : Type 0 where
@@ -41,11 +41,6 @@ pub record ImportsBeyond (input : Input) : Type 0 where
   pub hands : input.main ≡ Some handed
   pub reads : IsModule handed.bytes core
   pub beyond : Any (IsImportBeyond (known_of input.resolved.graph.tables) world (names_of plain.imports)) core.imports
-
--- options ask for what is still to come
-pub data AsksBeyond (input : Input) : Type 0 where
-  by_stand_ins : input.options.shim_return_call_ref ≡ true → AsksBeyond input
-  by_names : input.options.debug_names ≡ true → AsksBeyond input
 
 -- ---- what worlds export
 
@@ -79,11 +74,21 @@ pub data IsWide (input : Input) : Type 0 where
   by_world : (w : ℕ) → input.world ≡ Some w → world_at input w ≡ None → IsWide input
   by_import : ImportsBeyond input → IsWide input
 
--- options ask for names of imports that are still to come: canonical ones, names that are given, or one for interfaces of one version track
+-- options ask for canonical names, and those of the interfaces that are imported are others
+pub record ChangesNames (input : Input) (l : WideLinking) : Type 0 where
+  pub asked : input.options.emit_canonical_names ≡ true
+  pub others : HasOtherNames l.names
+
+-- or for one import of interfaces of one version track, and there are such
+pub record MergesTracks (input : Input) (l : WideLinking) : Type 0 where
+  pub asked : input.options.merge_imports_based_on_semver ≡ true
+  pub one : HasOneTrack l.names
+
+-- options ask for names of imports that are still to come: names that are given, canonical ones, or one for interfaces of one version track
 pub data OptionsBeyond (input : Input) : Type 0 where
-  by_canonical_names : input.options.emit_canonical_names ≡ true → OptionsBeyond input
   by_given_names : (input.options.import_name_map ≡ [] → ⊥) → OptionsBeyond input
-  by_tracks : input.options.merge_imports_based_on_semver ≡ true → (l : WideLinking) → IsWideLinkingOf input l → HasOneTrack l.names → OptionsBeyond input
+  by_canonical_names : (l : WideLinking) → IsWideLinkingOf input l → ChangesNames input l → OptionsBeyond input
+  by_tracks : (l : WideLinking) → IsWideLinkingOf input l → MergesTracks input l → OptionsBeyond input
 
 -- the chosen world has these plain functions, and they alone are linked
 pub record IsPlain (input : Input) (plain : WorldMeaning) : Type 0 where
@@ -96,13 +101,13 @@ pub record IsPlain (input : Input) (plain : WorldMeaning) : Type 0 where
 abbrev pub IsModuleCause : List ℕ → Fault → Type 0
 IsModuleCause bytes fault = (m : ModuleFault) × (of_module m ≡ fault) × IsModuleFault bytes m
 
--- the input links plain functions, nothing of it asks beyond, and this is so of that
+-- the input links plain functions, and this is so of that
 abbrev pub OfLinking : Input → (Linking → Type 0) → Type 0
-OfLinking input P = (l : Linking) × IsLinkingOf input l × (AsksBeyond input → ⊥) × (IsWide input → ⊥) × P l
+OfLinking input P = (l : Linking) × IsLinkingOf input l × (IsWide input → ⊥) × P l
 
 -- or it links all that the world has
 abbrev pub OfWide : Input → (WideLinking → Type 0) → Type 0
-OfWide input P = (l : WideLinking) × IsWideLinkingOf input l × (AsksBeyond input → ⊥) × IsWide input × P l
+OfWide input P = (l : WideLinking) × IsWideLinkingOf input l × IsWide input × P l
 
 -- there is no link table for one or the other
 abbrev pub HasNoTable : Input → LinkFault → CoreFault → Type 0
@@ -122,7 +127,7 @@ IsLinkingCause input linking.OutOfMemory = ⊥
 
 -- what is linked doesn't count
 abbrev pub IsInputCause : Input → Fault → Type 0
-IsInputCause input faults.NotYet = AsksBeyond input
+IsInputCause input faults.NotYet = ⊥
 IsInputCause input faults.NoModule = input.main ≡ None
 IsInputCause input faults.NoWorld = input.world ≡ None
 IsInputCause input faults.ExportUnsupplied = LacksExports input
@@ -136,7 +141,7 @@ IsInputCause input faults.OutOfMemory = Unit {0}
 
 -- why links aren't answered
 abbrev pub IsCause : Input → Fault → Type 0
-IsCause input faults.NotYet = IsInputCause input faults.NotYet ⊎ (OfLinking input IsStillToCome ⊎ (OfWide input (λ l. OptionsBeyond input) ⊎ OfWide input (λ l. IsTableCause l tables.NotYet)))
+IsCause input faults.NotYet = OfLinking input IsStillToCome ⊎ (OfWide input (λ l. OptionsBeyond input) ⊎ OfWide input (λ l. IsTableCause l tables.NotYet))
 IsCause input faults.NoModule = IsInputCause input faults.NoModule
 IsCause input faults.NoWorld = IsInputCause input faults.NoWorld
 IsCause input faults.ExportUnsupplied = IsInputCause input faults.ExportUnsupplied
@@ -153,7 +158,6 @@ IsCause input faults.OutOfMemory = Unit {0}
 -- nothing stands in the way of the links of plain functions
 pub record IsReady (input : Input) (l : Linking) : Type 0 where
   pub links_input : IsLinkingOf input l
-  pub here : AsksBeyond input → ⊥
   pub exports : AreExportsSupplied input
   pub plain : IsWide input → ⊥
   pub linkable : IsLinkable l
@@ -161,7 +165,6 @@ pub record IsReady (input : Input) (l : Linking) : Type 0 where
 -- and of those of all that a world has
 pub record IsWideReady (input : Input) (l : WideLinking) : Type 0 where
   pub links_input : IsWideLinkingOf input l
-  pub here : AsksBeyond input → ⊥
   pub exports : AreExportsSupplied input
   pub wide : IsWide input
   pub options : OptionsBeyond input → ⊥

@@ -1,6 +1,6 @@
 //! Laws of the public calls.
 
-ghost use Rattle.std.specs.Prelude.{◌≡◌, ◌⊎◌, ℕ, List, MatchResult};
+ghost use Rattle.std.specs.Prelude.{◌≡◌, ◌⊎◌, ℕ, Bool, List, MatchResult};
 ghost use Rattle.known_definitions.specs.Component.{IsComponent};
 ghost use Rattle.component_session.specs.Input as inputs;
 ghost use Rattle.link_table.specs.Linking.{Linking as WideLinking};
@@ -11,6 +11,7 @@ ghost use Rattle.wit_component.specs.declared.fault.Fault.TheVariants.{TooLarge}
 ghost use Rattle.wit_resolution.specs.Graph.{IsGraph};
 ghost use Rattle.component_session.specs.Headline as headline;
 ghost use Rattle.component_session.specs.Refusals as refusals;
+ghost use Rattle.component_session.specs.Switches as switches;
 
 use crate::fault::Fault;
 use crate::linking::audit;
@@ -46,6 +47,12 @@ pub fn law_built_has_no_cause()
 {
     law_linked_has_no_cause();
 }
+
+/// Whether stand-ins call through references, whether generated modules carry names, and whether what was built is looked at, changes no answer
+/// and no refusal: for inputs that differ in these alone, lines, bytes, verdicts and causes are the same.
+pub fn law_switches_change_nothing()
+    ensures { (input : inputs.Input) (references names validates : Bool) → switches.IsAnsweredAlike input (switches.with_switches input references names validates) }
+{}
 
 /// The auditor is exact: of bytes that are right for an input in whose way nothing stands, every verdict is yes, and no
 /// cause of a refusal holds, want of memory aside.

@@ -11,7 +11,8 @@ pub use component_audit::Verdict;
 pub use fault::{Fault, ModuleCause};
 pub use law::{
     law_audit_of_what_was_built, law_built_has_no_cause, law_ready_has_no_cause,
-    law_right_is_judged_yes, law_wide_ready_has_no_cause, law_written_is_right,
+    law_right_is_judged_yes, law_switches_change_nothing, law_wide_ready_has_no_cause,
+    law_written_is_right,
 };
 pub use linked_types::TypeFault;
 pub use linking::audit;

@@ -23,7 +23,7 @@ use core_links::CoreNames;
 use export_keys::exports_all;
 use labelled_worlds::{law_exported_functions_are_apart, law_worlds_have_parts_apart};
 use link_table::Linking as WideLinking;
-use linked_components::tracks_are_apart;
+use linked_components::{names_change, tracks_are_apart};
 use plain_imports::imports_fit;
 use plain_worlds::{World, plain_world};
 use std::alloc::AllocError;
@@ -62,10 +62,9 @@ impl<'a> Session<'a> {
         Ok(())
     }
 
-    /// The chosen world, where options ask for nothing that is still to come, and the main module's world exports what it does.
+    /// The chosen world, where the main module's world exports what it does.
     fn chosen_world(&self) -> Result<WorldId, Fault>
         ensures found { IfOk result (λ w. self.now.world ≡ Some w) }
-        ensures options { OnOk result (refusals.AsksBeyond self.now → ⊥) }
         ensures exports { OnOk result (refusals.AreExportsSupplied self.now) }
         ensures cause { IfErr result (refusals.IsInputCause self.now) }
         ensures first { self.now.main ≡ None → result ≡ Err Fault.NoModule }
@@ -73,10 +72,6 @@ impl<'a> Session<'a> {
         let Some(main) = self.main() else {
             return Err(Fault::NoModule);
         };
-        let options = self.options();
-        if options.shim_return_call_ref || options.debug_names {
-            return Err(Fault::NotYet);
-        }
         let Some(world) = self.world() else {
             return Err(Fault::NoWorld);
         };
@@ -185,31 +180,51 @@ impl<'a> Session<'a> {
         }
     }
 
+    /// Whether options ask for canonical names, and those of the chosen world's imports are others.
+    fn names_change(&self, linking: &WideLinking<'_, '_, '_>) -> Result<bool, AllocError>
+        requires linking { inputs.IsWideLinkingOf self.now (linking_value linking.now) }
+        ensures yes { IfOk result (λ b. b ≡ true → refusals.ChangesNames self.now (linking_value linking.now)) }
+        ensures no { IfOk result (λ b. b ≡ false → refusals.ChangesNames self.now (linking_value linking.now) → ⊥) }
+    {
+        self.resolve().graph().law_is_graph();
+        if !self.options().emit_canonical_names {
+            return Ok(false);
+        }
+        names_change(self.allocator(), &linking.names)
+    }
+
+    /// Whether options ask for one name for interfaces of one version track, and the chosen world imports such.
+    fn tracks_meet(&self, linking: &WideLinking<'_, '_, '_>) -> Result<bool, AllocError>
+        requires linking { inputs.IsWideLinkingOf self.now (linking_value linking.now) }
+        ensures yes { IfOk result (λ b. b ≡ true → refusals.MergesTracks self.now (linking_value linking.now)) }
+        ensures no { IfOk result (λ b. b ≡ false → refusals.MergesTracks self.now (linking_value linking.now) → ⊥) }
+    {
+        self.resolve().graph().law_is_graph();
+        if !self.options().merge_imports_based_on_semver {
+            return Ok(false);
+        }
+        let apart = tracks_are_apart(self.allocator(), &linking.names)?;
+        Ok(!apart)
+    }
+
     /// Refuses options that are still to come where all that the chosen world has is linked: they speak of names of interfaces.
     fn check_options(&self, linking: &WideLinking<'_, '_, '_>) -> Result<(), Fault>
         requires linking { inputs.IsWideLinkingOf self.now (linking_value linking.now) }
-        requires here { refusals.AsksBeyond self.now → ⊥ }
         requires wide { refusals.IsWide self.now }
         ensures ok { OnOk result (refusals.OptionsBeyond self.now → ⊥) }
         ensures cause { IfErr result (refusals.IsCause self.now) }
     {
-        self.resolve().graph().law_is_graph();
-        let options = self.options();
-        if options.emit_canonical_names || !options.import_name_map.is_empty() {
+        if !self.options().import_name_map.is_empty() {
             return Err(Fault::NotYet);
         }
-        if !options.merge_imports_based_on_semver {
-            return Ok(());
+        if self.names_change(linking)? || self.tracks_meet(linking)? {
+            return Err(Fault::NotYet);
         }
-        if tracks_are_apart(self.allocator(), &linking.names)? {
-            return Ok(());
-        }
-        Err(Fault::NotYet)
+        Ok(())
     }
 
     /// The lines of plain functions.
     fn plain_links(&self, plain: &World, main: MainModule<'a>) -> Result<Vec<Link>, Fault>
-        requires here { refusals.AsksBeyond self.now → ⊥ }
         requires exports { refusals.AreExportsSupplied self.now }
         requires plain { refusals.IsPlain self.now (world_meaning plain.now) }
         requires fits { world_fits (world_meaning plain.now) ≡ true }
@@ -224,7 +239,6 @@ impl<'a> Session<'a> {
 
     /// The lines of all that the chosen world has.
     fn wide_links(&self, world: WorldId, main: &MainModule<'a>) -> Result<Vec<Link>, Fault>
-        requires here { refusals.AsksBeyond self.now → ⊥ }
         requires exports { refusals.AreExportsSupplied self.now }
         requires wide { refusals.IsWide self.now }
         requires chosen { self.now.world ≡ Some world }
@@ -260,7 +274,6 @@ impl<'a> Session<'a> {
 
     /// The bytes of the component of plain functions.
     fn plain_build(&self, plain: &World, main: MainModule<'a>) -> Result<Vec<u8>, Fault>
-        requires here { refusals.AsksBeyond self.now → ⊥ }
         requires exports { refusals.AreExportsSupplied self.now }
         requires plain { refusals.IsPlain self.now (world_meaning plain.now) }
         requires fits { world_fits (world_meaning plain.now) ≡ true }
@@ -275,7 +288,6 @@ impl<'a> Session<'a> {
 
     /// The bytes of the component of all that the chosen world has.
     fn wide_build(&self, world: WorldId, main: &MainModule<'a>) -> Result<Vec<u8>, Fault>
-        requires here { refusals.AsksBeyond self.now → ⊥ }
         requires exports { refusals.AreExportsSupplied self.now }
         requires wide { refusals.IsWide self.now }
         requires chosen { self.now.world ≡ Some world }
@@ -342,7 +354,6 @@ impl<'a> Session<'a> {
         main: MainModule<'a>,
         bytes: &[u8],
     ) -> Result<Verdict, Fault>
-        requires here { refusals.AsksBeyond self.now → ⊥ }
         requires exports { refusals.AreExportsSupplied self.now }
         requires plain { refusals.IsPlain self.now (world_meaning plain.now) }
         requires fits { world_fits (world_meaning plain.now) ≡ true }

@@ -12,7 +12,7 @@ ghost use Rattle.wasm_format.specs.Grammar.{IsModule};
 ghost use Rattle.wasm_format.specs.Module.{ModuleValue};
 ghost use Rattle.wit_features.specs.Features.{with_name};
 ghost use Rattle.wit_resolution.specs.GroupView.{texts};
-ghost use Rattle.wit_resolution.specs.Errors.{of_selection};
+ghost use Rattle.wit_resolve_errors.specs.Errors.{of_selection};
 ghost use Rattle.wit_resolution.specs.Pushes as pushes;
 ghost use Rattle.wit_order.specs.Order.{Has};
 ghost use Rattle.wit_resolution.specs.Groups.{UnresolvedPackageGroup};

@@ -9,7 +9,7 @@ use Rattle.wit_core_items.specs.Places.{Entry}
 use Rattle.core_links.specs.Names.{Names}
 use Rattle.linked_components.specs.Tracks.{track_of}
 
-there : {X : Type 0} (xs : List X) (i : ℕ) → i < length xs → (x : X) × (slice_get xs i ≡ Some x)
+pub there : {X : Type 0} (xs : List X) (i : ℕ) → i < length xs → (x : X) × (slice_get xs i ≡ Some x)
 there [] i within = absurd (omega arith)
 there (x ∷ xs) zero within = (x, refl)
 there (x ∷ xs) (suc i) within = there xs i (omega arith)

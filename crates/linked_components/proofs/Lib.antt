@@ -1,3 +1,4 @@
 pub mod Causes
 pub mod Following
+pub mod Others
 mod Order

@@ -9,4 +9,4 @@ mod tracks;
 pub use component::{build, links};
 pub use fault::ComponentFault;
 pub use law::{law_linked_has_no_cause, law_used_stand_before};
-pub use tracks::tracks_are_apart;
+pub use tracks::{names_change, tracks_are_apart};

@@ -9,6 +9,7 @@ mod question;
 mod refusals;
 mod row;
 mod setup;
+mod signature;
 
 use std::io;
 use std::io::{BufRead, BufReader};

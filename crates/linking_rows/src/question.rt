@@ -1,6 +1,7 @@
 //! Rows that ask a session.
 
 use crate::refusals::{write_fault, write_unresolved};
+use crate::signature::write_signatures;
 use component_linker::{Link, PackageId, Session, audit};
 use row_pages::{Page, RowFault, UNREADABLE, bytes_of, quoted, readable};
 use std::alloc::Global;
@@ -19,6 +20,8 @@ pub enum Question {
     Audit(Vec<u8>),
     /// To judge what was built last.
     AuditBuilt,
+    /// The core types of functions of this name.
+    Signature(String),
 }
 
 /// The packages of these indices, with a comma between two; `-` is none.
@@ -53,6 +56,7 @@ pub fn question_of(alloc: Global, word: &str, rest: &str) -> Result<Question, Ro
         ("audit", "built") => Ok(Question::AuditBuilt),
         ("audit", digits) => Ok(Question::Audit(bytes_of(alloc, digits)?)),
         ("select", words) => selection_of(alloc, words),
+        ("signature", name) => Ok(Question::Signature(String::from_str(alloc, name)?)),
         _ => Err(RowFault::Unreadable),
     }
 }
@@ -161,5 +165,6 @@ pub fn ask(
             Some(bytes) => write_verdict(alloc, page, session, bytes),
             None => page.words(UNREADABLE),
         },
+        Question::Signature(name) => write_signatures(page, session, name.as_str()),
     }
 }

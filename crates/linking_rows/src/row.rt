@@ -24,7 +24,7 @@ pub enum Row<'t> {
 fn row_of<'t>(alloc: Global, word: &str, rest: &'t str) -> Result<Row<'t>, RowFault> {
     match word {
         "text" | "world" | "main" | "option" => Ok(Row::Setup(setup_of(alloc, word, rest)?)),
-        "packages" | "select" | "links" | "build" | "audit" => {
+        "packages" | "select" | "links" | "build" | "audit" | "signature" => {
             Ok(Row::Question(question_of(alloc, word, rest)?))
         }
         "memory" => Ok(Row::Memory(rest)),

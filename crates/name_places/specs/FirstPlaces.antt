@@ -1,5 +1,6 @@
 -- The first place of a name.
-use Rattle.std.specs.Prelude.{◌≡◌, ⊤, ℕ, suc, List, [], ◌∷◌, Option, Some, None, option_map, bytes_eq, if◌then◌else◌}
+use Rattle.std.specs.Prelude.{◌≡◌, ⊤, ℕ, suc, Box, List, [], ◌∷◌, Option, Some, None, option_map, bytes_eq, if◌then◌else◌}
+use Rattle.std.specs.declared.alloc.Global.{Global}
 use Rattle.std.specs.Borrow.{Bor}
 use Rattle.indexmap.specs.IndexMap.{IndexMap, get_by}
 
@@ -12,6 +13,6 @@ abbrev pub AreFirst : {S : Type 0} → IndexMap (Bor (List ℕ)) ℕ S → List 
 AreFirst table names = (name : List ℕ) → get_by (λ n. bytes_eq name n.now) table ≡ place_of name names
 
 -- where there is a table, it is one of these names
-abbrev pub IsTable : {S : Type 0} → Option (IndexMap (Bor (List ℕ)) ℕ S) → List (List ℕ) → Type 0
+abbrev pub IsTable : {S : Type 0} → Option (Box (IndexMap (Bor (List ℕ)) ℕ S) Global) → List (List ℕ) → Type 0
 IsTable None names = ⊤
-IsTable (Some table) names = AreFirst table names
+IsTable (Some table) names = AreFirst table.value names

@@ -17,7 +17,8 @@ pub struct FirstPlaces<'a> {
     alloc: Global,
     /// Most scopes have few names, which take no memory of their own.
     names: SmallVec<&'a str, 4>,
-    table: Option<IndexMap<&'a str, usize>>,
+    /// It stands apart, as most scopes have none.
+    table: Option<Box<IndexMap<&'a str, usize>>>,
 }
 
 impl<'a> Model for FirstPlaces<'a> {
@@ -106,7 +107,7 @@ fn add<'a>(
 /// Adds to the table of names one that comes behind them, where there is a table or it is time for one.
 fn note<'a>(
     alloc: Global,
-    table: &mut Option<IndexMap<&'a str, usize>>,
+    table: &mut Option<Box<IndexMap<&'a str, usize>>>,
     names: &[&'a str],
     name: &'a str,
 ) -> Result<(), AllocError>
@@ -119,7 +120,7 @@ fn note<'a>(
             if names.len() == FEW {
                 let mut first = table_of(alloc, names)?;
                 add(&mut first, name, names.len())?;
-                *table = Some(first);
+                *table = Some(Box::new(alloc, first)?);
             }
             Ok(())
         }

@@ -98,15 +98,16 @@ fn remember(
 }
 
 impl Types {
-    /// No types.
-    pub fn new(alloc: Global) -> Types
-        ensures { result ≡ [] }
+    /// No types, with room for so many.
+    pub fn with_capacity(alloc: Global, capacity: usize) -> Result<Types, AllocError>
+        ensures { IfOk result (λ t. t ≡ []) }
     {
-        Types {
-            arena: Arena::new(alloc),
+        let room = Vec::with_capacity(alloc, capacity)?;
+        Ok(Types {
+            arena: Arena::from_items(room),
             known: IndexMap::new(alloc),
             alloc,
-        }
+        })
     }
 
     /// The allocator.

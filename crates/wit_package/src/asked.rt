@@ -19,6 +19,7 @@ use wit_package_types::Known;
 use wit_placeholders::placeholders_of;
 use wit_resources::Natures;
 use wit_syntax::Span;
+use wit_types::{Arena, Interface};
 
 /// A package before anything of its own is brought in: the types, interfaces and worlds of others that it asks for are there.
 #[derive(Drop)]
@@ -40,26 +41,39 @@ fn natures_in(types: &Types) -> Result<Natures, AllocError>
     Ok(natures)
 }
 
-/// The types, interfaces and worlds of others that are asked for.
+/// Interfaces, with room for so many more.
+fn with_room(interfaces: Arena<Interface>, capacity: usize) -> Result<Arena<Interface>, AllocError>
+    ensures { IfOk result (λ a. a ≡ interfaces) }
+{
+    let mut items = interfaces.into_items();
+    items.reserve(capacity)?;
+    Ok(Arena::from_items(items))
+}
+
+/// The types, interfaces and worlds of others that are asked for, with room for so many interfaces of its own.
 pub fn start_of<'a>(
     alloc: Global,
     items: &ForeignItems<'a>,
     needs: &[Need<'a>],
+    capacity: usize,
 ) -> Result<Start<'a>, AllocError>
     requires items { AreItemsOf (seen.needs needs.now) items.now }
     requires uses { AreUses (seen.needs needs.now) }
     ensures { IfOk result (λ s. spec.IsStart (seen.needs needs.now) items.now s.building.known s.building.types s.building.natures s.building.interfaces s.worlds.names s.worlds.worlds s.spans.items) }
 {
-    let mut types = Types::new(alloc);
+    // Most interfaces have a type at least.
+    let mut types = Types::with_capacity(alloc, capacity)?;
     let unknown = add_unknown_types(&mut types, items, needs)?;
     let natures = natures_in(&types)?;
     let others = placeholders_of(alloc, items, needs)?;
+    let interfaces = with_room(others.interfaces, capacity)?;
+    let known = Known::with_capacity(alloc, unknown.types, capacity)?;
     Ok(Start {
         building: Building {
-            known: Known::new(alloc, unknown.types),
+            known,
             types,
             natures,
-            interfaces: others.interfaces,
+            interfaces,
         },
         worlds: BuiltWorlds {
             names: FirstPlaces::new(alloc),

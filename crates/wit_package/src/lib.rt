@@ -24,8 +24,8 @@ pub use wit_rules::{PackageFault, PackageRule};
 pub use wit_syntax::{File, SourceMap, Span, SyntaxFault, parse_file};
 pub use wit_types::{
     AbiVariant, Arena, AstItem, Case, Docs, Enum, EnumCase, Field, Flag, Flags, FlagsRepr,
-    ForeignItems, Function, FunctionKind, Handle, Id, IncludeName, Int, Interface, InterfaceId,
-    Mangling, Package, PackageId, PackageName, Param, Record, Result_, Stability, Tuple, Type,
-    TypeDef, TypeDefKind, TypeId, TypeOwner, UnresolvedPackage, Variant, World, WorldId,
-    WorldInclude, WorldItem, WorldKey, toposort,
+    ForeignItems, Function, FunctionKind, FunctionTypes, Handle, Id, IncludeName, Int, Interface,
+    InterfaceId, Mangling, Need, OrderFault, Package, PackageId, PackageName, Param, Record,
+    Result_, Stability, Tuple, Type, TypeDef, TypeDefKind, TypeId, TypeOwner, UnknownMangling,
+    UnresolvedPackage, Variant, World, WorldId, WorldInclude, WorldItem, WorldKey, toposort,
 };

@@ -84,7 +84,7 @@ fn resolved_in<'a>(
 {
     let places = places_of(alloc, declared.scopes.as_slice(), order)?;
     let items = foreign_items(alloc, needs)?;
-    let start = start_of(alloc, &items, needs)?;
+    let start = start_of(alloc, &items, needs, places.interfaces.len())?;
     built(
         alloc,
         declared,

@@ -1,6 +1,6 @@
 //! What `use` finds.
 
-ghost use Rattle.std.specs.Prelude.{◌≡◌, ℕ, [], OnErr, OnOk, IfSome, IfNone};
+ghost use Rattle.std.specs.Prelude.{◌≡◌, ℕ, [], IfOk, OnErr, OnOk, IfSome, IfNone};
 ghost use Rattle.name_places.specs.FirstPlaces.{place_of};
 ghost use Rattle.wit_syntax.specs.AstView as view;
 ghost use Rattle.wit_scopes.specs.View as scope_view;
@@ -35,15 +35,20 @@ impl<'a> Model for Known<'a> {
 }
 
 impl<'a> Known<'a> {
-    /// No interface of the package, and these types of others.
-    pub fn new(alloc: Global, foreign: ForeignTypes<'a>) -> Known<'a>
-        ensures { result ≡ record { names = []; tables = []; foreign = foreign.entry } }
+    /// No interface of the package, with room for so many, and these types of others.
+    pub fn with_capacity(
+        alloc: Global,
+        foreign: ForeignTypes<'a>,
+        capacity: usize,
+    ) -> Result<Known<'a>, AllocError>
+        ensures { IfOk result (λ k. k ≡ record { names = []; tables = []; foreign = foreign.entry }) }
     {
-        Known {
+        let tables = Vec::with_capacity(alloc, capacity)?;
+        Ok(Known {
             names: FirstPlaces::new(alloc),
-            tables: Vec::new(alloc),
+            tables,
             foreign,
-        }
+        })
     }
 
     /// The type that a `use` takes from an interface.

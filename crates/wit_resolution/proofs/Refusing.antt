@@ -11,11 +11,11 @@ use Rattle.wit_rules.specs.declared.fault.PackageFault.{PackageFault}
 use Rattle.wit_package.specs.declared.group.UnresolvedPackageGroup.{UnresolvedPackageGroup}
 use Rattle.wit_groups.specs.Pushed.{IsTogetherCause}
 use Rattle.wit_groups.specs.declared.fault.GroupFault.{GroupFault}
-use Rattle.wit_resolution.specs.Errors.{IsOfTexts, IsSizeError, of_group}
+use Rattle.wit_resolve_errors.specs.Errors.{IsOfTexts, IsSizeError, of_group}
 use Rattle.wit_resolution.specs.Groups.{packages_behind, texts_of}
 use Rattle.wit_resolution.specs.Pushes.{Resolved, IsGroupsError, AreGroupsRefused, AreTextsError, AreTextsRefused, HasNoPlace, AreGroupTextsKept, AreTextsKept}
 use Rattle.wit_resolution.specs.Texts.{AreTextsLeft, IsGroupOf, IsUnread}
-use Rattle.wit_resolution.specs.declared.error.ResolveErrorKind.{ResolveErrorKind}
+use Rattle.wit_resolve_errors.specs.declared.error.ResolveErrorKind.{ResolveErrorKind}
 
 module _ (eq : PackageName → PackageName → Bool) (old : Resolved) where
   pub together_error : (gs : List UnresolvedPackageGroup) (ps : List UnresolvedPackage) (kind : ResolveErrorKind) → ps ≡ packages_behind old.texts gs

@@ -7,8 +7,8 @@ use Rattle.wit_order.specs.Order.{Has}
 use Rattle.wit_types.specs.declared.«package».UnresolvedPackage.{UnresolvedPackage}
 use Rattle.wit_package.specs.declared.group.UnresolvedPackageGroup.{UnresolvedPackageGroup}
 use Rattle.wit_offsets.specs.Offsets.{package_at, Fits, Passes}
-use Rattle.wit_resolution.specs.Errors.{IsSizeError}
-use Rattle.wit_resolution.specs.declared.error.ResolveErrorKind.{ResolveErrorKind}
+use Rattle.wit_resolve_errors.specs.Errors.{IsSizeError}
+use Rattle.wit_resolve_errors.specs.declared.error.ResolveErrorKind.{ResolveErrorKind}
 use Rattle.wit_resolution.specs.Groups.{packages_of, packages_behind, texts_of, Fit, Pass, AllFit, SomePass, BeginBehind}
 
 -- ---- packages whose texts begin there

@@ -1,4 +1,3 @@
-pub mod Errors
 pub mod Groups
 pub mod Texts
 pub mod Pushes

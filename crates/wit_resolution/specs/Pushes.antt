@@ -16,11 +16,11 @@ use Rattle.wit_graph.specs.Push.{IsPushed, IsPushCause}
 use Rattle.wit_graph_parts.specs.declared.fault.PushFault.{PushFault}
 use Rattle.wit_groups.specs.Pushed.{AreTogether, IsTogetherCause}
 use Rattle.wit_groups.specs.declared.fault.GroupFault.{GroupFault}
-use Rattle.wit_resolution.specs.Errors.{of_push, of_group, IsOfTexts}
+use Rattle.wit_resolve_errors.specs.Errors.{of_push, of_group, IsOfTexts}
 use Rattle.wit_resolution.specs.Texts.{IsGroupOf, IsUnread, AreTextsLeft}
 use Rattle.wit_resolution.specs.Groups.{packages_behind, texts_of, AllFit, SomePass, BeginBehind}
-use Rattle.wit_resolution.specs.declared.error.ResolveErrorKind.{ResolveErrorKind}
-use Rattle.wit_resolution.specs.declared.error.ResolveErrorKind.TheVariants.{TooLarge, OutOfMemory}
+use Rattle.wit_resolve_errors.specs.declared.error.ResolveErrorKind.{ResolveErrorKind}
+use Rattle.wit_resolve_errors.specs.declared.error.ResolveErrorKind.TheVariants.{TooLarge, OutOfMemory}
 
 -- the features that are active, the texts so far, and the graph of their packages
 pub record Resolved : Type 0 where

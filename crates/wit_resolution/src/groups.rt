@@ -8,17 +8,17 @@ ghost use Rattle.wit_graph.specs.Push.{HasMorePackages};
 ghost use Rattle.wit_graph_parts.specs.Own.{IsWellFormed};
 ghost use Rattle.wit_groups.specs.Pushed.{AreTogether, IsTogetherCause};
 ghost use Rattle.wit_groups.specs.declared.fault.GroupFault.{GroupFault as FaultOfGroup};
-ghost use Rattle.wit_resolution.specs.Errors.{IsSizeError, of_group};
+ghost use Rattle.wit_resolve_errors.specs.Errors.{IsSizeError, of_group};
 ghost use Rattle.wit_resolution.specs.Groups as spec;
 ghost use Rattle.wit_words.specs.Sources.{total};
 
-use crate::error::{ResolveError, ResolveErrorKind};
 use std::alloc::Global;
 use wit_features::Features;
 use wit_graph::Graph;
 use wit_groups::{GroupFault, push_together};
 use wit_offsets::with_offset;
 use wit_package::UnresolvedPackageGroup;
+use wit_resolve_errors::{ResolveError, ResolveErrorKind};
 use wit_types::{PackageId, PackageName, UnresolvedPackage};
 use wit_words::SourceMap;
 

@@ -2,14 +2,12 @@
 //! and named (WIT, Packages).
 #![tactic(auto)]
 
-mod error;
 mod groups;
 mod names;
 mod resolve;
 mod sources;
 mod texts;
 
-pub use error::{ResolveError, ResolveErrorKind, ResolveResult};
 pub use resolve::Resolve;
 pub use sources::PackageSources;
 pub use wit_core_items::{CoreExports, CoreImports};
@@ -18,5 +16,6 @@ pub use wit_core_tables::Meaning;
 pub use wit_features::Features;
 pub use wit_graph::Graph;
 pub use wit_package::UnresolvedPackageGroup;
+pub use wit_resolve_errors::{ResolveError, ResolveErrorKind, ResolveResult};
 pub use wit_well_formed::law_parsed_packages_are_well_formed;
 pub use wit_words::{SourceMap, SourceNames, Span};

@@ -13,7 +13,7 @@ ghost use Rattle.wit_graph_parts.specs.Own.{IsWellFormed};
 ghost use Rattle.wit_order.specs.Order.{Has};
 ghost use Rattle.wit_package.specs.GroupView.{texts};
 ghost use Rattle.wit_package.specs.declared.group.UnresolvedPackageGroup.{UnresolvedPackageGroup};
-ghost use Rattle.wit_resolution.specs.Errors.{of_selection, IsErrorLine, IsOfTexts, IsSizeError};
+ghost use Rattle.wit_resolve_errors.specs.Errors.{of_selection, IsErrorLine, IsOfTexts, IsSizeError};
 ghost use Rattle.wit_resolution.specs.Groups.{packages_of};
 ghost use Rattle.wit_resolution.specs.Pushes as spec;
 ghost use Rattle.wit_resolution.specs.Texts.{files_of};
@@ -22,7 +22,6 @@ ghost use Rattle.wit_selection.specs.declared.selection.SelectFault.{SelectFault
 ghost use Rattle.wit_types.specs.declared.«package».UnresolvedPackage.{UnresolvedPackage};
 ghost use Rattle.wit_words.specs.Sources.{total, IsLocation};
 
-use crate::error::ResolveError;
 use crate::groups::{packages_of_groups, push_packages};
 use crate::texts::groups_of_texts;
 use indexmap::IndexMap;
@@ -32,6 +31,7 @@ use wit_features::Features;
 use wit_graph::Graph;
 use wit_offsets::with_offset;
 use wit_package::{PackageFault, UnresolvedPackageGroup};
+use wit_resolve_errors::ResolveError;
 use wit_selection::select_world;
 use wit_types::{
     Arena, Interface, Package, PackageId, PackageName, Type, TypeDef, UnresolvedPackage, World,

@@ -112,10 +112,10 @@ fn include_names(alloc: Global, written: &[WrittenName<'_>]) -> Result<Vec<Inclu
 }
 
 /// What stands for a world that another includes.
-fn include_of(
+fn include_of<'a>(
     alloc: Global,
-    paths: &Paths<'_>,
-    included: &Included<'_>,
+    paths: &Paths<'_, 'a>,
+    included: &Included<'a>,
 ) -> Result<WorldInclude, AllocError>
     requires there { path_spec.IsWorldThere (seen.paths paths.now) (scope_view.target included.now.world) }
     requires sorts { path_spec.AreSorts (seen.paths paths.now).items }
@@ -148,11 +148,11 @@ fn add_entry(lists: &mut Lists, side: Side, entry: (WorldKey, WorldItem)) -> Res
 }
 
 /// What stands for an import or export.
-fn listed_entry(
+fn listed_entry<'a>(
     alloc: Global,
-    paths: &Paths<'_>,
+    paths: &Paths<'_, 'a>,
     left: &mut Left,
-    listed: &Listed<'_>,
+    listed: &Listed<'a>,
 ) -> Result<(WorldKey, WorldItem), AllocError>
     requires listable { spec.IsListable (seen.paths paths.now) left.old.functions.items left.old.labelled.items (scope.listed (scope_view.listed listed.now)) }
     requires sorts { path_spec.AreSorts (seen.paths paths.now).items }
@@ -170,12 +170,12 @@ fn listed_entry(
 }
 
 /// Adds what stands for a member of a world.
-fn add_member(
+fn add_member<'a>(
     lists: &mut Lists,
     alloc: Global,
-    paths: &Paths<'_>,
+    paths: &Paths<'_, 'a>,
     left: &mut Left,
-    member: &WorldMember<'_>,
+    member: &WorldMember<'a>,
 ) -> Result<(), AllocError>
     requires listable { spec.IsListable (seen.paths paths.now) left.old.functions.items left.old.labelled.items (scope_view.world_member member.now) }
     requires sorts { path_spec.AreSorts (seen.paths paths.now).items }
@@ -213,12 +213,12 @@ fn is_function(kind: &MemberKind<'_>) -> bool
 
 /// What stands for the members of a world, in the order of the text: of its functions and of the interfaces that stand in it
 /// each is taken once. These imports stand in front of all others.
-pub fn lists_of(
+pub fn lists_of<'a>(
     alloc: Global,
-    paths: &Paths<'_>,
+    paths: &Paths<'_, 'a>,
     left: Left,
     imports: Vec<(WorldKey, WorldItem)>,
-    members: &[WorldMember<'_>],
+    members: &[WorldMember<'a>],
 ) -> Result<Lists, AllocError>
     requires functions { length left.functions.items ≡ length (functions_among (own_members (map scope_view.world_member members.now))) }
     requires labelled { length left.labelled.items ≡ length (flat_map (member_texts []) (map scope_view.world_member members.now)) }

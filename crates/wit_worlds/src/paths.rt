@@ -14,17 +14,17 @@ use wit_types::{AstItem, InterfaceId, WorldId};
 
 /// Where the paths of a world lead: to interfaces and worlds of the package by their names, and to those of other packages.
 #[derive(Clone, Copy)]
-pub struct Paths<'a> {
+pub struct Paths<'s, 'a> {
     /// The interfaces of the package.
-    pub interfaces: &'a Known<'a>,
+    pub interfaces: &'s Known<'a>,
     /// The id of the first of them.
     pub first_interface: usize,
     /// The worlds of the package so far.
-    pub worlds: &'a FirstPlaces<'a>,
+    pub worlds: &'s FirstPlaces<'a>,
     /// The id of the first of them.
     pub first_world: usize,
     /// What is asked of other packages.
-    pub items: &'a ForeignItems<'a>,
+    pub items: &'s ForeignItems<'a>,
 }
 
 /// The id of an interface.
@@ -49,7 +49,7 @@ fn world_id(item: AstItem) -> WorldId
     }
 }
 
-impl<'a> Paths<'a> {
+impl<'s, 'a> Paths<'s, 'a> {
     ghost use Rattle.wit_worlds.specs.PathView as seen;
 
     /// The interface that a path names.

@@ -86,10 +86,10 @@ fn world_from(alloc: Global, world: &WorldScope<'_>, lists: Lists) -> Result<Wor
 }
 
 /// What is listed in a world.
-fn lists_in(
+fn lists_in<'a>(
     alloc: Global,
-    world: &WorldScope<'_>,
-    paths: &Paths<'_>,
+    world: &WorldScope<'a>,
+    paths: &Paths<'_, 'a>,
     left: Left,
     imports: Vec<(WorldKey, WorldItem)>,
 ) -> Result<Lists, AllocError>
@@ -102,11 +102,11 @@ fn lists_in(
 
 /// A world of its types, of its functions and of the interfaces that stand in it: its types come first among its imports, and
 /// all else stands in the order of the text.
-pub fn world_of(
+pub fn world_of<'a>(
     alloc: Global,
     types: &Types,
-    paths: &Paths<'_>,
-    world: &WorldScope<'_>,
+    paths: &Paths<'_, 'a>,
+    world: &WorldScope<'a>,
     table: &Table<'_>,
     left: Left,
 ) -> Result<World, AllocError>

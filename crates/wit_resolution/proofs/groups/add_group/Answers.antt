@@ -2,7 +2,7 @@ use Rattle.std.proofs.Common.{◌≡◌, ◌∷◌, ◌++◌, [], List, ℕ, inr
 use Rattle.wit_words.specs.Sources.{total}
 use Rattle.wit_scopes.proofs.Outcomes.{if_err}
 use Rattle.wit_types.specs.declared.«package».UnresolvedPackage.{UnresolvedPackage}
-use Rattle.wit_resolution.specs.Errors.{IsSizeError}
+use Rattle.wit_resolve_errors.specs.Errors.{IsSizeError}
 use Rattle.wit_resolution.specs.Groups.{packages_of, Pass}
 use Rattle.wit_resolution.proofs.Taking.{OnePassesAt, size_weaker}
 use Rattle.wit_resolution.proofs.groups.add_group.Goals as goal

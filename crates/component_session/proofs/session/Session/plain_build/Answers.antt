@@ -10,8 +10,8 @@ pub returns-in_err-bytes-clause-cause : goal.returns-in_err-bytes-clause-cause
 returns-in_err-bytes-clause-cause c =
     let fault = c.in_err-bytes.field-0.0 in
     moved_up c.from_residual.result (of_linking fault) (IsBuildCause c.args.self.now) c.from_residual.ensures.1
-    (encode_cause_is c.args.self.now (view.linking c.plain_linking-linking.result) c.plain_linking-linking.ensures c.requires.here c.requires.exports c.requires.plain.here fault c.in_err-bytes.ensures.cause)
+    (encode_cause_is c.args.self.now (view.linking c.plain_linking-linking.result) c.plain_linking-linking.ensures c.requires.exports c.requires.plain.here fault c.in_err-bytes.ensures.cause)
 
 pub returns-clause-right : goal.returns-clause-right
 returns-clause-right c =
-    built c.args.self.now (view.linking c.plain_linking-linking.result) c.plain_linking-linking.ensures c.requires.here c.requires.exports c.requires.plain.here c.in_ok-bytes.bytes.items c.in_ok-bytes.ensures.linkable c.in_ok-bytes.ensures.fits c.in_ok-bytes.ensures.found
+    built c.args.self.now (view.linking c.plain_linking-linking.result) c.plain_linking-linking.ensures c.requires.exports c.requires.plain.here c.in_ok-bytes.bytes.items c.in_ok-bytes.ensures.linkable c.in_ok-bytes.ensures.fits c.in_ok-bytes.ensures.found

@@ -10,8 +10,8 @@ pub returns-in_err-verdict-clause-cause : goal.returns-in_err-verdict-clause-cau
 returns-in_err-verdict-clause-cause c =
     let fault = c.in_err-verdict.field-0.0 in
     moved_up c.from_residual.result (of_linking fault) (IsAuditCause c.args.self.now c.args.bytes.now) c.from_residual.ensures.1
-    (audit_cause_is c.args.self.now (view.linking c.plain_linking-linking.result) c.plain_linking-linking.ensures c.requires.here c.requires.exports c.requires.plain.here c.args.bytes.now fault c.in_err-verdict.ensures.cause)
+    (audit_cause_is c.args.self.now (view.linking c.plain_linking-linking.result) c.plain_linking-linking.ensures c.requires.exports c.requires.plain.here c.args.bytes.now fault c.in_err-verdict.ensures.cause)
 
 pub returns-clause-verdict : goal.returns-clause-verdict
 returns-clause-verdict c =
-    judged c.args.self.now (view.linking c.plain_linking-linking.result) c.plain_linking-linking.ensures c.requires.here c.requires.exports c.requires.plain.here c.args.bytes.now c.in_ok-verdict.verdict c.in_ok-verdict.ensures.here c.in_ok-verdict.ensures.verdict c.in_ok-verdict.ensures.linkable
+    judged c.args.self.now (view.linking c.plain_linking-linking.result) c.plain_linking-linking.ensures c.requires.exports c.requires.plain.here c.args.bytes.now c.in_ok-verdict.verdict c.in_ok-verdict.ensures.here c.in_ok-verdict.ensures.verdict c.in_ok-verdict.ensures.linkable

@@ -12,8 +12,8 @@ pub returns-in_err-links-clause-cause : goal.returns-in_err-links-clause-cause
 returns-in_err-links-clause-cause c =
     let fault = c.in_err-links.field-0.0 in
     moved_up c.from_residual.result (of_linking fault) (IsCause c.args.self.now) c.from_residual.ensures.1
-    (link_cause_is c.args.self.now (view.linking c.plain_linking-linking.result) c.plain_linking-linking.ensures c.requires.here c.requires.exports c.requires.plain.here fault c.in_err-links.ensures.cause)
+    (link_cause_is c.args.self.now (view.linking c.plain_linking-linking.result) c.plain_linking-linking.ensures c.requires.exports c.requires.plain.here fault c.in_err-links.ensures.cause)
 
 pub returns-clause-links : goal.returns-clause-links
 returns-clause-links c =
-    listed c.args.self.now (view.linking c.plain_linking-linking.result) c.plain_linking-linking.ensures c.requires.here c.requires.exports c.requires.plain.here (map link_value c.in_ok-links.links.items) c.in_ok-links.ensures.links c.in_ok-links.ensures.linkable
+    listed c.args.self.now (view.linking c.plain_linking-linking.result) c.plain_linking-linking.ensures c.requires.exports c.requires.plain.here (map link_value c.in_ok-links.links.items) c.in_ok-links.ensures.links c.in_ok-links.ensures.linkable

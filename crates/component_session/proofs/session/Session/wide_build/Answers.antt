@@ -31,7 +31,7 @@ pub returns-in_err-bytes-clause-cause : goal.returns-in_err-bytes-clause-cause
 returns-in_err-bytes-clause-cause c =
     let fault = c.in_err-bytes.field-0.0 in
     moved_up c.from_residual-in_err-bytes.result (of_component fault) (IsBuildCause c.args.self.now) c.from_residual-in_err-bytes.ensures.1
-    (component_cause_is c.args.self.now (linking_value c.wide_linking-linking.result) c.wide_linking-linking.ensures c.requires.here c.requires.exports c.requires.wide c.in_ok-check_options.ensures.ok fault c.in_err-bytes.ensures.cause)
+    (component_cause_is c.args.self.now (linking_value c.wide_linking-linking.result) c.wide_linking-linking.ensures c.requires.exports c.requires.wide c.in_ok-check_options.ensures.ok fault c.in_err-bytes.ensures.cause)
 
 pub returns-clause-right : goal.returns-clause-right
 returns-clause-right c =
@@ -39,4 +39,4 @@ returns-clause-right c =
     let links = c.wide_linking-linking.ensures in
     let handed = same_Some c.requires.main.handed links.handed (sym c.requires.main.hands ∙ links.hands) in
     let bytes = c.requires.main.bytes_are ∙ ap (λ h. h.bytes) handed in
-    wide_built c.args.self.now l links c.requires.here c.requires.exports c.requires.wide c.in_ok-check_options.ensures.ok c.in_ok-bytes.bytes.items (subst (λ b. IsComponentOf l b c.in_ok-bytes.bytes.items) bytes c.in_ok-bytes.ensures.right)
+    wide_built c.args.self.now l links c.requires.exports c.requires.wide c.in_ok-check_options.ensures.ok c.in_ok-bytes.bytes.items (subst (λ b. IsComponentOf l b c.in_ok-bytes.bytes.items) bytes c.in_ok-bytes.ensures.right)

@@ -12,8 +12,8 @@ pub returns-in_err-links-clause-cause : goal.returns-in_err-links-clause-cause
 returns-in_err-links-clause-cause c =
     let fault = c.in_err-links.field-0.0 in
     moved_up c.from_residual-in_err-links.result (of_table fault) (IsCause c.args.self.now) c.from_residual-in_err-links.ensures.1
-    (table_cause_is c.args.self.now (linking_value c.wide_linking-linking.result) c.wide_linking-linking.ensures c.requires.here c.requires.exports c.requires.wide c.in_ok-check_options.ensures.ok fault c.in_err-links.ensures.cause)
+    (table_cause_is c.args.self.now (linking_value c.wide_linking-linking.result) c.wide_linking-linking.ensures c.requires.exports c.requires.wide c.in_ok-check_options.ensures.ok fault c.in_err-links.ensures.cause)
 
 pub returns-clause-links : goal.returns-clause-links
 returns-clause-links c =
-    wide_listed c.args.self.now (linking_value c.wide_linking-linking.result) c.wide_linking-linking.ensures c.requires.here c.requires.exports c.requires.wide c.in_ok-check_options.ensures.ok (map link_value c.in_ok-links.links.items) c.in_ok-links.ensures.lines
+    wide_listed c.args.self.now (linking_value c.wide_linking-linking.result) c.wide_linking-linking.ensures c.requires.exports c.requires.wide c.in_ok-check_options.ensures.ok (map link_value c.in_ok-links.links.items) c.in_ok-links.ensures.lines

@@ -5,9 +5,9 @@ use Rattle.wit_types.specs.contracts.«package».PackageNamePartialEq.TheImpl.{e
 use Rattle.wit_scopes.proofs.Outcomes.{if_err}
 use Rattle.wit_groups.specs.Pushed.{IsTogetherCause}
 use Rattle.wit_groups.specs.declared.fault.GroupFault.{GroupFault}
-use Rattle.wit_resolution.specs.Errors.{of_group}
+use Rattle.wit_resolve_errors.specs.Errors.{of_group}
 use Rattle.wit_resolution.specs.Pushes.{Resolved, IsGroupsError, AreGroupTextsKept}
-use Rattle.wit_resolution.specs.declared.error.ResolveErrorKind.{ResolveErrorKind}
+use Rattle.wit_resolve_errors.specs.declared.error.ResolveErrorKind.{ResolveErrorKind}
 use Rattle.wit_resolution.proofs.Moved.{behind_well_formed, some_behind}
 use Rattle.wit_resolution.proofs.Refusing.{together_error, groups_kept}
 use Rattle.wit_resolution.proofs.resolve.Resolve.push_all.Goals as goal

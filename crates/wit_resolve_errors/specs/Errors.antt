@@ -17,10 +17,10 @@ use Rattle.wit_groups.specs.declared.fault.GroupFault.{GroupFault}
 use Rattle.wit_groups.specs.declared.fault.GroupFault.TheVariants as group
 use Rattle.wit_selection.specs.declared.selection.SelectFault.{SelectFault}
 use Rattle.wit_selection.specs.declared.selection.SelectFault.TheVariants as selection
-pub use Rattle.wit_resolution.specs.declared.error.ResolveErrorKind.{ResolveErrorKind}
-use Rattle.wit_resolution.specs.declared.error.ResolveErrorKind.TheVariants.{Syntax, Package, TooLarge, PackageNotFound, ItemNotFound, PackageCycle, DuplicatePackage, IncludeClash, ExportConflict, GateVersion, WorldNotFound, ForeignShape, OutOfMemory}
-use Rattle.wit_resolution.specs.contracts.error.ResolveError.{the_row as error_row}
-use Rattle.wit_resolution.specs.contracts.error.ResolveErrorKind.{the_row as kind_row}
+pub use Rattle.wit_resolve_errors.specs.declared.error.ResolveErrorKind.{ResolveErrorKind}
+use Rattle.wit_resolve_errors.specs.declared.error.ResolveErrorKind.TheVariants.{Syntax, Package, TooLarge, PackageNotFound, ItemNotFound, PackageCycle, DuplicatePackage, IncludeClash, ExportConflict, GateVersion, WorldNotFound, ForeignShape, OutOfMemory}
+use Rattle.wit_resolve_errors.specs.contracts.error.ResolveError.{the_row as error_row}
+use Rattle.wit_resolve_errors.specs.contracts.error.ResolveErrorKind.{the_row as kind_row}
 
 -- the kind of an error is lent, and what is written there is its kind from then on
 abbrev pub LendsKind : MutBor ResolveErrorKind → MutBor ResolveErrorKind → Fml

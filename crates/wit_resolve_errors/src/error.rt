@@ -2,14 +2,14 @@
 
 ghost use Rattle.std.specs.Prelude.{◌≡◌, Some, None, IfOk, IfSome, string_bytes};
 ghost use Rattle.wit_offsets.specs.Offsets.{SpanFits, span_at};
-ghost use Rattle.wit_resolution.specs.Errors as spec;
+ghost use Rattle.wit_resolve_errors.specs.Errors as spec;
 
 use std::alloc::{AllocError, AllocFailed, Global};
 use std::marker::Model;
 use thiserror::Error;
-use wit_graph::PushFault;
+use wit_graph_parts::PushFault;
 use wit_offsets::TooLarge;
-use wit_package::{PackageFault, PackageRule};
+use wit_rules::{PackageFault, PackageRule};
 use wit_selection::SelectFault;
 use wit_words::{Rule, SourceFault, SourceMap, Span, SyntaxFault};
 
@@ -148,7 +148,7 @@ pub struct ResolveError {
 pub type ResolveResult<T> = Result<T, ResolveError>;
 
 impl Model for ResolveError {
-    ghost use Rattle.wit_resolution.specs.declared.error.ResolveErrorKind.{ResolveErrorKind};
+    ghost use Rattle.wit_resolve_errors.specs.declared.error.ResolveErrorKind.{ResolveErrorKind};
 
     ghost Value = { ResolveErrorKind };
 
@@ -159,7 +159,7 @@ impl Model for ResolveError {
 
 impl ResolveError {
     ghost use Rattle.std.specs.Borrow.{sem};
-    ghost use Rattle.wit_resolution.specs.Errors.{LendsKind};
+    ghost use Rattle.wit_resolve_errors.specs.Errors.{LendsKind};
 
     /// Which refusal it is.
     pub fn kind(&self) -> &ResolveErrorKind
@@ -253,7 +253,7 @@ impl From<ResolveErrorKind> for ResolveError {
 }
 
 impl From<PushFault> for ResolveError {
-    ghost use Rattle.wit_resolution.specs.Errors.{of_push};
+    ghost use Rattle.wit_resolve_errors.specs.Errors.{of_push};
 
     ghost from_gives = { λ fault e. e ≡ of_push fault };
 
@@ -273,7 +273,7 @@ impl From<PushFault> for ResolveError {
 }
 
 impl From<SelectFault> for ResolveError {
-    ghost use Rattle.wit_resolution.specs.Errors.{of_selection};
+    ghost use Rattle.wit_resolve_errors.specs.Errors.{of_selection};
 
     ghost from_gives = { λ fault e. e ≡ of_selection fault };
 
@@ -287,7 +287,7 @@ impl From<SelectFault> for ResolveError {
 }
 
 impl From<SourceFault> for ResolveError {
-    ghost use Rattle.wit_resolution.specs.Errors.{of_source};
+    ghost use Rattle.wit_resolve_errors.specs.Errors.{of_source};
 
     ghost from_gives = { λ fault e. e ≡ of_source fault };
 
@@ -301,7 +301,7 @@ impl From<SourceFault> for ResolveError {
 }
 
 impl From<TooLarge> for ResolveError {
-    ghost use Rattle.wit_resolution.specs.declared.error.ResolveErrorKind.TheVariants as kind;
+    ghost use Rattle.wit_resolve_errors.specs.declared.error.ResolveErrorKind.TheVariants as kind;
 
     ghost from_gives = { λ _ e. e ≡ kind.TooLarge };
 
@@ -313,7 +313,7 @@ impl From<TooLarge> for ResolveError {
 }
 
 impl From<AllocError> for ResolveError {
-    ghost use Rattle.wit_resolution.specs.declared.error.ResolveErrorKind.TheVariants.{OutOfMemory};
+    ghost use Rattle.wit_resolve_errors.specs.declared.error.ResolveErrorKind.TheVariants.{OutOfMemory};
 
     ghost from_gives = { λ _ e. e ≡ OutOfMemory };
 
@@ -325,7 +325,7 @@ impl From<AllocError> for ResolveError {
 }
 
 impl<T: Drop> From<AllocFailed<T>> for ResolveError {
-    ghost use Rattle.wit_resolution.specs.declared.error.ResolveErrorKind.TheVariants.{OutOfMemory};
+    ghost use Rattle.wit_resolve_errors.specs.declared.error.ResolveErrorKind.TheVariants.{OutOfMemory};
 
     ghost from_gives = { λ _ e. e ≡ OutOfMemory };
 

@@ -1,0 +1,3 @@
+mod Pushing
+mod Reading
+mod Texts

@@ -1,0 +1,6 @@
+pub mod Asked
+pub mod Deps
+pub mod Resolved
+pub mod Said
+pub mod Graphs
+pub mod Causes
