@@ -2,7 +2,6 @@
 #![tactic(auto)]
 
 mod program;
-mod sample;
 
 pub use command_line::{Action, Encoding, Input, Line, LineFault, read_line};
 pub use component_builder::{EmitFault, emit};
@@ -13,4 +12,3 @@ pub use component_session::{
     law_ready_has_no_cause, law_right_is_judged_yes, law_written_is_right,
 };
 pub use program::run;
-pub use sample::example;

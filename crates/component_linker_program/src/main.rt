@@ -3,7 +3,10 @@
 
 ghost use Rattle.std.specs.Prelude.{◌<◌};
 
-use component_linker::{Input, Line, LineFault, example, read_line, run};
+mod sample;
+
+use crate::sample::example;
+use component_linker::{Input, Line, LineFault, read_line, run};
 use std::alloc::Global;
 use std::io::{ErrorKind, Write};
 use std::process::ExitCode;

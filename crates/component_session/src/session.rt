@@ -131,13 +131,14 @@ impl<'a> Session<'a> {
     /// all texts that were pushed. Each package has the name that one of these says; each interface and each world is of such a package and means what the text does
     /// whose it is; what is taken of another package is what stands here under the names of that package
     /// and of its interface; a function of a resource is of that for which the resource's name stands; and all that a world imports and exports is what texts say,
-    /// its own or those of worlds that it includes. All packages of the texts are there under their names, also nested ones, with each interface and each world that
+    /// its own or those of worlds that it includes, by statements that stay by the features that were active when they were pushed: of the world, of the item, of the
+    /// resource that a function is of, and each `include`. All packages of the texts are there under their names, also nested ones, with each interface and each world that
     /// has a name and stays by the features that were active when they were pushed, and with what of its own text stays: types and functions under their names; what
     /// a world imports and exports, under labels or, by paths, as the interfaces that have these names, with the members of an interface that stands in it; and all
     /// that the worlds bring that it includes, under names that change. Under names these packages have no other interfaces and worlds, and interfaces no other
     /// types and functions (WIT, Packages, Nested Packages, Items, Feature Gates, Use, Types).
     pub fn law_packages_mean_their_texts(&self)
-        ensures { (come : ComeOfTexts ⟦<PackageName as PartialEq>⟧.eq self.now.resolved) → MeansItsTexts (coming.pushes ⟦<PackageName as PartialEq>⟧.eq self.now.resolved come) self.now.resolved.graph × AreAllThere (coming.pushes_with ⟦<PackageName as PartialEq>⟧.eq self.now.resolved come) self.now.resolved.graph.tables }
+        ensures { (come : ComeOfTexts ⟦<PackageName as PartialEq>⟧.eq self.now.resolved) → MeansItsTexts (coming.pushes_with ⟦<PackageName as PartialEq>⟧.eq self.now.resolved come) self.now.resolved.graph × AreAllThere (coming.pushes_with ⟦<PackageName as PartialEq>⟧.eq self.now.resolved come) self.now.resolved.graph.tables }
     {
         law_same_names_are_equal();
         law_equal_names_are_the_same();

@@ -4,7 +4,7 @@ use crate::memory;
 use crate::question::ask;
 use crate::row::{Row, read_row};
 use crate::setup::{Texts, hand_over};
-use component_linker::Session;
+use component_session::Session;
 use row_pages::{Page, UNREADABLE};
 use std::alloc::{AllocError, Global};
 

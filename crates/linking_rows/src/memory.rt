@@ -4,7 +4,7 @@
 //! refuses the first request, the second and so on until a run meets no refusal.
 
 use crate::refusals::{write_fault, write_unresolved};
-use component_linker::{
+use component_session::{
     Fault, HandedModule, Link, LinkKind, LinkSide, Options, PackageId, Resolve, ResolveError,
     ResolveErrorKind, Session, StringEncoding, Verdict, WorldId, audit,
 };

@@ -1,6 +1,6 @@
 //! The lines of refusals.
 
-use component_linker::{Fault, ResolveError, Session};
+use component_session::{Fault, ResolveError, Session};
 use row_pages::Page;
 
 /// The line of a refusal.

@@ -1,7 +1,7 @@
 //! Rows that hand a session its input; they are answered where they are refused.
 
 use crate::refusals::{write_fault, write_unresolved};
-use component_linker::{Fault, PackageId, Session, StringEncoding, WorldId};
+use component_session::{Fault, PackageId, Session, StringEncoding, WorldId};
 use row_pages::{Page, RowFault, UNREADABLE, bytes_of, readable, unescaped};
 use std::alloc::Global;
 

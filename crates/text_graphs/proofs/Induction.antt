@@ -1,6 +1,5 @@
 -- What each package of texts keeps of a graph is so of each graph that comes of texts.
 use Rattle.std.proofs.Common.{◌≡◌, ℕ, Bool, inl, inr, Some, List, [], ◌∷◌, ◌++◌, map, refl, sym, subst, ap, ◌∙◌}
-use Rattle.std.proofs.lemmas.List.{map-append}
 use Rattle.std.specs.Prelude.{slice_get}
 use Rattle.std.specs.List.{AllZip}
 use Rattle.wit_words.specs.Sources.{SourceText, total}
@@ -21,7 +20,7 @@ use Rattle.wit_package_order.proofs.Rows.{has_there}
 use Rattle.wit_resolution.specs.Groups.{packages_of, packages_behind}
 use Rattle.wit_resolution.specs.Texts.{IsGroupOf}
 use Rattle.wit_resolution.specs.Pushes.{Resolved, AreTextsPushed}
-use Rattle.text_graphs.specs.Coming.{IsCall, features, pushed, refused, ComeOfTexts, nothing, after, pushed_with, pushes_with, pushes}
+use Rattle.text_graphs.specs.Coming.{IsCall, features, pushed, refused, ComeOfTexts, nothing, after, pushed_with, pushes_with}
 
 -- ---- packages
 
@@ -49,81 +48,78 @@ has_back (z ∷ xs) ys x h = inr (has_back xs ys x h)
 abbrev pub Each : (UnresolvedPackage → Type 0) → List UnresolvedPackage → Type 0
 Each Q ps = (p : UnresolvedPackage) → Has ps p → Q p
 
--- what is so of a package and its texts
-module _ (Q : List SourceText → UnresolvedPackage → Type 0) where
+-- texts that a call pushes, each with the features that are active
+abbrev with_each : FeatureSet → List (List SourceText) → List (FeatureSet × List SourceText)
+with_each set files = map (λ (source : List SourceText). (set, source)) files
+
+-- what is so of a package and the texts with which it was pushed
+module _ (Q : FeatureSet → List SourceText → UnresolvedPackage → Type 0) where
   abbrev pub OfTexts : Type 0
-  OfTexts = (source : List SourceText) (main : UnresolvedPackage) (nested : List UnresolvedPackage) → AreParsed source main nested → Each (Q source) (main ∷ nested)
+  OfTexts = (set : FeatureSet) (source : List SourceText) (main : UnresolvedPackage) (nested : List UnresolvedPackage) → AreParsed source main nested → Each (Q set source) (main ∷ nested)
 
   abbrev pub Moved : Type 0
-  Moved = (source : List SourceText) (p : UnresolvedPackage) (n : ℕ) → Q source p → Q source (package_at n p)
+  Moved = (set : FeatureSet) (source : List SourceText) (p : UnresolvedPackage) (n : ℕ) → Q set source p → Q set source (package_at n p)
 
-  -- it is of one of these texts
-  abbrev pub IsAmong : List (List SourceText) → UnresolvedPackage → Type 0
-  IsAmong files p = (source : List SourceText) × Has files source × Q source p
+  -- it is of one of the texts that were pushed with those features
+  abbrev pub IsAmong : List (FeatureSet × List SourceText) → FeatureSet → UnresolvedPackage → Type 0
+  IsAmong pushes set p = (source : List SourceText) × Has pushes (set, source) × Q set source p
 
-  moved_each : Moved → (source : List SourceText) (n : ℕ) (ps : List UnresolvedPackage) → Each (Q source) ps → Each (Q source) (map (package_at n) ps)
-  moved_each law source n [] own p has = absurd has
-  moved_each law source n (q ∷ qs) own p has = elim has as (λ _. Q source p) [
-    | inl here ↦ subst (Q source) (sym here) (law source q n (own q (inl refl)))
-    | inr later ↦ moved_each law source n qs (λ x h. own x (inr h)) p later
+  moved_each : Moved → (set : FeatureSet) (source : List SourceText) (n : ℕ) (ps : List UnresolvedPackage) → Each (Q set source) ps → Each (Q set source) (map (package_at n) ps)
+  moved_each law set source n [] own p has = absurd has
+  moved_each law set source n (q ∷ qs) own p has = elim has as (λ _. Q set source p) [
+    | inl here ↦ subst (Q set source) (sym here) (law set source q n (own q (inl refl)))
+    | inr later ↦ moved_each law set source n qs (λ x h. own x (inr h)) p later
   ]
 
-  joined : (files : List (List SourceText)) (xs ys : List UnresolvedPackage) → Each (IsAmong files) xs → Each (IsAmong files) ys → Each (IsAmong files) (xs ++ ys)
-  joined files [] ys one other p has = other p has
-  joined files (x ∷ xs) ys one other p has = elim has as (λ _. IsAmong files p) [
+  joined : (pushes : List (FeatureSet × List SourceText)) (set : FeatureSet) (xs ys : List UnresolvedPackage) → Each (IsAmong pushes set) xs → Each (IsAmong pushes set) ys → Each (IsAmong pushes set) (xs ++ ys)
+  joined pushes set [] ys one other p has = other p has
+  joined pushes set (x ∷ xs) ys one other p has = elim has as (λ _. IsAmong pushes set p) [
     | inl here ↦ one p (inl here)
-    | inr later ↦ joined files xs ys (λ q h. one q (inr h)) other p later
+    | inr later ↦ joined pushes set xs ys (λ q h. one q (inr h)) other p later
   ]
 
-  behind_each : OfTexts → Moved → (texts : List SourceText) (files : List (List SourceText)) (gs : List UnresolvedPackageGroup) → AllZip IsGroupOf files gs → Each (IsAmong files) (packages_behind texts gs)
-  behind_each of_texts moved texts [] [] zip p has = absurd has
-  behind_each of_texts moved texts [] (g ∷ gs) zip p has = absurd zip
-  behind_each of_texts moved texts (f ∷ fs) [] zip p has = absurd zip
-  behind_each of_texts moved texts (f ∷ fs) (g ∷ gs) zip p has =
-      let own = moved_each moved f (total texts) (packages_of g) (of_texts f g.main g.nested.items zip.0.parsed) in
-      let rest = behind_each of_texts moved (texts ++ g.source_map) fs gs zip.1 in
-      joined (f ∷ fs) (map (package_at (total texts)) (packages_of g)) (packages_behind (texts ++ g.source_map) gs) (λ q h. (f, inl refl, own q h)) (λ q h. (let r = rest q h in (r.0, inr r.1, r.2))) p has
+  behind_each : OfTexts → Moved → (set : FeatureSet) (texts : List SourceText) (files : List (List SourceText)) (gs : List UnresolvedPackageGroup) → AllZip IsGroupOf files gs → Each (IsAmong (with_each set files) set) (packages_behind texts gs)
+  behind_each of_texts moved set texts [] [] zip p has = absurd has
+  behind_each of_texts moved set texts [] (g ∷ gs) zip p has = absurd zip
+  behind_each of_texts moved set texts (f ∷ fs) [] zip p has = absurd zip
+  behind_each of_texts moved set texts (f ∷ fs) (g ∷ gs) zip p has =
+      let own = moved_each moved set f (total texts) (packages_of g) (of_texts set f g.main g.nested.items zip.0.parsed) in
+      let rest = behind_each of_texts moved set (texts ++ g.source_map) fs gs zip.1 in
+      joined (with_each set (f ∷ fs)) set (map (package_at (total texts)) (packages_of g)) (packages_behind (texts ++ g.source_map) gs) (λ q h. (f, inl refl, own q h)) (λ q h. (let r = rest q h in (r.0, inr r.1, r.2))) p has
 
 -- ---- graphs
 
 -- what is so of a graph and the texts that were pushed
-module _ (eq : PackageName → PackageName → Bool) (P : List (List SourceText) → Graph → Type 0) (Q : List SourceText → UnresolvedPackage → Type 0) where
+module _ (eq : PackageName → PackageName → Bool) (P : List (FeatureSet × List SourceText) → Graph → Type 0) (Q : FeatureSet → List SourceText → UnresolvedPackage → Type 0) where
   -- a package of one of the texts keeps it
   abbrev pub IsKept : Type 0
-  IsKept = (files : List (List SourceText)) (set : FeatureSet) (old : Graph) (p : UnresolvedPackage) (new : Graph) (id : ℕ) → IsGraph old → IsGraph new → IsAmong Q files p → IsPushed eq set old p new id → P files old → P files new
+  IsKept = (pushes : List (FeatureSet × List SourceText)) (set : FeatureSet) (old : Graph) (p : UnresolvedPackage) (new : Graph) (id : ℕ) → IsGraph old → IsGraph new → IsAmong Q pushes set p → IsPushed eq set old p new id → P pushes old → P pushes new
 
   -- and so do more texts
   abbrev pub IsKeptBehind : Type 0
-  IsKeptBehind = (files more : List (List SourceText)) (g : Graph) → P files g → P (files ++ more) g
+  IsKeptBehind = (pushes more : List (FeatureSet × List SourceText)) (g : Graph) → P pushes g → P (pushes ++ more) g
 
-  pushed_each : IsKept → (files : List (List SourceText)) (set : FeatureSet) (old : Graph) (ps : List UnresolvedPackage) (new : Graph) → Each (IsAmong Q files) ps → ArePushed eq set old ps new → IsGraph old → P files old → IsGraph new × P files new
-  pushed_each kept files set old [] new own same whole so = (subst IsGraph (sym same) whole, subst (P files) (sym same) so)
-  pushed_each kept files set old (p ∷ ps) new own (next, next_whole, is, more) whole so =
-      pushed_each kept files set next ps new (λ q h. own q (inr h)) more next_whole (kept files set old p next _ whole next_whole (own p (inl refl)) is so)
+  pushed_each : IsKept → (pushes : List (FeatureSet × List SourceText)) (set : FeatureSet) (old : Graph) (ps : List UnresolvedPackage) (new : Graph) → Each (IsAmong Q pushes set) ps → ArePushed eq set old ps new → IsGraph old → P pushes old → IsGraph new × P pushes new
+  pushed_each kept pushes set old [] new own same whole so = (subst IsGraph (sym same) whole, subst (P pushes) (sym same) so)
+  pushed_each kept pushes set old (p ∷ ps) new own (next, next_whole, is, more) whole so =
+      pushed_each kept pushes set next ps new (λ q h. own q (inr h)) more next_whole (kept pushes set old p next _ whole next_whole (own p (inl refl)) is so)
 
   module _ (of_texts : OfTexts Q) (moved : Moved Q) (kept : IsKept) (behind : IsKeptBehind) where
-    of_pushed : (before : List (List SourceText)) (old new : Resolved) (files : List (List SourceText)) (id : ℕ) → AreTextsPushed eq old files new id → IsGraph old.graph → P before old.graph → IsGraph new.graph × P (before ++ files) new.graph
+    of_pushed : (before : List (FeatureSet × List SourceText)) (old new : Resolved) (files : List (List SourceText)) (id : ℕ) → AreTextsPushed eq old files new id → IsGraph old.graph → P before old.graph → IsGraph new.graph × P (before ++ with_each old.features files) new.graph
     of_pushed before old new files id h whole so =
         let t = h.pushed.pushed in
-        let each = behind_each Q of_texts moved old.texts files h.groups h.are_groups in
-        let all : Each (IsAmong Q (before ++ files)) (packages_behind old.texts h.groups) = λ p has. (let e = each p has in (e.0, has_back before files e.0 e.1, e.2)) in
-        pushed_each kept (before ++ files) old.features old.graph t.sorted new.graph (λ p has. all p (sorted_has (packages_behind old.texts h.groups) t.order t.sorted p t.are_sorted has)) t.pushed whole (behind before files old.graph so)
+        let more = with_each old.features files in
+        let each = behind_each Q of_texts moved old.features old.texts files h.groups h.are_groups in
+        let all : Each (IsAmong Q (before ++ more) old.features) (packages_behind old.texts h.groups) = λ p has. (let e = each p has in (e.0, has_back before more (old.features, e.0) e.1, e.2)) in
+        pushed_each kept (before ++ more) old.features old.graph t.sorted new.graph (λ p has. all p (sorted_has (packages_behind old.texts h.groups) t.order t.sorted p t.are_sorted has)) t.pushed whole (behind before more old.graph so)
 
-    abbrev texts_of : List (FeatureSet × List SourceText) → List (List SourceText)
-    texts_of es = map (λ (e : FeatureSet × List SourceText). e.1) es
-
-    texts_alone : (set : FeatureSet) (files : List (List SourceText)) → files ≡ texts_of (map (λ (source : List SourceText). (set, source)) files)
-    texts_alone set [] = refl
-    texts_alone set (f ∷ files) = ap (λ (fs : List (List SourceText)). f ∷ fs) (texts_alone set files)
-
-    of_call : (before : List (List SourceText)) (old new : Resolved) (call : IsCall eq old new) → IsGraph old.graph → P before old.graph → IsGraph new.graph × P (before ++ texts_of (pushed_with eq old new call)) new.graph
+    of_call : (before : List (FeatureSet × List SourceText)) (old new : Resolved) (call : IsCall eq old new) → IsGraph old.graph → P before old.graph → IsGraph new.graph × P (before ++ pushed_with eq old new call) new.graph
     of_call before old new (features set is) whole so = (let same : new.graph ≡ old.graph = ap (λ (r : Resolved). r.graph) is in (subst IsGraph (sym same) whole, subst (P (before ++ [])) (sym same) (behind before [] old.graph so)))
-    of_call before old new (pushed files id is) whole so = (let r = of_pushed before old new files id is whole so in (r.0, subst (λ (fs : List (List SourceText)). P (before ++ fs) new.graph) (texts_alone old.features files) r.1))
+    of_call before old new (pushed files id is) whole so = of_pushed before old new files id is whole so
     of_call before old new (refused files is) whole so = (subst IsGraph (sym is.kept.graph) whole, subst (P (before ++ [])) (sym is.kept.graph) (behind before [] old.graph so))
 
-    pub of_texts_all : P [] (record { tables = graph.nothing; names = [] }) → (r : Resolved) (come : ComeOfTexts eq r) → IsGraph r.graph × P (pushes eq r come) r.graph
+    pub of_texts_all : P [] (record { tables = graph.nothing; names = [] }) → (r : Resolved) (come : ComeOfTexts eq r) → IsGraph r.graph × P (pushes_with eq r come) r.graph
     of_texts_all first r nothing = (nothing_is_graph graph.nothing [] refl refl, first)
     of_texts_all first r (after old new come call) =
         let was = of_texts_all first old come in
-        let now = of_call (pushes eq old come) old new call was.0 was.1 in
-        (now.0, subst (λ (fs : List (List SourceText)). P fs new.graph) (sym (map-append (λ (e : FeatureSet × List SourceText). e.1) (pushes_with eq old come) (pushed_with eq old new call))) now.1)
+        of_call (pushes_with eq old come) old new call was.0 was.1

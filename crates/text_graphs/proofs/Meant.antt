@@ -11,6 +11,7 @@ use Rattle.wit_types.specs.Package.{package_text, with_version}
 use Rattle.wit_types.specs.declared.«package».Package.{Package}
 use Rattle.wit_types.specs.declared.«package».PackageName.{PackageName}
 use Rattle.wit_types.specs.declared.«package».UnresolvedPackage.{UnresolvedPackage}
+use Rattle.wit_features.specs.Features.{FeatureSet}
 use Rattle.wit_arena.specs.Tree as tree
 use Rattle.wit_arena.specs.Tree.{PackageText}
 use Rattle.wit_arena.specs.Meaning.{Has}
@@ -62,9 +63,9 @@ new_text packages q is a has e = is.fresh has.0 a has.1 (texts_same a.name q.nam
 -- ---- packages
 
 -- what is so of a package and its texts
-record IsMeantPackage (source : List SourceText) (p : UnresolvedPackage) : Type 0 where
+record IsMeantPackage (set : FeatureSet) (source : List SourceText) (p : UnresolvedPackage) : Type 0 where
   texts : PackageTexts
-  said : IsSaidBy source texts
+  said : IsSaidBy set source texts
   of_texts : IsOfTexts texts p
   are : AreOwnersOf texts.context.owners p
   apart : AreWorldsNamedApart p
@@ -72,12 +73,12 @@ record IsMeantPackage (source : List SourceText) (p : UnresolvedPackage) : Type 
   read : IsReadName p.name
 
 -- and of a graph with each of them
-record IsMeantGraph (files : List (List SourceText)) (g : Graph) : Type 0 where
+record IsMeantGraph (pushes : List (FeatureSet × List SourceText)) (g : Graph) : Type 0 where
   has : HasOwners g
   trees : HasTrees has.owners g.tables
   names_known : IsKnownGraph g
   texts : List PackageTexts
-  said : (one : PackageTexts) → Has texts one → (source : List SourceText) × order.Has files source × IsSaidBy source one
+  said : (one : PackageTexts) → Has texts one → (set : FeatureSet) × (source : List SourceText) × order.Has pushes (set, source) × IsSaidBy set source one
   packages : ArePackagesSaid texts g.tables
   interfaces : AreMeantBy texts has.owners g.tables
   worlds : AreWorldsMeantBy texts has.owners g.tables
@@ -124,11 +125,11 @@ nested_one (f ∷ files) (q ∷ ps) so_many each p has = elim has as (λ _. (g :
 ]
 
 module _ (laws : Laws) where
-  of_files : (source : List SourceText) (all : List FileTree) → AreRead source all → (files : List FileTree) → AreFilesOf all files → (p : UnresolvedPackage) → IsReadName p.name → Resolves files p → IsMeantPackage source p
-  of_files source all read files are_files p named r = record {
-    texts = texts_of files p r;
+  of_files : (set : FeatureSet) (source : List SourceText) (all : List FileTree) → AreRead source all → (files : List FileTree) → AreFilesOf all files → (p : UnresolvedPackage) → IsReadName p.name → Resolves files p → IsMeantPackage set source p
+  of_files set source all read files are_files p named r = record {
+    texts = texts_of set files p r;
     said = record { all = all; read = read; files = files; are_files = are_files; «package» = p; resolves = r; is = refl };
-    of_texts = laws.resolved_of_texts files p r;
+    of_texts = laws.resolved_of_texts set files p r;
     are = laws.resolved_owners files p r;
     apart = laws.resolved_apart files p r;
     known = laws.resolved_known files p r;
@@ -136,17 +137,17 @@ module _ (laws : Laws) where
   }
 
   of_texts : OfTexts IsMeantPackage
-  of_texts source main packages parsed p has =
+  of_texts set source main packages parsed p has =
       let named = laws.parsed_read source main packages parsed p has in
-      elim has as (λ _. IsMeantPackage source p) [
-        | inl here ↦ of_files source parsed.files parsed.read (own_files parsed.files) (own refl) p named (subst (Resolves (own_files parsed.files)) (sym here) parsed.resolved.main_is)
+      elim has as (λ _. IsMeantPackage set source p) [
+        | inl here ↦ of_files set source parsed.files parsed.read (own_files parsed.files) (own refl) p named (subst (Resolves (own_files parsed.files)) (sym here) parsed.resolved.main_is)
         | inr later ↦
             let one = nested_one (nested_files parsed.files) packages parsed.resolved.nested_are.so_many parsed.resolved.nested_are.each p later in
-            of_files source parsed.files parsed.read (one.0 ∷ []) (nested one.0 one.1 refl) p named one.2
+            of_files set source parsed.files parsed.read (one.0 ∷ []) (nested one.0 one.1 refl) p named one.2
       ]
 
   moved : Moved IsMeantPackage
-  moved source p n is = record {
+  moved set source p n is = record {
     texts = is.texts;
     said = is.said;
     of_texts = record { named = is.of_texts.named; meant = laws.moved_meant is.texts.context is.texts.interfaces is.texts.worlds p n is.of_texts.meant };
@@ -157,8 +158,9 @@ module _ (laws : Laws) where
   }
 
   kept : (eq : PackageName → PackageName → Bool) → TellsNamesApart eq → SeesSameNames eq → IsKept eq IsMeantGraph IsMeantPackage
-  kept eq tells sees files set old p new id whole new_whole among is so =
+  kept eq tells sees pushes set old p new id whole new_whole among is so =
       let one = among.2 in
+      let active : one.texts.features ≡ set = ap (λ (t : PackageTexts). t.features) one.said.is in
       let known = laws.pushed_graph_known eq set old p new id sees so.names_known one.read is in
       let o = laws.pushed_owned one.texts.context.owners so.has.owners eq set old p new id tells so.has.names_stand so.has.owned one.are one.apart is (new_text old.tables.packages is.put.added.q known.0) in
       record {
@@ -171,23 +173,23 @@ module _ (laws : Laws) where
         trees = laws.pushed_trees one.texts.context.owners so.has.owners eq set old p new id tells so.has.names_stand so.has.owned whole.whole so.has.known so.trees one.are one.known one.of_texts.meant.whole is o;
         names_known = known.1;
         texts = so.texts ++ one.texts ∷ [];
-        said = λ t has. elim (get_more so.texts one.texts t has.0 has.1) as (λ _. (source : List SourceText) × order.Has files source × IsSaidBy source t) [
+        said = λ t has. elim (get_more so.texts one.texts t has.0 has.1) as (λ _. (features : FeatureSet) × (source : List SourceText) × order.Has pushes (features, source) × IsSaidBy features source t) [
           | inl was ↦ so.said t (has.0, was)
-          | inr last ↦ (among.0, among.1, subst (IsSaidBy among.0) (sym last.1) one.said)
+          | inr last ↦ (set, among.0, among.1, subst (IsSaidBy set among.0) (sym last.1) one.said)
         ];
         packages = laws.pushed_packages so.texts one.texts eq set old p new id one.of_texts is so.packages;
         interfaces = laws.pushed_meant so.texts one.texts so.has.owners eq set old p new id tells so.has.names_stand so.has.owned whole.whole so.has.known so.trees one.are one.of_texts is o so.interfaces;
-        worlds = laws.pushed_worlds so.texts one.texts so.has.owners eq set old p new id tells so.has.names_stand so.has.owned whole.whole so.has.known so.trees one.are one.of_texts is o so.worlds;
-        worlds_said = laws.pushed_said so.texts one.texts so.has.owners eq set old p new id tells so.has.names_stand so.has.owned whole.whole so.has.known so.trees one.are one.known one.of_texts is o so.worlds_said;
+        worlds = laws.pushed_worlds so.texts one.texts so.has.owners eq set old p new id tells so.has.names_stand so.has.owned whole.whole so.has.known so.trees one.are one.of_texts active is o so.worlds;
+        worlds_said = laws.pushed_said so.texts one.texts so.has.owners eq set old p new id tells so.has.names_stand so.has.owned whole.whole so.has.known so.trees one.are one.known one.of_texts active is o so.worlds_said;
       }
 
   behind : (eq : PackageName → PackageName → Bool) → IsKeptBehind eq IsMeantGraph IsMeantPackage
-  behind eq files more g so = record {
+  behind eq pushes more g so = record {
     has = so.has;
     trees = so.trees;
     names_known = so.names_known;
     texts = so.texts;
-    said = λ t has. (let s = so.said t has in (s.0, has_front files more s.0 s.1, s.2));
+    said = λ t has. (let s = so.said t has in (s.0, s.1, has_front pushes more (s.0, s.1) s.2, s.3));
     packages = so.packages;
     interfaces = so.interfaces;
     worlds = so.worlds;

@@ -6,16 +6,16 @@ use Rattle.wit_labels.specs.Labels.{AreNamesWithinApart}
 use Rattle.wit_graph_parts.specs.Own.{IsWellFormed}
 use Rattle.wit_graph.specs.Graph as graph
 use Rattle.wit_graph.specs.Graph.{Graph, IsGraph}
-use Rattle.wit_named_graphs.specs.Pushed.{IsNamedGraph, IsNamedPackage, PushedGraphsAreNamed}
+use Rattle.wit_named_packages.specs.Pushed.{IsNamedGraph, IsNamedPackage, PushedGraphsAreNamed}
 use Rattle.wit_named_packages.specs.Named.{ParsedPackagesAreNamed, MovedPackagesAreNamed}
 use Rattle.wit_new_names.specs.Names.{IsReadName, SeesSameNames}
 use Rattle.wit_new_names.specs.Graphs.{IsKnownGraph, EmptyGraphsAreKnown, PushedGraphsAreKnown}
 use Rattle.wit_labelled_packages.specs.Names.{ParsedNamesReadBack, MovedNamesReadBack}
-use Rattle.wit_labelled_graphs.specs.Labelled.{IsLabelled, EmptyGraphsAreLabelled, PushedGraphsAreLabelled}
-use Rattle.wit_labelled_graphs.specs.Named.{AreWorldsNamed, HasNamedWorlds, EmptyGraphsHaveNamedWorlds, PushedGraphsHaveNamedWorlds}
+use Rattle.wit_labelled_packages.specs.Labelled.{IsLabelled, EmptyGraphsAreLabelled, PushedGraphsAreLabelled}
+use Rattle.wit_labelled_packages.specs.Named.{AreWorldsNamed, HasNamedWorlds, EmptyGraphsHaveNamedWorlds, PushedGraphsHaveNamedWorlds}
 use Rattle.wit_labelled_packages.specs.Texts.{ParsedPackagesHaveNamesApart, ParsedPackagesHaveNamedWorlds, MovedPackagesHaveNamedWorlds}
-use Rattle.wit_well_formed.specs.Law.{ParsedPackagesAreWellFormed, MovedPackagesAreWellFormed}
-use Rattle.wit_well_formed.specs.Within.{MovedPackagesHaveNamesApart}
+use Rattle.wit_named_packages.specs.Law.{ParsedPackagesAreWellFormed, MovedPackagesAreWellFormed}
+use Rattle.wit_named_packages.specs.Within.{MovedPackagesHaveNamesApart}
 use Rattle.text_graphs.specs.Graphs.{TextGraphsAreNamed}
 use Rattle.text_graphs.proofs.Induction.{OfTexts, Moved, IsKept, of_texts_all}
 
@@ -71,8 +71,8 @@ empty_named = record {
 }
 
 module _ (laws : Laws) where
-  of_texts : OfTexts (λ source. IsTextPackage)
-  of_texts files main nested parsed p has = record {
+  of_texts : OfTexts (λ set source. IsTextPackage)
+  of_texts set files main nested parsed p has = record {
     well = laws.parsed_well files main nested parsed p has;
     named = laws.parsed_named files main nested parsed p has;
     read = laws.parsed_read files main nested parsed p has;
@@ -80,8 +80,8 @@ module _ (laws : Laws) where
     worlds = laws.parsed_worlds files main nested parsed p has;
   }
 
-  moved : Moved (λ source. IsTextPackage)
-  moved source p n own = record {
+  moved : Moved (λ set source. IsTextPackage)
+  moved set source p n own = record {
     well = laws.moved_well p n own.well;
     named = laws.moved_named p n own.named;
     read = laws.moved_read p n own.read;
@@ -89,8 +89,8 @@ module _ (laws : Laws) where
     worlds = laws.moved_worlds p n own.worlds;
   }
 
-  kept : (eq : PackageName → PackageName → Bool) → SeesSameNames eq → IsKept eq (λ files. IsNamed) (λ source. IsTextPackage)
-  kept eq sees files set old p new id whole new_whole among is so =
+  kept : (eq : PackageName → PackageName → Bool) → SeesSameNames eq → IsKept eq (λ pushes. IsNamed) (λ set source. IsTextPackage)
+  kept eq sees pushes set old p new id whole new_whole among is so =
       let own = among.2 in
       let known = laws.pushed_known eq set old p new id sees so.known own.read is in
       record {
@@ -103,5 +103,5 @@ module _ (laws : Laws) where
   pub text_graphs_named : TextGraphsAreNamed
   text_graphs_named eq r sees come =
       let first : IsNamed (record { tables = graph.nothing; names = [] }) = record { named = empty_named; known = laws.empty_known; labelled = laws.empty_labelled; worlds = laws.empty_worlds } in
-      let all = of_texts_all eq (λ files. IsNamed) (λ source. IsTextPackage) of_texts moved (kept eq sees) (λ files more g so. so) first r come in
+      let all = of_texts_all eq (λ pushes. IsNamed) (λ set source. IsTextPackage) of_texts moved (kept eq sees) (λ pushes more g so. so) first r come in
       record { whole = all.0; named = all.1.named; known = all.1.known; labelled = all.1.labelled; worlds = all.1.worlds }

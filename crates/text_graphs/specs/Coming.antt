@@ -26,7 +26,3 @@ module _ (eq : PackageName → PackageName → Bool) where
   abbrev pub pushes_with : (r : Resolved) → ComeOfTexts r → List (FeatureSet × List SourceText)
   pushes_with _ nothing = []
   pushes_with _ (after old new come call) = pushes_with old come ++ pushed_with old new call
-
-  -- the texts alone
-  abbrev pub pushes : (r : Resolved) → ComeOfTexts r → List (List SourceText)
-  pushes r come = map (λ (e : FeatureSet × List SourceText). e.1) (pushes_with r come)

@@ -4,11 +4,11 @@ use Rattle.wit_types.specs.Package.{interface_text}
 use Rattle.wit_types.specs.declared.«package».PackageName.{PackageName}
 use Rattle.wit_graph.specs.Graph.{Graph, IsGraph}
 use Rattle.wit_names.specs.Names.{IsTextOf}
-use Rattle.wit_named_graphs.specs.Pushed.{IsNamedGraph}
+use Rattle.wit_named_packages.specs.Pushed.{IsNamedGraph}
 use Rattle.wit_new_names.specs.Names.{SeesSameNames}
 use Rattle.wit_new_names.specs.Graphs.{IsKnownGraph}
-use Rattle.wit_labelled_graphs.specs.Labelled.{IsLabelled}
-use Rattle.wit_labelled_graphs.specs.Named.{AreWorldsNamed}
+use Rattle.wit_labelled_packages.specs.Labelled.{IsLabelled}
+use Rattle.wit_labelled_packages.specs.Named.{AreWorldsNamed}
 use Rattle.wit_resolution.specs.Pushes.{Resolved}
 use Rattle.text_graphs.specs.Coming.{ComeOfTexts}
 

@@ -6,16 +6,17 @@ ghost use Rattle.text_graphs.specs.Owned.{TextGraphsHaveOwners};
 ghost use Rattle.text_graphs.specs.There.{TextPackagesAreThere};
 
 use wit_item_names::law_names_tell_interfaces_apart;
-use wit_labelled_graphs::{
-    law_empty_graphs_are_labelled, law_empty_graphs_have_named_worlds,
+use wit_labelled_packages::{
+    law_empty_graphs_are_labelled, law_empty_graphs_have_named_worlds, law_moved_names_read_back,
+    law_moved_packages_have_named_worlds, law_parsed_names_read_back,
+    law_parsed_packages_have_named_worlds, law_parsed_packages_have_names_apart,
     law_pushed_graphs_are_labelled, law_pushed_graphs_have_named_worlds,
 };
-use wit_labelled_packages::{
-    law_moved_names_read_back, law_moved_packages_have_named_worlds, law_parsed_names_read_back,
-    law_parsed_packages_have_named_worlds, law_parsed_packages_have_names_apart,
+use wit_named_packages::{
+    law_moved_packages_are_named, law_moved_packages_are_well_formed,
+    law_moved_packages_have_names_apart, law_parsed_packages_are_named,
+    law_parsed_packages_are_well_formed, law_pushed_graphs_are_named,
 };
-use wit_named_graphs::law_pushed_graphs_are_named;
-use wit_named_packages::{law_moved_packages_are_named, law_parsed_packages_are_named};
 use wit_new_names::{law_empty_graphs_are_known, law_pushed_graphs_are_known};
 use wit_pushed_trees::{
     law_empty_graphs_are_meant, law_empty_graphs_are_owned, law_empty_graphs_have_names_stand,
@@ -29,10 +30,6 @@ use wit_pushed_trees::{
     law_pushed_worlds_are_said, law_resolved_packages_are_of_texts,
     law_resolved_packages_have_owners, law_resolved_packages_have_their_items,
     law_resolved_types_are_known, law_resolved_worlds_are_named_apart,
-};
-use wit_well_formed::{
-    law_moved_packages_are_well_formed, law_moved_packages_have_names_apart,
-    law_parsed_packages_are_well_formed,
 };
 
 /// Packages that come of texts are a graph in which interfaces and worlds take types of others by use alone, and names that have to tell
@@ -72,8 +69,8 @@ pub fn law_text_names_tell_interfaces_apart()
 /// world is of such a package and means what the text does whose it is by its owner: each name stands for what it means there by lexical scope, and each that it takes of another package for what stands in the graph
 /// under that, by the names of the package and of the interface; a function of a resource is of that for which the resource's name stands. A world includes the worlds
 /// to which its text's paths lead, and has besides its own what these bring alone: each function, interface and type that it imports or exports is one that its text says
-/// or the text of a world that it includes, and so on, under names that change, functions under their own. All interfaces and worlds have owners, and each type has a
-/// tree (WIT, Packages, Package Names, Items, Use, Types).
+/// or the text of a world that it includes, and so on, under names that change, functions under their own, and every statement that says so stays by the features that
+/// were active when its text was pushed. All interfaces and worlds have owners, and each type has a tree (WIT, Packages, Package Names, Items, Feature Gates, Use, Types).
 pub fn law_text_graphs_mean_their_texts()
     ensures { TextGraphsMeanTheirTexts }
 {

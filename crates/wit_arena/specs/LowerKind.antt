@@ -1,5 +1,5 @@
 -- One way to bring a definition into an arena (WIT, Items).
-use Rattle.std.specs.Prelude.{◌≡◌, ℕ, List, Option, Some, map, string_bytes}
+use Rattle.std.specs.Prelude.{◌≡◌, ℕ, List, [], Option, Some, map, string_bytes}
 use Rattle.wit_words.specs.declared.source_map.Span.{Span}
 use Rattle.wit_types.specs.declared.kind.«Type».{«Type» as Ref}
 use Rattle.wit_types.specs.declared.kind.TypeDefKind.{TypeDefKind}
@@ -51,6 +51,25 @@ enum_case_label c = record { docs = contents_of c.docs; name = string_bytes c.na
 
 abbrev pub case_label : Case → Label
 case_label c = record { docs = contents_of c.docs; name = string_bytes c.name; span = c.span }
+
+-- ---- all of them
+
+-- the labels that a definition is written with
+abbrev pub written_labels : TypeDefKindTree → List Label
+written_labels (item.alias e) = []
+written_labels (item.fields fs) = map written_field fs
+written_labels (item.flags ls) = map written_label ls
+written_labels (item.labels ls) = map written_label ls
+written_labels (item.cases cs) = map written_case cs
+written_labels (item.resource fs) = []
+
+-- and those that a type has
+abbrev pub labels_of : TypeDefKind → List Label
+labels_of (kind.Record r) = map field_label r.fields.items
+labels_of (kind.Flags f) = map flag_label f.flags.items
+labels_of (kind.Enum e) = map enum_case_label e.cases.items
+labels_of (kind.Variant v) = map case_label v.cases.items
+labels_of _ = []
 
 -- From an arena a definition gives an arena and what it is there, one rule for each form: its types are brought in from left to right, and
 -- its names stay with what is said of them. The functions of a resource stand beside it.

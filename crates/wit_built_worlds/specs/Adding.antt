@@ -22,13 +22,13 @@ use Rattle.wit_package_types.specs.Stability.{AreGates}
 use Rattle.wit_foreign.specs.Items.{Items, interfaces_in, worlds_in}
 use Rattle.wit_resolved_scopes.specs.Each.{AreApartBy}
 use Rattle.wit_resolved_scopes.specs.Scope.{AreReady}
-use Rattle.wit_resolved_scopes.specs.InArena.{Context, own_owner, GrowsFor, IsBuilt}
+use Rattle.wit_resolved_scopes.specs.InArena.{Context, own_owner, GrowsFor, IsBuilt, IsIdOf}
 use Rattle.wit_resolved_scopes.specs.Texts.{InterfaceText, labelled_texts, own_members, side_members, plain, key_text}
 use Rattle.wit_resolved_scopes.specs.Fit.{Foreign, KnowsInterfaces, AreWorldsReady}
 use Rattle.wit_interfaces.specs.Interfaces.{AreInterfacesIn}
 use Rattle.wit_interfaces.specs.Listed.{NewTypesAreListed}
 use Rattle.wit_interfaces.specs.Adding.{MembersBreak, IsReadyIn}
-use Rattle.wit_interfaces.specs.Labelled.{TextsBreak, IsIdOf}
+use Rattle.wit_interfaces.specs.Labelled.{TextsBreak}
 use Rattle.wit_worlds.specs.Paths.{PathsTree, AreSorts, LeadRight, HaveOneOwner}
 use Rattle.wit_worlds.specs.Listing.{IsThere}
 use Rattle.wit_worlds.specs.Worlds.{IsWorldIn, AreWorldsIn}

@@ -1,2 +1,3 @@
 pub mod Adding
 pub mod Places
+pub use Rattle.wit_worlds.specs.Worlds

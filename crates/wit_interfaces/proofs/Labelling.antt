@@ -25,13 +25,13 @@ use Rattle.wit_arena.specs.Table.{Entries}
 use Rattle.wit_arena.specs.Meaning.{Has}
 use Rattle.wit_arena.proofs.Lists.{has_none, has_here, has_cases}
 use Rattle.wit_package_types.specs.Known.{KnownTypes}
-use Rattle.wit_resolved_scopes.specs.InArena.{Context, IsBuilt}
+use Rattle.wit_resolved_scopes.specs.InArena.{Context, IsBuilt, IsIdOf}
 use Rattle.wit_resolved_scopes.specs.Texts.{InterfaceText, listed_text, extern_texts, member_texts, labelled_texts}
 use Rattle.wit_resolved_scopes.proofs.Listing.{none_new}
 use Rattle.wit_resolved_scopes.proofs.Placing.{resolved_scopes_are_in}
 use Rattle.wit_interfaces.specs.Interfaces.{IsInterfaceIn, AreInterfacesIn}
 use Rattle.wit_interfaces.specs.Adding.{MembersBreak, MayBring, IsReadyIn, MakesInterface}
-use Rattle.wit_interfaces.specs.Labelled.{TextsBreak, IsIdOf, MayAddTexts, AddsTexts, AddsMore}
+use Rattle.wit_interfaces.specs.Labelled.{TextsBreak, MayAddTexts, AddsTexts, AddsMore}
 use Rattle.wit_interfaces.specs.Listed.{IsListed}
 use Rattle.wit_interfaces.proofs.Listing.{listed_through, interface_listed}
 use Rattle.wit_interfaces.proofs.Growing.{grows_for_self, grows_for_through, interfaces_grown, no_interfaces, interfaces_more}

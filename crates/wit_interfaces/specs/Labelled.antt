@@ -8,7 +8,7 @@ use Rattle.wit_orders.specs.Needs.{types_of}
 use Rattle.wit_arena.specs.Meaning.{Has, Declares}
 use Rattle.wit_package_types.specs.Known.{KnownTypes}
 use Rattle.wit_resolved_scopes.specs.Each.{Each}
-use Rattle.wit_resolved_scopes.specs.InArena.{Context, own_owner, GrowsFor, IsBuilt}
+use Rattle.wit_resolved_scopes.specs.InArena.{Context, IsIdOf, GrowsFor, IsBuilt}
 use Rattle.wit_resolved_scopes.specs.Texts.{InterfaceText}
 use Rattle.wit_interfaces.specs.Interfaces.{AreInterfacesIn}
 use Rattle.wit_interfaces.specs.Adding.{MembersBreak}
@@ -16,10 +16,6 @@ use Rattle.wit_interfaces.specs.Listed.{NewTypesAreListed}
 
 abbrev pub TextsBreak : Context → List InterfaceText → Breaks
 TextsBreak c ts = AnyBreaks (λ t. MembersBreak c t.place t.members) ts
-
--- the id is that of an interface that belongs to the place of the text
-abbrev pub IsIdOf : Context → InterfaceText → ℕ → Type 0
-IsIdOf c t id = slice_get c.owners.interfaces id ≡ Some (own_owner c t.place)
 
 -- interfaces whose scopes are the package's, and whose ids begin at that number
 pub record MayAddTexts (c : Context) (k : KnownTypes) (a : List TypeDef) (first : ℕ) (ts : List InterfaceText) : Type 0 where

@@ -15,14 +15,13 @@ ghost use Rattle.wit_interfaces.specs.Interfaces as spec;
 ghost use Rattle.wit_interfaces.specs.Adding as adding;
 ghost use Rattle.wit_interfaces.specs.View as seen;
 
-use crate::maps::keyed;
 use crate::members::bring_members;
 use crate::text::InterfaceText;
 use indexmap::IndexMap;
 use std::alloc::{AllocError, Global};
 use wit_arena::{Table, Types, docs_of};
 use wit_package_types::{Known, stability_in};
-use wit_resolved_scopes::ResolvedScope;
+use wit_resolved_scopes::{ResolvedScope, keyed};
 use wit_resources::Natures;
 use wit_rules::PackageFault;
 use wit_types::{Function, Interface, InterfaceId, TypeId, TypeOwner};

@@ -4,13 +4,11 @@
 mod building;
 mod interface;
 mod labelled;
-mod maps;
 mod members;
 mod text;
 
 pub use building::{Building, add_interfaces};
 pub use interface::{Made, make_interface};
 pub use labelled::add_labelled;
-pub use maps::keyed;
 pub use members::bring_members;
 pub use text::InterfaceText;

@@ -9,3 +9,7 @@ pub use law::{
     law_parsed_packages_have_named_worlds, law_parsed_packages_have_names_apart,
 };
 pub use names::{law_moved_names_read_back, law_parsed_names_read_back};
+pub use wit_labelled_graphs::{
+    law_empty_graphs_are_labelled, law_empty_graphs_have_named_worlds,
+    law_pushed_graphs_are_labelled, law_pushed_graphs_have_named_worlds,
+};

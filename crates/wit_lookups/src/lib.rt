@@ -1,14 +1,9 @@
-//! What the names in the files of a WIT package name: each is looked up where it stands, and refused where nothing is there
-//! under it, or something of another kind.
+//! What the names in the files of a WIT package name: what is found where each stands, and what is broken where nothing is
+//! there under it, or something of another kind.
 #![tactic(auto)]
 
 mod asks;
-mod files;
 mod found;
-mod members;
-mod names;
-mod paths;
-mod worlds;
 
-pub use asks::{Ask, Asked, foreign_asks};
-pub use files::check_lookups;
+pub use asks::Asked;
+pub use found::Found;

@@ -13,7 +13,7 @@ use Rattle.wit_order.specs.declared.fault.OrderFault.{OrderFault}
 use Rattle.wit_order.specs.declared.fault.OrderFault.TheVariants.{NameNotFound, Cycle, OutOfMemory}
 use Rattle.wit_order.specs.Order.{Has, Leads, IsLeastOrder, IsOnCircle}
 use Rattle.wit_order.specs.Places.{Rows, row, Needs, AreBelow, IsCircle, IsSorted}
-use Rattle.wit_order.specs.Names.{Ask, Table, key_list, asks, place_of, NeedsKey, IsMissing, AreAllThere, ClosesCircle, AreKeysAt, IsToposort, ask, asks_of, Entries, table, texts, AreFound, IsLookCause, IsMissCause, AreRows, AreAlike, OrderIsOfTheSet, IsFaultOf, FaultDeniesAnOrder}
+use Rattle.wit_order.specs.Names.{Ask, Table, key_list, asks, place_of, NeedsKey, IsMissing, AreAllThere, ClosesCircle, AreKeysAt, IsToposort, ask, asks_of, Entries, table, texts, AreFound, IsLookCause, IsMissCause, AreRows, LacksName, HasCircle, AreAlike, OrderIsOfTheSet, IsFaultOf, FaultDeniesAnOrder}
 use Rattle.wit_order.proofs.Orders.{least_same, leads_same, least_one}
 use Rattle.wit_order.proofs.Steps.{leads_more}
 
@@ -275,6 +275,30 @@ missing_same t u h a miss =
     let r = (h.names miss.0 a.name).0 (a, miss.1, refl) in
     (r.0, (miss.0, r.1, ap (place_of u) r.2 ∙ sym (place_same t u a.name h.keys) ∙ miss.2))
 
+lacks_same : (t u : Table) → AreAlike t u → (name : List ℕ) → LacksName t name → LacksName u name
+lacks_same t u h name (a, miss, is) =
+    let r = (h.names miss.0 a.name).0 (a, miss.1, refl) in
+    (r.0, (miss.0, r.1, ap (place_of u) r.2 ∙ sym (place_same t u a.name h.keys) ∙ miss.2), r.2 ∙ is)
+
+circle_same : (t u : Table) → AreAlike t u → HasCircle t → HasCircle u
+circle_same t u h (a, closes) =
+    let need = key_need t u h closes.from closes.to (a, closes.asked, closes.place) in (
+      need.0,
+      record {
+        from = closes.from;
+        to = closes.to;
+        asked = need.1;
+        place = need.2;
+        back = elim closes.back as (λ _. (closes.to ≡ closes.from) ⊎ ((via : List ℕ) × Leads (length u) (NeedsKey u) closes.to via closes.from)) [
+          | inl same ↦ inl same
+          | inr path ↦ inr (
+            path.0,
+            leads_sized (length t) (length u) (NeedsKey u) closes.to path.0 closes.from (leads_same (length t) (NeedsKey t) (NeedsKey u) (key_need t u h) closes.to path.0 closes.from path.1),
+          )
+        ];
+      },
+    )
+
 keys_at_same : (t u : Table) → key_list t ≡ key_list u → (order : List ℕ) (names : List (List ℕ)) → AreKeysAt t order names → AreKeysAt u order names
 keys_at_same t u e [] [] h = tt
 keys_at_same t u e [] (n ∷ ns) h = h
@@ -315,6 +339,8 @@ toposort_one t xs ys h k =
 pub order_is_of_the_set : OrderIsOfTheSet
 order_is_of_the_set = record {
   alike = λ t u names h. (toposort_same t u h names, toposort_same u t (alike_back t u h) names);
+  missing = λ t u name h. (lacks_same t u h name, lacks_same u t (alike_back t u h) name);
+  circles = λ t u h. (circle_same t u h, circle_same u t (alike_back t u h));
   one = toposort_one;
 }
 

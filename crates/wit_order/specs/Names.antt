@@ -126,9 +126,19 @@ pub record AreAlike (t u : Table) : Type 0 where
   pub keys : key_list t ≡ key_list u
   pub names : (i : ℕ) (name : List ℕ) → HasName (asks t i) name ↔ HasName (asks u i) name
 
--- tables that are alike have orders alike, and a table has at most one
+-- a key needs that name, and it is no key
+abbrev pub LacksName : Table → List ℕ → Type 0
+LacksName t name = (a : Ask) × IsMissing t a × (a.name ≡ name)
+
+-- a name that a key needs leads back to that key
+abbrev pub HasCircle : Table → Type 0
+HasCircle t = (a : Ask) × ClosesCircle t a
+
+-- tables that are alike have orders alike, lack the same names, and have circles both or neither; and a table has at most one order
 pub record OrderIsOfTheSet : Type 0 where
   pub alike : (t u : Table) (names : List (List ℕ)) → AreAlike t u → IsToposort t names ↔ IsToposort u names
+  pub missing : (t u : Table) (name : List ℕ) → AreAlike t u → LacksName t name ↔ LacksName u name
+  pub circles : (t u : Table) → AreAlike t u → HasCircle t ↔ HasCircle u
   pub one : (t : Table) (names others : List (List ℕ)) → IsToposort t names → IsToposort t others → names ≡ others
 
 -- what a fault says of a table, but for want of memory

@@ -1,3 +1,4 @@
 pub mod Needs
 pub mod Rows
 pub mod View
+pub mod Toposort

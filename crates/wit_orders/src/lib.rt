@@ -3,9 +3,11 @@
 #![tactic(auto)]
 
 mod items;
+mod law;
 mod order;
 mod types;
 
 pub use items::item_order;
+pub use law::law_orders_are_toposorts;
 pub use order::{Entry, order_of};
 pub use types::{are_types, name_nothing, scope_types, sorted_types, type_order, world_types};

@@ -16,12 +16,11 @@ use Rattle.wit_arena.specs.Tree.{Name, in_interface}
 use Rattle.wit_arena.proofs.Lists.{get_kept}
 use Rattle.wit_package_types.specs.Known.{KnownTypes}
 use Rattle.wit_foreign.specs.Items.{Items, interfaces_in}
-use Rattle.wit_resolved_scopes.specs.InArena.{Context, own_owner}
+use Rattle.wit_resolved_scopes.specs.InArena.{Context, own_owner, IsIdOf}
 use Rattle.wit_resolved_scopes.specs.Texts.{interface_text, labelled_texts}
 use Rattle.wit_resolved_scopes.specs.Fit.{KnowsInterfaces}
 use Rattle.wit_interfaces.specs.Interfaces.{AreInterfacesIn}
 use Rattle.wit_interfaces.specs.Adding.{InterfacesBreak, MayAdd, AddsInterfaces}
-use Rattle.wit_interfaces.specs.Labelled.{IsIdOf}
 use Rattle.wit_interfaces.proofs.Behind.{get_right}
 use Rattle.wit_interfaces.proofs.Growing.{grows_for_through, interfaces_grown}
 use Rattle.wit_interfaces.proofs.Labelling.{interfaces_behind}

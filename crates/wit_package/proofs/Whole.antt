@@ -22,14 +22,13 @@ use Rattle.wit_foreign.specs.Items.{Items, AreItemsOf}
 use Rattle.wit_foreign.specs.Unknown.{AreUnknown, LeadToOwners}
 use Rattle.wit_foreign.proofs.Standing.{unknown_types_stand}
 use Rattle.wit_package.specs.TopUses.{files_need}
-use Rattle.wit_resolved_scopes.specs.InArena.{own_owner, IsBuilt}
+use Rattle.wit_resolved_scopes.specs.InArena.{own_owner, IsBuilt, IsIdOf}
 use Rattle.wit_resolved_scopes.specs.Texts.{InterfaceText, AreItemsSorted, interfaces_of, worlds_of, interface_texts}
 use Rattle.wit_interfaces.specs.Interfaces.{AreInterfacesIn}
-use Rattle.wit_interfaces.specs.Labelled.{IsIdOf}
 use Rattle.wit_interfaces.specs.Listed.{NewTypesAreListed}
 use Rattle.wit_interfaces.proofs.Behind.{get_right}
 use Rattle.wit_interfaces.proofs.Growing.{extends_for}
-use Rattle.wit_worlds.specs.Worlds.{AreWorldsIn}
+use Rattle.wit_built_worlds.specs.Worlds.{AreWorldsIn}
 use Rattle.wit_readiness.proofs.Parts.{declared_kept}
 use Rattle.wit_package.specs.Start.{IsStart}
 use Rattle.wit_package.specs.Built.{MayBuild, Builds}

@@ -12,14 +12,13 @@ use Rattle.wit_arena.specs.Tree.{in_world, Owner}
 use Rattle.wit_arena.specs.Meaning.{Has}
 use Rattle.wit_package_types.specs.Known.{KnownTypes}
 use Rattle.wit_foreign.specs.Items.{Items}
-use Rattle.wit_resolved_scopes.specs.InArena.{Context, own_owner, GrowsFor, IsBuilt}
+use Rattle.wit_resolved_scopes.specs.InArena.{Context, own_owner, GrowsFor, IsBuilt, IsIdOf}
 use Rattle.wit_resolved_scopes.specs.Texts.{InterfaceText, interface_text, labelled_texts}
 use Rattle.wit_resolved_scopes.specs.Fit.{Foreign, AreInterfacesReady, AreWorldsReady}
 use Rattle.wit_interfaces.specs.Interfaces.{AreInterfacesIn}
 use Rattle.wit_interfaces.specs.Listed.{NewTypesAreListed}
 use Rattle.wit_interfaces.specs.Adding.{InterfacesBreak}
-use Rattle.wit_interfaces.specs.Labelled.{IsIdOf}
-use Rattle.wit_worlds.specs.Worlds.{AreWorldsIn}
+use Rattle.wit_built_worlds.specs.Worlds.{AreWorldsIn}
 use Rattle.wit_built_worlds.specs.Adding.{WorldsBreak, AreOwnersIn}
 
 -- the interfaces of these and those that stand in these worlds, as the text has them

@@ -26,7 +26,7 @@ use Rattle.wit_resolved_scopes.specs.InArena.{Context}
 use Rattle.wit_resolved_scopes.specs.Texts.{AreItemsSorted, worlds_of, interface_texts}
 use Rattle.wit_interfaces.specs.Interfaces.{AreInterfacesIn}
 use Rattle.wit_interfaces.specs.Listed.{NewTypesAreListed}
-use Rattle.wit_worlds.specs.Worlds.{AreWorldsIn}
+use Rattle.wit_built_worlds.specs.Worlds.{AreWorldsIn}
 use Rattle.wit_placeholders.specs.Placeholders.{ArePlaceholders}
 
 -- ---- whose interfaces and worlds are

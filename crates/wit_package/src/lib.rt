@@ -14,6 +14,7 @@ mod top_uses;
 mod versions;
 
 pub use group::UnresolvedPackageGroup;
+pub use indexmap::{IndexMap, IndexSet};
 pub use law::{
     law_built_packages_are_resolved, law_items_break_as_scopes_do, law_kept_packages_may_be_built,
     law_missing_names_come_first, law_packages_are_built_in_two_steps,
@@ -25,7 +26,9 @@ pub use wit_syntax::{File, SourceMap, Span, SyntaxFault, parse_file};
 pub use wit_types::{
     AbiVariant, Arena, AstItem, Case, Docs, Enum, EnumCase, Field, Flag, Flags, FlagsRepr,
     ForeignItems, Function, FunctionKind, FunctionTypes, Handle, Id, IncludeName, Int, Interface,
-    InterfaceId, Mangling, Need, OrderFault, Package, PackageId, PackageName, Param, Record,
-    Result_, Stability, Tuple, Type, TypeDef, TypeDefKind, TypeId, TypeOwner, UnknownMangling,
-    UnresolvedPackage, Variant, World, WorldId, WorldInclude, WorldItem, WorldKey, toposort,
+    InterfaceId, InterfaceTag, Mangling, Need, OrderFault, Package, PackageId, PackageName,
+    PackageTag, Param, Record, Result_, Stability, Stored, Tuple, Type, TypeDef, TypeDefKind,
+    TypeId, TypeOwner, TypeTag, UnknownMangling, UnresolvedPackage, Variant, World, WorldId,
+    WorldInclude, WorldItem, WorldKey, WorldTag, law_a_fault_denies_an_order,
+    law_order_is_of_the_set, law_tracks_are_their_own, law_world_keys_are_lawful, toposort,
 };

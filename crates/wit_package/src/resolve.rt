@@ -21,10 +21,11 @@ use crate::places::places_of;
 use crate::top_uses;
 use crate::versions::check_versions;
 use std::alloc::{AllocError, Global};
+use wit_checked_files::declared_in;
+use wit_checked_lookups::check_lookups;
 use wit_foreign::{ForeignItems, Need, foreign_items, foreign_needs};
-use wit_lookups::check_lookups;
 use wit_orders::item_order;
-use wit_rules::{Declared, PackageFault, declared_in};
+use wit_rules::{Declared, PackageFault};
 use wit_syntax::File;
 use wit_types::UnresolvedPackage;
 

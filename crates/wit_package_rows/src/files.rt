@@ -1,6 +1,7 @@
 //! Files of a package, and the answer to them.
 
-use crate::packages;
+use crate::packages::{self, Manner};
+use crate::pushed;
 use std::alloc::{AllocError, Global};
 use std::rt::Files;
 use std::{fs, io};
@@ -63,25 +64,33 @@ fn refusal(page: &mut Page, map: &SourceMap, fault: &PackageFault) {
 }
 
 /// What texts are resolved to.
-fn resolved(alloc: Global, paths: &[&str], texts: &[String]) -> Result<Answer, AllocError> {
+fn resolved(
+    alloc: Global,
+    paths: &[&str],
+    texts: &[String],
+    manner: Manner,
+) -> Result<Answer, AllocError> {
     let files = files_of(alloc, paths, texts)?;
-    Ok(UnresolvedPackageGroup::parse_all(alloc, files.as_slice()))
+    Ok(match manner {
+        Manner::Pushed => pushed::resolved(alloc, files.as_slice()),
+        _ => UnresolvedPackageGroup::parse_all(alloc, files.as_slice()),
+    })
 }
 
 /// Writes what texts are resolved to, or why they are refused.
-fn answer_texts(page: &mut Page, paths: &[&str], texts: &[String], places: bool) {
-    match &resolved(page.alloc, paths, texts) {
-        Ok(Ok(group)) => packages::group(page, group, places),
+fn answer_texts(page: &mut Page, paths: &[&str], texts: &[String], manner: Manner) {
+    match &resolved(page.alloc, paths, texts, manner) {
+        Ok(Ok(group)) => packages::group(page, group, manner),
         Ok(Err((map, fault))) => refusal(page, map, fault),
         Err(_) => page.refuse(),
     }
 }
 
 /// The answer to a row of texts.
-pub fn answer(page: &mut Page, front: &str, row: &str, places: bool) {
+pub fn answer(page: &mut Page, front: &str, row: &str, manner: Manner) {
     match &texts_of(page.alloc, front, row) {
         Ok(texts) if texts.len() <= PATHS.len() => {
-            answer_texts(page, PATHS, texts.as_slice(), places);
+            answer_texts(page, PATHS, texts.as_slice(), manner);
         }
         Ok(_) => page.words("! cannot read this row\n"),
         Err(_) => page.refuse(),
@@ -105,7 +114,9 @@ fn read_files<'n>(
 /// The answer to a row that names files.
 pub fn answer_files(rt: &(impl Files + AllocGlobal), page: &mut Page, names: &str) {
     match &read_files(rt, names) {
-        Ok((paths, texts)) => answer_texts(page, paths.as_slice(), texts.as_slice(), false),
+        Ok((paths, texts)) => {
+            answer_texts(page, paths.as_slice(), texts.as_slice(), Manner::Unfolded);
+        }
         Err(_) => page.words("! cannot read these files\n"),
     }
 }

@@ -3,15 +3,18 @@
 //!
 //! A line that begins with `= ` gives the words that stand in front of the first file of each row behind it, up to the next
 //! such line; `=` alone says that nothing does. Files of one row are parted by ` | `, and `\n` in a row is a line feed. A line
-//! that begins with `& ` names files that lie where the program runs, one that begins with `! ` says how large a text is to be
-//! made (`large.rt`), and one that begins with `? ` is a row of which places are written too. Lines that begin with `# ` are
-//! titles.
+//! that begins with `& ` names files that lie where the program runs, and of these it is also written what each name of a type
+//! stands for, unfolded, and how much there is in all. One that begins with `! ` says how large a text is to be made
+//! (`large.rt`), one that begins with `? ` is a row of which places are written too, and one that begins with `+ ` is a row of
+//! which the files are given to a resolver one by one. Lines that begin with `# ` are titles.
 #![tactic(auto)]
 
 mod files;
 mod large;
 mod packages;
+mod pushed;
 
+use packages::Manner;
 use std::alloc::AllocError;
 use std::io;
 use std::rt::Files;
@@ -24,9 +27,11 @@ fn marked(rt: &(impl Files + AllocGlobal), page: &mut Page, front: &str, line: &
     } else if let Some(words) = line.strip_prefix("! ") {
         large::answer(page, front, words);
     } else if let Some(row) = line.strip_prefix("? ") {
-        files::answer(page, front, row, true);
+        files::answer(page, front, row, Manner::Placed);
+    } else if let Some(row) = line.strip_prefix("+ ") {
+        files::answer(page, front, row, Manner::Pushed);
     } else {
-        files::answer(page, front, line, false);
+        files::answer(page, front, line, Manner::Parsed);
     }
 }
 

@@ -3,9 +3,22 @@
 use wit_package::UnresolvedPackageGroup;
 use wit_pages::scopes::interfaces;
 use wit_pages::worlds::worlds;
-use wit_pages::{Packages, Page, View, docs, gates, names, unnamed_types};
+use wit_pages::{Packages, Page, View, docs, gates, names, totals, type_trees, unnamed_types};
 use wit_syntax::SourceMap;
 use wit_types::{AstItem, ForeignItems, Id, Stability, TypeOwner, UnresolvedPackage};
+
+/// How packages are resolved, and what is written of them besides what they hold.
+#[derive(Clone, Copy)]
+pub enum Manner {
+    /// All files are parsed at once.
+    Parsed,
+    /// The same, and places are written too.
+    Placed,
+    /// All files are parsed at once, and the whole trees of the types and how much there is are written too.
+    Unfolded,
+    /// The files are given to a resolver one by one.
+    Pushed,
+}
 
 /// The gates of what asks for something, one behind the other.
 fn asked_under(page: &mut Page, of: &[Stability]) {
@@ -76,7 +89,8 @@ fn counts(page: &mut Page, of: &UnresolvedPackage) {
 }
 
 /// A package.
-fn package<'p>(page: &mut Page, of: &'p UnresolvedPackage, map: &'p SourceMap, places: bool) {
+fn package<'p>(page: &mut Page, of: &'p UnresolvedPackage, map: &'p SourceMap, manner: Manner) {
+    let places = matches!(manner, Manner::Placed);
     let view = &View {
         types: &of.types,
         interfaces: &of.interfaces,
@@ -97,14 +111,18 @@ fn package<'p>(page: &mut Page, of: &'p UnresolvedPackage, map: &'p SourceMap, p
     worlds(page, view);
     unnamed_types(page, view);
     counts(page, of);
+    if let Manner::Unfolded = manner {
+        type_trees(page, view);
+        totals(page, view);
+    }
     page.go_out();
 }
 
 /// The packages of some files.
-pub fn group(page: &mut Page, of: &UnresolvedPackageGroup, places: bool) {
-    package(page, &of.main, &of.source_map, places);
+pub fn group(page: &mut Page, of: &UnresolvedPackageGroup, manner: Manner) {
+    package(page, &of.main, &of.source_map, manner);
     for one in &of.nested {
-        package(page, one, &of.source_map, places);
+        package(page, one, &of.source_map, manner);
     }
 }
 

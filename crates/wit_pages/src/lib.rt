@@ -8,11 +8,15 @@ pub mod names;
 mod page;
 pub mod scopes;
 mod stability;
+mod sums;
+mod trees;
 mod types;
 mod view;
 pub mod worlds;
 
 pub use page::Page;
 pub use stability::{docs, gates};
+pub use sums::totals;
+pub use trees::type_trees;
 pub use types::unnamed_types;
 pub use view::{Packages, View, under};

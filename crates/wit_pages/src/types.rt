@@ -10,7 +10,7 @@ use wit_types::{Handle, Type, TypeDefKind, TypeId};
 const DEEPEST: u32 = 128;
 
 /// The keyword of a type that has no parts.
-fn keyword(ty: Type) -> &'static str {
+pub fn keyword(ty: Type) -> &'static str {
     match ty {
         Type::Bool => "bool",
         Type::Char => "char",
@@ -39,7 +39,7 @@ fn number_keyword(ty: Type) -> &'static str {
 }
 
 /// What stands in front of the brackets of a type.
-fn front_of(kind: &TypeDefKind) -> &'static str {
+pub fn front_of(kind: &TypeDefKind) -> &'static str {
     match kind {
         TypeDefKind::FixedLengthList(_, _) => "list",
         _ => kind.as_str(),
@@ -47,7 +47,7 @@ fn front_of(kind: &TypeDefKind) -> &'static str {
 }
 
 /// The types in the brackets of a type, in their order; `None` is that of a success that holds nothing.
-fn parts_of(alloc: Global, kind: &TypeDefKind) -> Result<Vec<Option<Type>>, AllocError> {
+pub fn parts_of(alloc: Global, kind: &TypeDefKind) -> Result<Vec<Option<Type>>, AllocError> {
     let mut parts = Vec::new(alloc);
     match kind {
         TypeDefKind::Option(ty)
@@ -156,7 +156,7 @@ fn spelled_part(page: &mut Page, view: &View<'_>, part: &Option<Type>, fuel: u32
 }
 
 /// What stands behind the types in brackets.
-fn close(page: &mut Page, kind: &TypeDefKind, is_empty: bool) {
+pub fn close(page: &mut Page, kind: &TypeDefKind, is_empty: bool) {
     if let TypeDefKind::FixedLengthList(_, length) = kind {
         page.words(", ");
         page.shown(length);

@@ -1,7 +1,8 @@
 -- Packages that were pushed mean in the graph what they meant.
 use Rattle.std.proofs.Common.{◌≡◌, ℕ, ◌+◌, Bool, true, false, List, [], ◌∷◌, ◌++◌, zero, suc, length, map, Some, String, inl, inr, refl, sym, subst, ap, ◌∙◌, arith, is_some, Option}
+use Rattle.std.proofs.lemmas.Bool.{and_parts}
 use Rattle.std.proofs.lemmas.Option.{same_Some}
-use Rattle.std.specs.Prelude.{◌&&◌, if◌then◌else◌, slice_get, string_bytes, unwrap_or}
+use Rattle.std.specs.Prelude.{if◌then◌else◌, slice_get, string_bytes, unwrap_or}
 use Rattle.std.specs.declared.alloc.Global.{Global}
 use Rattle.wit_words.specs.declared.source_map.Span.{Span}
 use Rattle.wit_types.specs.declared.function.Param.{Param}
@@ -43,6 +44,7 @@ use Rattle.wit_plans.specs.declared.moves.MovedWorld.{MovedWorld}
 use Rattle.wit_placed.proofs.Holding.{interface_kept, goes_to}
 use Rattle.wit_placed.proofs.Own.{interface_from}
 use Rattle.wit_readiness.proofs.Flat.{in_flat, has_one}
+use Rattle.wit_package_types.specs.Stability.{IsStabilityOf}
 use Rattle.wit_resolved_scopes.specs.InArena.{Context}
 use Rattle.wit_resolved_scopes.specs.Texts.{InterfaceText, own_members}
 use Rattle.wit_graph_parts.specs.Own.{own_parts, asked}
@@ -51,9 +53,9 @@ use Rattle.wit_types.specs.declared.«package».UnresolvedPackage.{UnresolvedPac
 use Rattle.wit_graph.specs.Graph.{Graph}
 use Rattle.wit_graph.specs.Push.{IsPushed}
 use Rattle.wit_pushed_trees.specs.Meaning.{sort_of, IsKindMeant, IsFunctionMeant, IsInterfaceMeant, IsOfText}
-use Rattle.wit_pushed_trees.specs.Worlds.{IsTextOf, IsTypeMeant, IsOwnFunctionMeant, listed_key, IsInterfaceListed, IsIncludeMeant, IsWorldMeant}
+use Rattle.wit_pushed_trees.specs.Worlds.{IsTextOf, all_kept, IsTypeWritten, IsTypeMeant, IsOwnFunctionMeant, listed_key, IsInterfaceListed, IsIncludeMeant, IsWorldMeant}
 use Rattle.wit_pushed_trees.specs.Packages.{IsPackageMeant}
-use Rattle.wit_pushed_trees.specs.Pushed.{AreAgreed, PushedTypesStandForTheSame, PushedInterfacesMeanTheirTexts, PushedWorldsMeanTheirTexts}
+use Rattle.wit_pushed_trees.specs.Pushed.{AreAgreed, PushedTypesStandForTheSame, PushedInterfacesMeanTheirTexts}
 use Rattle.wit_pushed_trees.proofs.Parts.{parts_joined, parts_split}
 use Rattle.wit_moves.specs.Plan.{OwnerPlaces}
 use Rattle.wit_placed.specs.Order.{interface_places}
@@ -87,13 +89,12 @@ sort_moved goes (of.Static r) = refl
 sort_moved goes (of.AsyncStatic r) = refl
 sort_moved goes (of.Constructor r) = refl
 
--- of a function that stays the resource does that it is of
-and_right : (a b : Bool) → (a && b) ≡ true → b ≡ true
-and_right true b h = h
-and_right false b h = absurd cc
+-- of a function that stays the gates let it, and the resource does that it is of
+gates_stay : (features : FeatureSet) (places : Places) (f : Function) → function_stays features places f ≡ true → stays features f.stability ≡ true
+gates_stay features places f h = (and_parts (stays features f.stability) (is_resource_placed places (resource_of f.kind)) h).0
 
 resource_stays : (features : FeatureSet) (places : Places) (f : Function) → function_stays features places f ≡ true → is_resource_placed places (resource_of f.kind) ≡ true
-resource_stays features places f h = and_right (stays features f.stability) (is_resource_placed places (resource_of f.kind)) h
+resource_stays features places f h = (and_parts (stays features f.stability) (is_resource_placed places (resource_of f.kind)) h).1
 
 -- the resource that a function is of goes where its name does
 module _ (old new : Name → ℕ → Type 0) (places : Places) (goes : (x : Name) (i j : ℕ) → place_of places i ≡ Some j → old x i → new x j) where
@@ -220,15 +221,23 @@ side_was features places interfaces old new (kept, are, is) k x has =
       key_is = ap (λ (y : WorldKey × WorldItem). y.0) e.2;
     }
 
-module _ (functions_stand : MovedFunctionsStandForTheSame) (given : Owner → Name → Tree) (c : Context) (graph_owners : Owners) (features : FeatureSet) (s : Standing) (a b : List TypeDef) (stand : StandForTheSame given s.types c.owners a graph_owners b) (ws : List WorldScope) (old : World) (m : MovedWorld)
-    (is : IsWorldMeant given c c.owners a ws old.name old.imports.entries old.exports.entries old.includes.items) (moved : IsMovedWorld features s old m)
+-- types of a world's text that have places are such types there, and stay
+abbrev pub WrittenGo : FeatureSet → Places → List TypeDef → List TypeDef → Type 0
+WrittenGo features places a b = (ms : List MemberTree) (x : Name) (i j : ℕ) → place_of places i ≡ Some j → IsTypeWritten all_kept a ms x i → IsTypeWritten (stays features) b ms x j
+
+module _ (functions_stand : MovedFunctionsStandForTheSame) (given : Owner → Name → Tree) (c : Context) (graph_owners : Owners) (features : FeatureSet) (s : Standing) (a b : List TypeDef) (stand : StandForTheSame given s.types c.owners a graph_owners b) (written_go : WrittenGo features s.types a b) (ws : List WorldScope) (old : World) (m : MovedWorld)
+    (is : IsWorldMeant all_kept given c c.owners a ws old.name old.stability old.imports.entries old.exports.entries old.includes.items) (moved : IsMovedWorld features s old m) (still : stays features old.stability ≡ true)
     (interfaces_are : (j : ℕ) → is_placed s.interfaces j ≡ true → slice_get graph_owners.interfaces (to s.interfaces j) ≡ slice_get c.owners.interfaces j)
     (worlds_are : (j : ℕ) → is_placed s.worlds j ≡ true → slice_get graph_owners.worlds (to s.worlds j) ≡ slice_get c.owners.worlds j)
   where
-    text_goes : (w : WorldScope) → IsTextOf ws old.name w → IsTextOf ws m.name w
-    text_goes w t = record { there = t.there; named = ap (λ (n : String Global). string_bytes n) moved.name ∙ t.named }
+    text_goes : (w : WorldScope) → IsTextOf all_kept ws old.name old.stability w → IsTextOf (stays features) ws m.name m.stability w
+    text_goes w t = record {
+      there = t.there;
+      named = ap (λ (n : String Global). string_bytes n) moved.name ∙ t.named;
+      gates = (subst (IsStabilityOf w.attributes) (sym moved.stability) t.gates.0, subst (λ (q : Stability). stays features q ≡ true) (sym moved.stability) still);
+    }
 
-    own_type_goes : (k : WorldKey) (i : ℕ) (span : Span) → Has m.imports.items (k, item.TypeItem i span) → IsTypeMeant given c graph_owners b ws m.name k i
+    own_type_goes : (k : WorldKey) (i : ℕ) (span : Span) → Has m.imports.items (k, item.TypeItem i span) → IsTypeMeant (stays features) given c graph_owners b ws m.name m.stability k i
     own_type_goes k i span has =
         let was = side_was features s.types s.interfaces old.imports.entries m.imports.items moved.imports k (item.TypeItem i span) has in
         let from = type_from s.types s.interfaces was.item_was i span was.moved in
@@ -241,6 +250,7 @@ module _ (functions_stand : MovedFunctionsStandForTheSame) (given : Owner → Na
           spelling = t.spelling;
           known_by = ap known was.key_is ∙ spelled_key (to s.interfaces) was.first t.spelling t.known_by;
           means = type_goes given c graph_owners s.types a b stand (in_world t.text.name.text) t.spelling from.0 i stands t.means;
+          written = written_go (own_members t.text.members) t.spelling from.0 i stands t.written;
         }
 
     all_go : (es : List (WorldKey × WorldItem)) → IsKept (SideBreaks features s.types s.interfaces es) → (n : ℕ) (k : WorldKey) (f : Function) → slice_get es n ≡ Some (k, item.Function f) → item_stays features s.types (item.Function f) ≡ true → is_signature_placed s.types f.params.items f.result ≡ true
@@ -250,15 +260,27 @@ module _ (functions_stand : MovedFunctionsStandForTheSame) (given : Owner → Na
     ]
 
     own_function_goes : (side : Side) (es fs : List (WorldKey × WorldItem)) → IsMovedSide features s.types s.interfaces es fs → IsKept (SideBreaks features s.types s.interfaces es)
-        → ((k : WorldKey) (f : Function) → Has es (k, item.Function f) → IsOwnFunctionMeant given c c.owners a ws old.name side f)
-        → (k : WorldKey) (g : Function) → Has fs (k, item.Function g) → IsOwnFunctionMeant given c graph_owners b ws m.name side g
+        → ((k : WorldKey) (f : Function) → Has es (k, item.Function f) → IsOwnFunctionMeant all_kept given c c.owners a ws old.name old.stability side f)
+        → (k : WorldKey) (g : Function) → Has fs (k, item.Function g) → IsOwnFunctionMeant (stays features) given c graph_owners b ws m.name m.stability side g
     own_function_goes side es fs sides kept meant k g has =
         let was = side_was features s.types s.interfaces es fs sides k (item.Function g) has in
         let from = function_from s.types s.interfaces was.item_was g was.moved in
         let there : Has es (was.first, item.Function from.0) = subst (λ (x : WorldItem). Has es (was.first, x)) from.1 was.there in
         let stays_there = subst (λ (x : WorldItem). item_stays features s.types x ≡ true) from.1 was.stayed in
         let f = meant was.first from.0 there in
-        record { text = f.text; is_text = text_goes f.text f.is_text; is = function_goes given c graph_owners s.types a b stand functions_stand (in_world f.text.name.text) (own_members f.text.members) from.0 g from.2 (resource_stays features s.types from.0 stays_there) (all_go es kept there.0 was.first from.0 there.1 stays_there) f.is; giver = f.giver; on_side = f.on_side; gives = f.gives }
+        let resource_there = resource_stays features s.types from.0 stays_there in
+        let ms : List MemberTree = own_members f.text.members in
+        record {
+          text = f.text;
+          is_text = text_goes f.text f.is_text;
+          is = function_goes given c graph_owners s.types a b stand functions_stand (in_world f.text.name.text) ms from.0 g from.2 resource_there (all_go es kept there.0 was.first from.0 there.1 stays_there) f.is;
+          giver = f.giver;
+          on_side = f.on_side;
+          gives = f.gives;
+          gates = (subst (IsStabilityOf f.is.member.attributes) (sym from.2.stability) f.gates.0, subst (λ (q : Stability). stays features q ≡ true) (sym from.2.stability) (gates_stay features s.types from.0 stays_there));
+          resource = subst (IsKindMeant (λ (x : Name) (i : ℕ). IsTypeWritten (stays features) b ms x i) f.is.member.kind) (sym from.2.kind)
+              (kind_goes (λ (x : Name) (i : ℕ). IsTypeWritten all_kept a ms x i) (λ (x : Name) (i : ℕ). IsTypeWritten (stays features) b ms x i) s.types (written_go ms) f.is.member.kind from.0.kind resource_there f.resource);
+        }
 
     interface_placed : (es : List (WorldKey × WorldItem)) → IsKept (SideBreaks features s.types s.interfaces es) → (n : ℕ) (k : WorldKey) (j : ℕ) (gate : Stability) (span : Span) → slice_get es n ≡ Some (k, item.Interface j gate span)
         → item_stays features s.types (item.Interface j gate span) ≡ true → is_placed s.interfaces j ≡ true
@@ -268,8 +290,8 @@ module _ (functions_stand : MovedFunctionsStandForTheSame) (given : Owner → Na
     ]
 
     interface_listed : (side : Side) (es fs : List (WorldKey × WorldItem)) → IsMovedSide features s.types s.interfaces es fs → IsKept (SideBreaks features s.types s.interfaces es)
-        → ((k : WorldKey) (i : ℕ) (gate : Stability) (span : Span) → Has es (k, item.Interface i gate span) → IsInterfaceListed c c.owners ws old.name side k i)
-        → (k : WorldKey) (i : ℕ) (gate : Stability) (span : Span) → Has fs (k, item.Interface i gate span) → IsInterfaceListed c graph_owners ws m.name side k i
+        → ((k : WorldKey) (i : ℕ) (gate : Stability) (span : Span) → Has es (k, item.Interface i gate span) → IsInterfaceListed all_kept c c.owners ws old.name old.stability side k i gate)
+        → (k : WorldKey) (i : ℕ) (gate : Stability) (span : Span) → Has fs (k, item.Interface i gate span) → IsInterfaceListed (stays features) c graph_owners ws m.name m.stability side k i gate
     interface_listed side es fs sides kept listed k i gate span has =
         let was = side_was features s.types s.interfaces es fs sides k (item.Interface i gate span) has in
         let from = interface_from_item s.types s.interfaces was.item_was i gate span was.moved in
@@ -286,25 +308,26 @@ module _ (functions_stand : MovedFunctionsStandForTheSame) (given : Owner → Na
           listed_as = l.listed_as;
           owner = ap (slice_get graph_owners.interfaces) from.2 ∙ interfaces_are from.0 (interface_placed es kept there.0 was.first from.0 gate span there.1 stays_there) ∙ l.owner;
           keyed = ap known was.key_is ∙ listed_key_moves (to s.interfaces) was.first l.listed l.listed.kind from.0 l.keyed ∙ ap (listed_key l.listed l.listed.kind) (sym from.2);
+          gates = (l.gates.0, stays_there);
         }
 
-    include_goes : IsKept (AnyOf (IncludeBreaks features s) old.includes.items) → (n : WorldInclude) → Has m.includes.items n → IsIncludeMeant c graph_owners ws m.name n
+    include_goes : IsKept (AnyOf (IncludeBreaks features s) old.includes.items) → (n : WorldInclude) → Has m.includes.items n → IsIncludeMeant (stays features) c graph_owners ws m.name m.stability n
     include_goes kept n has =
         let r = in_flat (moved_include features s.worlds) old.includes.items n (subst (λ (ns : List WorldInclude). Has ns n) moved.includes has) in
         of r.0 r.1 (stays features r.0.stability) refl r.2
       where
-        of : (o : WorldInclude) → Has old.includes.items o → (b : Bool) → stays features o.stability ≡ b → Has (if b then record o { id = to s.worlds o.id } ∷ [] else []) n → IsIncludeMeant c graph_owners ws m.name n
+        of : (o : WorldInclude) → Has old.includes.items o → (b : Bool) → stays features o.stability ≡ b → Has (if b then record o { id = to s.worlds o.id } ∷ [] else []) n → IsIncludeMeant (stays features) c graph_owners ws m.name m.stability n
         of o was false gate h = absurd (has_none n h)
         of o was true gate h =
-            let i : IsIncludeMeant c c.owners ws old.name o = is.included o was in
+            let i : IsIncludeMeant all_kept c c.owners ws old.name old.stability o = is.included o was in
             let same : n ≡ record o { id = to s.worlds o.id } = has_one (record o { id = to s.worlds o.id }) n h in
             let placed : is_placed s.worlds o.id ≡ true = elim (either (is_placed s.worlds o.id)) as (λ _. is_placed s.worlds o.id ≡ true) [
               | inl is_there ↦ is_there
               | inr isnt ↦ absurd (any_kept features s old.includes.items kept was.0 o was.1 o.span (gate, isnt, refl))
             ] in
-            subst (IsIncludeMeant c graph_owners ws m.name) (sym same) (record { text = i.text; is_text = text_goes i.text i.is_text; written = i.written; there = i.there; owner = worlds_are o.id placed ∙ i.owner; names = i.names })
+            subst (IsIncludeMeant (stays features) c graph_owners ws m.name m.stability) (sym same) (record { text = i.text; is_text = text_goes i.text i.is_text; written = i.written; there = i.there; owner = worlds_are o.id placed ∙ i.owner; names = i.names; gates = (i.gates.0, gate) })
 
-    world_goes_there : IsKept (AnyOf (IncludeBreaks features s) old.includes.items) → IsKept (SideBreaks features s.types s.interfaces old.imports.entries) → IsKept (SideBreaks features s.types s.interfaces old.exports.entries) → IsWorldMeant given c graph_owners b ws m.name m.imports.items m.exports.items m.includes.items
+    world_goes_there : IsKept (AnyOf (IncludeBreaks features s) old.includes.items) → IsKept (SideBreaks features s.types s.interfaces old.imports.entries) → IsKept (SideBreaks features s.types s.interfaces old.exports.entries) → IsWorldMeant (stays features) given c graph_owners b ws m.name m.stability m.imports.items m.exports.items m.includes.items
     world_goes_there includes_kept imports_kept exports_kept = record {
       text = is.text;
       is_text = text_goes is.text is.is_text;
@@ -366,16 +389,12 @@ interfaces_go typed names_stand functions_stand given c interfaces worlds graph_
 
 -- wherever its types stand
 pub worlds_go_at : MovedFunctionsStandForTheSame → (given : Owner → Name → Tree) (c : Context) (interfaces : List InterfaceText) (worlds : List WorldScope) (graph_owners : Owners) (eq : PackageName → PackageName → Bool) (features : FeatureSet) (old : Graph) (p : UnresolvedPackage) (new : Graph) (id : ℕ)
-    → IsPackageMeant c interfaces worlds p → (h : IsPushed eq features old p new id) → AreAgreed given c.owners graph_owners old.tables h.foreign h.owners p → (types : List TypeDef) → StandForTheSame given h.places c.owners p.types graph_owners types
-    → (k : ℕ) (m : MovedWorld) → slice_get h.put.added.parts.own_worlds.moved k ≡ Some m → IsWorldMeant given c graph_owners types worlds m.name m.imports.items m.exports.items m.includes.items
-worlds_go_at functions_stand given c interfaces worlds graph_owners eq features old p new id package_is h agreed types stand k m at =
+    → IsPackageMeant c interfaces worlds p → (h : IsPushed eq features old p new id) → AreAgreed given c.owners graph_owners old.tables h.foreign h.owners p → (types : List TypeDef) → StandForTheSame given h.places c.owners p.types graph_owners types → WrittenGo features h.places p.types types
+    → (k : ℕ) (m : MovedWorld) → slice_get h.put.added.parts.own_worlds.moved k ≡ Some m → IsWorldMeant (stays features) given c graph_owners types worlds m.name m.stability m.imports.items m.exports.items m.includes.items
+worlds_go_at functions_stand given c interfaces worlds graph_owners eq features old p new id package_is h agreed types stand written_go k m at =
     let s : Standing = standing h.owners h.places in
     let from = stays_from features s (own_parts p).worlds h.put.added.parts.own_worlds.moved h.put.added.parts.own_worlds.are_moved k m at in
     let kept : IsKept (WorldBreaks features s from.old) = world_kept features s (own_parts p).worlds (λ at b. h.are_places.planned.kept at (inr b)) from.place from.old from.was in
-    world_goes_there functions_stand given c graph_owners features s p.types types stand worlds from.old m
-    (package_is.each_world given from.place from.old from.was) from.moved (λ j placed. agreed.owners_are (belongs.Interface j) placed) (λ j placed. agreed.owners_are (belongs.World j) placed) (λ at b. kept at (from.gate, inr b)) (λ at b. kept at (from.gate, inl (inl b)))
+    world_goes_there functions_stand given c graph_owners features s p.types types stand written_go worlds from.old m
+    (package_is.each_world given from.place from.old from.was) from.moved from.gate (λ j placed. agreed.owners_are (belongs.Interface j) placed) (λ j placed. agreed.owners_are (belongs.World j) placed) (λ at b. kept at (from.gate, inr b)) (λ at b. kept at (from.gate, inl (inl b)))
     (λ at b. kept at (from.gate, inl (inr b)))
-
-pub worlds_go : PushedTypesStandForTheSame → MovedFunctionsStandForTheSame → PushedWorldsMeanTheirTexts
-worlds_go typed functions_stand given c interfaces worlds graph_owners eq features old p new id package_is h agreed k m at =
-    worlds_go_at functions_stand given c interfaces worlds graph_owners eq features old p new id package_is h agreed new.tables.types (typed given c.owners graph_owners eq features old p new id h (package_is.whole given) agreed) k m at

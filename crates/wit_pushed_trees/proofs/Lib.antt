@@ -19,8 +19,10 @@ mod Wholes
 mod Meant
 pub mod MeantWorlds
 mod SaidResources
+mod SaidItems
 mod Said
 mod Staying
+mod Gates
 mod StayingWorlds
 mod StayingPaths
 mod StayingIncludes

@@ -80,7 +80,7 @@ module _ (given : Owner → Name → Tree) (old new : Owners) (a more : List Typ
 -- ---- packages
 
 pub resolved_of_texts : ResolvedPackagesMeanTheirTexts → ResolvedPackagesAreOfTexts
-resolved_of_texts mean files p r = record { named = sym (text_is r.resolved.me p.name r.resolved.name); meant = mean files p r }
+resolved_of_texts mean features files p r = record { named = sym (text_is r.resolved.me p.name r.resolved.name); meant = mean files p r }
 
 -- ---- graphs
 

@@ -14,7 +14,8 @@ use Rattle.wit_types.specs.declared.world.World.{World}
 use Rattle.wit_types.specs.declared.world.WorldInclude.{WorldInclude}
 use Rattle.wit_types.specs.declared.world.WorldItem.{WorldItem}
 use Rattle.wit_types.specs.declared.world_key.WorldKey.{WorldKey}
-use Rattle.wit_features.specs.Features.{FeatureSet}
+use Rattle.wit_types.specs.declared.stability.Stability.{Stability}
+use Rattle.wit_features.specs.Features.{FeatureSet, stays}
 use Rattle.wit_scopes.specs.Scopes.{WorldScope}
 use Rattle.wit_scopes.specs.declared.worlds.Side.{Side}
 use Rattle.wit_arena.specs.Tree.{Name, in_world, Owner, Tree, PackageText}
@@ -37,8 +38,9 @@ use Rattle.wit_pushed_trees.specs.MeantWorlds.{IsBuiltOf, IsWorldMeantBy, AreWor
 use Rattle.wit_pushed_trees.specs.Owned.{AreOwnersOf, AreOwned, AreOwnedWith, HaveMoreOwners}
 use Rattle.wit_pushed_trees.specs.Pushed.{PushedWorldsMeanTheirTexts}
 use Rattle.wit_pushed_trees.specs.Whole.{HasTrees, PushedGraphsKeepWhatWas}
-use Rattle.wit_pushed_trees.specs.Worlds.{IsOwnFunctionMeant, IsInterfaceListed, IsIncludeMeant, IsWorldMeant}
+use Rattle.wit_pushed_trees.specs.Worlds.{IsTypeWritten, IsOwnFunctionMeant, IsInterfaceListed, IsIncludeMeant, IsWorldMeant}
 use Rattle.wit_pushed_trees.proofs.Agreeing.{same_trees}
+use Rattle.wit_pushed_trees.proofs.Gates.{written_more}
 use Rattle.wit_pushed_trees.proofs.Meant.{tree_still, function_still, grown, same, package_there, by_old, agreed, come_there, come_named}
 use Rattle.wit_pushed_trees.proofs.Owned.{worlds_added}
 use Rattle.wit_pushed_trees.proofs.Types.{included_grow, all_grow}
@@ -49,12 +51,13 @@ use Rattle.wit_placed.specs.Worlds.{world_places}
 use Rattle.wit_plans.specs.Plans.{standing}
 use Rattle.wit_graph_parts.specs.Own.{asked, own_parts}
 use Rattle.wit_pushed_trees.proofs.StayingIncludes.{world_from}
+use Rattle.wit_pushed_trees.proofs.Texts.{member_kind_same}
 
 -- ---- more types and owners
 
-module _ (given : Owner → Name → Tree) (old new : Owners) (more_owners : HaveMoreOwners old new) (a more : List TypeDef) (same : trees old given a ≡ trees new given a) (c : Context) (ws : List WorldScope) (name : _) where
-  listed_still : (side : Side) (k : WorldKey) (i : ℕ) → IsInterfaceListed c old ws name side k i → IsInterfaceListed c new ws name side k i
-  listed_still side k i l = record {
+module _ (kept : Stability → Bool) (given : Owner → Name → Tree) (old new : Owners) (more_owners : HaveMoreOwners old new) (a more : List TypeDef) (same : trees old given a ≡ trees new given a) (c : Context) (ws : List WorldScope) (name : String Global) (stability : Stability) where
+  listed_still : (side : Side) (k : WorldKey) (i : ℕ) (gate : Stability) → IsInterfaceListed kept c old ws name stability side k i gate → IsInterfaceListed kept c new ws name stability side k i gate
+  listed_still side k i gate l = record {
     text = l.text;
     is_text = l.is_text;
     listed = l.listed;
@@ -64,9 +67,10 @@ module _ (given : Owner → Name → Tree) (old new : Owners) (more_owners : Hav
     listed_as = l.listed_as;
     owner = ap (λ (os : List Owner). slice_get os i) more_owners.interfaces_are ∙ get_kept old.interfaces more_owners.interfaces i l.whose l.owner;
     keyed = l.keyed;
+    gates = l.gates;
   }
 
-  include_still : (n : WorldInclude) → IsIncludeMeant c old ws name n → IsIncludeMeant c new ws name n
+  include_still : (n : WorldInclude) → IsIncludeMeant kept c old ws name stability n → IsIncludeMeant kept c new ws name stability n
   include_still n i = record {
     text = i.text;
     is_text = i.is_text;
@@ -74,9 +78,10 @@ module _ (given : Owner → Name → Tree) (old new : Owners) (more_owners : Hav
     there = i.there;
     owner = ap (λ (os : List Owner). slice_get os n.id) more_owners.worlds_are ∙ get_kept old.worlds more_owners.worlds n.id _ i.owner;
     names = i.names;
+    gates = i.gates;
   }
 
-  own_still : (side : Side) (f : Function) → IsOwnFunctionMeant given c old a ws name side f → IsOwnFunctionMeant given c new (a ++ more) ws name side f
+  own_still : (side : Side) (f : Function) → IsOwnFunctionMeant kept given c old a ws name stability side f → IsOwnFunctionMeant kept given c new (a ++ more) ws name stability side f
   own_still side f m = record {
     text = m.text;
     is_text = m.is_text;
@@ -84,19 +89,29 @@ module _ (given : Owner → Name → Tree) (old new : Owners) (more_owners : Hav
     giver = m.giver;
     on_side = m.on_side;
     gives = m.gives;
+    gates = m.gates;
+    resource = member_kind_same (λ (x : Name) (i : ℕ). IsTypeWritten kept a (own_members m.text.members) x i) (λ (x : Name) (i : ℕ). IsTypeWritten kept (a ++ more) (own_members m.text.members) x i)
+        (written_more kept a more (own_members m.text.members)) m.is.member.kind f.kind m.resource;
   }
 
-  pub world_still : (imports exports : List (WorldKey × WorldItem)) (includes : List WorldInclude) → IsWorldMeant given c old a ws name imports exports includes → IsWorldMeant given c new (a ++ more) ws name imports exports includes
+  pub world_still : (imports exports : List (WorldKey × WorldItem)) (includes : List WorldInclude) → IsWorldMeant kept given c old a ws name stability imports exports includes → IsWorldMeant kept given c new (a ++ more) ws name stability imports exports includes
   world_still imports exports includes is = record {
     text = is.text;
     is_text = is.is_text;
     own_types = λ k i span has.
         let t = is.own_types k i span has in
-        record { text = t.text; is_text = t.is_text; spelling = t.spelling; known_by = t.known_by; means = (t.means.0, tree_still given old new a more same i t.means.0 t.means.1, t.means.2) };
+        record {
+          text = t.text;
+          is_text = t.is_text;
+          spelling = t.spelling;
+          known_by = t.known_by;
+          means = (t.means.0, tree_still given old new a more same i t.means.0 t.means.1, t.means.2);
+          written = written_more kept a more (own_members t.text.members) t.spelling i t.written;
+        };
     imported_functions = λ k f has. own_still _ f (is.imported_functions k f has);
     exported_functions = λ k f has. own_still _ f (is.exported_functions k f has);
-    imported = λ k i gate span has. listed_still _ k i (is.imported k i gate span has);
-    exported = λ k i gate span has. listed_still _ k i (is.exported k i gate span has);
+    imported = λ k i gate span has. listed_still _ k i gate (is.imported k i gate span has);
+    exported = λ k i gate span has. listed_still _ k i gate (is.exported k i gate span has);
     no_exported_types = is.no_exported_types;
     included = λ n has. include_still n (is.included n has);
   }
@@ -188,7 +203,7 @@ pub empty_worlds_meant : EmptyWorldsAreMeant
 empty_worlds_meant given by k w at = absurd cc
 
 module _ (texts : PackageTexts) (owners : Owners) (eq : PackageName → PackageName → Bool) (features : FeatureSet) (old : Graph) (p : UnresolvedPackage) (new : Graph) (id : ℕ) (tells : TellsNamesApart eq) (stand : NamesOfGraphStand old)
-    (owned : AreOwned owners old.tables) (whole : AreWhole old.tables) (have : HasTrees owners old.tables) (are : AreOwnersOf texts.context.owners p) (of_texts : IsOfTexts texts p)
+    (owned : AreOwned owners old.tables) (whole : AreWhole old.tables) (have : HasTrees owners old.tables) (are : AreOwnersOf texts.context.owners p) (of_texts : IsOfTexts texts p) (active : texts.features ≡ features)
     (h : IsPushed eq features old p new id) (o : AreOwnedWith texts.context.owners owners eq features old p new id h) (given : Owner → Name → Tree) (by : IsGivenBy given o.all new.tables)
     (worlds_mean : PushedWorldsMeanTheirTexts) (all : List PackageTexts) (meant : AreWorldsMeantBy all owners old.tables)
   where
@@ -212,8 +227,8 @@ module _ (texts : PackageTexts) (owners : Owners) (eq : PackageName → PackageN
           named = m.named;
           own = m.own;
           owner = ap (λ (ws : List Owner). slice_get ws place) o.more.worlds_are ∙ get_kept owners.worlds o.more.worlds place _ m.owner;
-          means = subst (λ (b : List TypeDef). IsWorldMeant given m.texts.context o.all b m.texts.worlds m.own.name m.own.imports.items m.own.exports.items m.own.includes.items) (sym types_grown.1)
-              (world_still given owners o.all o.more old.tables.types types_grown.0 same_trees m.texts.context m.texts.worlds m.own.name m.own.imports.items m.own.exports.items m.own.includes.items m.means);
+          means = subst (λ (b : List TypeDef). IsWorldMeant (stays m.texts.features) given m.texts.context o.all b m.texts.worlds m.own.name m.own.stability m.own.imports.items m.own.exports.items m.own.includes.items) (sym types_grown.1)
+              (world_still (stays m.texts.features) given owners o.all o.more old.tables.types types_grown.0 same_trees m.texts.context m.texts.worlds m.own.name m.own.stability m.own.imports.items m.own.exports.items m.own.includes.items m.means);
           is = subst (λ (ts : List TypeDef). IsBuiltOf m.own m.number place new.tables.worlds.listed ts w) (sym types_grown.1)
               (subst (λ (ws : List World). IsBuiltOf m.own m.number place ws (old.tables.types ++ types_grown.0) w) (sym all_worlds.1)
               (built_still m.own m.number place old.tables.worlds.listed all_worlds.0 old.tables.types types_grown.0 w (omega (arith, within)) m.is));
@@ -242,7 +257,8 @@ module _ (texts : PackageTexts) (owners : Owners) (eq : PackageName → PackageN
               ap (λ (i : Option ℕ). slice_get o.all.worlds (unwrap_or i j)) (sym stands) ∙ o.owners_are (belongs.World j) (ap is_some stands) ∙ are.worlds_are from.place from.old from.was
               ∙ ap (λ (m : PackageText). Some (record { package_text = m; place = in_world (string_bytes from.old.name) })) of_texts.named
               ∙ ap (λ (n : String Global). Some (own_owner texts.context (in_world (string_bytes n)))) (sym from.moved.name);
-          means = worlds_mean given texts.context texts.interfaces texts.worlds o.all eq features old p new id of_texts.meant h (agreed texts owners eq features old p new id tells stand owned whole have are of_texts h o given by) k came.own came.there;
+          means = subst (λ (set : FeatureSet). IsWorldMeant (stays set) given texts.context o.all new.tables.types texts.worlds came.own.name came.own.stability came.own.imports.items came.own.exports.items came.own.includes.items) (sym active)
+              (worlds_mean given texts.context texts.interfaces texts.worlds o.all eq features old p new id of_texts.meant h (agreed texts owners eq features old p new id tells stand owned whole have are of_texts h o given by) k came.own came.there);
           is = came.is;
         }
 
@@ -254,5 +270,5 @@ module _ (texts : PackageTexts) (owners : Owners) (eq : PackageName → PackageN
         ]
 
 pub pushed_worlds_meant : PushedWorldsMeanTheirTexts → PushedWorldsAreMeant
-pushed_worlds_meant worlds_mean all texts owners eq features old p new id tells stand owned whole known have are of_texts h o meant given by place w at =
-    each texts owners eq features old p new id tells stand owned whole have are of_texts h o given by worlds_mean all meant place w at
+pushed_worlds_meant worlds_mean all texts owners eq features old p new id tells stand owned whole known have are of_texts active h o meant given by place w at =
+    each texts owners eq features old p new id tells stand owned whole have are of_texts active h o given by worlds_mean all meant place w at

@@ -10,7 +10,7 @@ use Rattle.std.specs.declared.alloc.Global.{Global}
 use Rattle.wit_words.specs.declared.source_map.Span.{Span}
 use Rattle.wit_order.specs.Order as order
 use Rattle.wit_order.specs.Places.{Rows}
-use Rattle.wit_types.specs.WorldKey.{key_eq, known, spelled}
+use Rattle.wit_types.specs.WorldKey.{key_eq, known}
 use Rattle.wit_types.specs.declared.kind.TypeDefKind.{TypeDefKind}
 use Rattle.wit_types.specs.declared.kind.TypeDefKind.TheVariants as kind
 use Rattle.wit_types.specs.declared.kind.«Type».TheVariants as ref
@@ -33,18 +33,16 @@ use Rattle.wit_types.specs.declared.world_key.WorldKey.{WorldKey}
 use Rattle.wit_types.specs.declared.«package».Package.{Package}
 use Rattle.wit_types.specs.declared.«package».PackageName.{PackageName}
 use Rattle.wit_types.specs.declared.«package».UnresolvedPackage.{UnresolvedPackage}
-use Rattle.wit_features.specs.Features.{FeatureSet}
+use Rattle.wit_features.specs.Features.{FeatureSet, stays}
 use Rattle.wit_rules.specs.Labels.{full_name}
 use Rattle.wit_scopes.specs.Scopes.{WorldScope, IncludedTree}
 use Rattle.wit_scopes.specs.declared.worlds.Side.{Side}
 use Rattle.wit_scopes.specs.declared.worlds.Side.TheVariants.{Import, Export}
-use Rattle.wit_sides.specs.Renames as renames
-use Rattle.wit_sides.specs.Renames.{IsRenamedKey, IsRenamed, AreRenamed, IsRenamedItem}
+use Rattle.wit_sides.specs.Renames.{IsRenamed}
 use Rattle.wit_sides.specs.Sides.{AreUnited, no_entries, first_of_its_key, key_again}
-use Rattle.wit_copies.specs.Copies as copies
-use Rattle.wit_copies.specs.Copies.{Copies, goes, IsCopiedItem, AreCopiedEntries}
-use Rattle.wit_copies.specs.Same.{IsSameKey, same_name, same_key_interface, IsSameParam, IsSameFunction, IsSameItem, same_interface, same_function, same_type}
-use Rattle.wit_moves.specs.Moved.{moved_function_kind, place_of, resource_of, to, IsMovedFunction}
+use Rattle.wit_copies.specs.Copies.{goes}
+use Rattle.wit_copies.specs.Same.{IsSameKey, IsSameParam, IsSameFunction, IsSameItem}
+use Rattle.wit_moves.specs.Moved.{moved_function_kind, place_of, resource_of, to}
 use Rattle.wit_moves.specs.Plan.{OwnerPlaces}
 use Rattle.wit_moved_trees.specs.Law.{StandForTheSame, MovedTypesStandForTheSame, MovedFunctionsStandForTheSame}
 use Rattle.wit_placed.proofs.Own.{worlds_take_places_alone}
@@ -52,7 +50,6 @@ use Rattle.wit_plans.specs.Plans.{standing}
 use Rattle.wit_graph_parts.specs.Own.{asked, own_parts}
 use Rattle.wit_graph.specs.Graph.{Graph, AreWhole}
 use Rattle.wit_graph.specs.Push.{IsPushed}
-use Rattle.wit_moves.specs.Worlds.{IsMovedItem, moved_interface, moved_function, moved_type}
 use Rattle.wit_includes.specs.Included.{AreIncludedEntries, copies_behind}
 use Rattle.wit_reach.specs.Ids.{signature_ids, resource_ids, item_ids, side_ids}
 use Rattle.wit_reach.specs.Types.{is_local, IsLocalAt, IsOfItem}
@@ -67,6 +64,7 @@ use Rattle.wit_arena.specs.Meaning.{Has, MeansParts}
 use Rattle.wit_arena.proofs.Lists.{has_none, has_here, has_later, has_cases, has_right, get_kept, get_last, get_more}
 use Rattle.wit_arena.proofs.Unfolding.{part_kept, ref_kept, flat_some, def_at}
 use Rattle.wit_resolved_scopes.specs.Meaning.{written_parts}
+use Rattle.wit_resolved_scopes.specs.Texts.{own_members}
 use Rattle.wit_joined.specs.Joined as joined
 use Rattle.wit_joined.specs.Joined.{Includes, includes_none, includes_one, own_state}
 use Rattle.wit_plans.specs.declared.moves.MovedWorld.{MovedWorld}
@@ -87,6 +85,7 @@ use Rattle.wit_pushed_trees.specs.Said.{world_owner, included_owner, IsIncludeWr
 use Rattle.wit_pushed_trees.specs.Worlds.{IsTypeMeant, IsOwnFunctionMeant, IsInterfaceListed, IsIncludeMeant, IsWorldMeant}
 use Rattle.wit_pushed_trees.proofs.Agreeing.{same_trees}
 use Rattle.wit_pushed_trees.proofs.Finding.{asked_found}
+use Rattle.wit_pushed_trees.proofs.Gates.{written_goes}
 use Rattle.wit_pushed_trees.proofs.Graphs.{sort_moved, worlds_go_at}
 use Rattle.wit_pushed_trees.proofs.Knowing.{included_known, added_known, there_known}
 use Rattle.wit_pushed_trees.proofs.Meant.{tree_still, parts_more, by_old, agreed}
@@ -97,7 +96,8 @@ use Rattle.wit_pushed_trees.proofs.Types.{included_grow, added_grow, stand_then,
 use Rattle.wit_pushed_trees.proofs.Wholes.{others, included_whole, added_whole}
 use Rattle.wit_pushed_trees.proofs.Texts.{sort_is}
 use Rattle.wit_pushed_trees.specs.Staying.{resource_text}
-use Rattle.wit_pushed_trees.proofs.SaidResources.{IsOf, of_saying, own_is, own_meaning, own_renamed, kind_resource, resource_so, meant_resource}
+use Rattle.wit_pushed_trees.proofs.SaidResources.{IsOf, of_saying, own_is, own_meaning, own_renamed, kind_resource, resource_so, meant_resource, text_remains, type_remains, function_remains}
+use Rattle.wit_pushed_trees.proofs.SaidItems.{came, same_from, came_function, same_type_from, came_type, key_came, key_same, same_interface_from, came_interface}
 
 -- ---- more texts
 
@@ -106,19 +106,19 @@ module _ (all more : List PackageTexts) (given : Owner → Name → Tree) (side 
   among_more one (k, at) = (k, get_kept all more k one at)
 
   written_more : (one : PackageTexts) (w : WorldScope) (i : IncludedTree) (names : List IncludeName) → IsIncludeWritten all one w i names → IsIncludeWritten (all ++ more) one w i names
-  written_more one w i names is = record { among = among_more one is.among; text = is.text; there = is.there; names_are = is.names_are }
+  written_more one w i names is = record { among = among_more one is.among; text = is.text; there = is.there; names_are = is.names_are; remains = is.remains }
 
   function_more : (w : Owner) (x : Name) (b : FunctionSort) (o : Option Name) (xs : List Name) (ps : Trees) (r : TreeOption) → SaysFunction all given side w x b o xs ps r → SaysFunction (all ++ more) given side w x b o xs ps r
-  function_more _ _ _ _ _ _ _ (says_function one w x m ps r among text on gives means) = says_function one w x m ps r (among_more one among) text on gives means
+  function_more _ _ _ _ _ _ _ (says_function one w x m ps r among text on gives remains means) = says_function one w x m ps r (among_more one among) text on gives remains means
   function_more _ _ _ _ _ _ _ (includes_function one w i names x y b o p xs ps qs r q is says renamed of trees part) =
       includes_function one w i names x y b o p xs ps qs r q (written_more one w i names is) (function_more (included_owner one i) x b o xs ps r says) renamed of trees part
 
   type_more : (w : Owner) (x : Name) (t : Tree) → SaysType all given w x t → SaysType (all ++ more) given w x t
-  type_more _ _ _ (says_type one w x t among text means) = says_type one w x t (among_more one among) text means
+  type_more _ _ _ (says_type one w x t among text remains means) = says_type one w x t (among_more one among) text remains means
   type_more _ _ _ (includes_type one w i names x y t u is says renamed tree) = includes_type one w i names x y t u (written_more one w i names is) (type_more (included_owner one i) x t says) renamed tree
 
   interface_more : (w whose : Owner) → SaysInterface all side w whose → SaysInterface (all ++ more) side w whose
-  interface_more _ _ (says_interface one w l whose among text there on is) = says_interface one w l whose (among_more one among) text there on is
+  interface_more _ _ (says_interface one w l whose among text there on remains is) = says_interface one w l whose (among_more one among) text there on remains is
   interface_more _ _ (includes_interface one w i names whose is says) = includes_interface one w i names whose (written_more one w i names is) (interface_more (included_owner one i) whose says)
 
 -- ---- more types and owners
@@ -161,14 +161,15 @@ owner_is one w name me_is place_is t named =
 
 module _ (all : List PackageTexts) (one : PackageTexts) (among : Has all one) (given : Owner → Name → Tree) (owners : Owners) (types : List TypeDef) (m : MovedWorld) (w : Owner)
     (me_is : w.package_text ≡ one.context.me) (place_is : w.place ≡ in_world (string_bytes m.name))
-    (means : IsWorldMeant given one.context owners types one.worlds m.name m.imports.items m.exports.items m.includes.items)
+    (means : IsWorldMeant (stays one.features) given one.context owners types one.worlds m.name m.stability m.imports.items m.exports.items m.includes.items)
   where
-    own_function : (side : Side) (f : Function) → IsOwnFunctionMeant given one.context owners types one.worlds m.name side f → IsFunctionSaid all given owners types side w f
+    own_function : (side : Side) (f : Function) → IsOwnFunctionMeant (stays one.features) given one.context owners types one.worlds m.name m.stability side f → IsFunctionSaid all given owners types side w f
     own_function side f is =
         let split = parts_split (trees owners given types) (map (λ (q : Param). Some q.ty) f.params.items) f.result is.is.means.parts is.is.means.unfolds in
         let of : Option Name = resource_text is.is.member.kind in
+        let remains = function_remains one.features types (own_members is.text.members) is.is.member f is.gates is.resource in
         let says : SaysFunction all given side (world_owner one is.text) (full_name is.is.member.kind is.is.member.name) (written_sort is.is.member.kind) of (written_names is.is.member) split.front split.last =
-        says_function one is.text is.giver is.is.member split.front split.last among is.is_text.there is.on_side is.gives
+        says_function one is.text is.giver is.is.member split.front split.last among (text_remains one m.name m.stability is.text is.is_text) is.on_side is.gives remains
         (subst (MeansParts one.context.me one.context.scopes given (in_world is.text.name.text) (written_parts is.is.member)) split.are is.is.means.mean) in
         record {
           params = split.front;
@@ -177,41 +178,42 @@ module _ (all : List PackageTexts) (one : PackageTexts) (among : Has all one) (g
           of = of;
           resource = subst (λ (v : Owner). HasResourceSaid all given owners types v (resource_of f.kind) of) (owner_is one w (string_bytes m.name) me_is place_is is.text is.is_text.named)
               (meant_resource all given owners types (world_owner one is.text) (λ (x : Name) (i : ℕ). Stands one.context.me one.context.scopes given owners types (in_world is.text.name.text) x i)
-              (λ i x s. record { tree = s.0; stands = s.1; own = own_meaning one.context.me one.context.scopes given (in_world is.text.name.text) x s.0 s.2; says = says_type one is.text x s.0 among is.is_text.there s.2 })
-              (resource_of f.kind) of (kind_resource (λ (x : Name) (i : ℕ). Stands one.context.me one.context.scopes given owners types (in_world is.text.name.text) x i) is.is.member.kind f.kind is.is.kind));
+              (resource_of f.kind) of
+              (λ i x named s. record { tree = s.0; stands = s.1; own = own_meaning one.context.me one.context.scopes given (in_world is.text.name.text) x s.0 s.2; says = says_type one is.text x s.0 among (text_remains one m.name m.stability is.text is.is_text) (remains.resource x named) s.2 })
+              (kind_resource (λ (x : Name) (i : ℕ). Stands one.context.me one.context.scopes given owners types (in_world is.text.name.text) x i) is.is.member.kind f.kind is.is.kind));
           says = subst (λ (v : Owner). SaysFunction all given side v (string_bytes f.name) (sort_of f.kind) of (param_names f) split.front split.last) (owner_is one w (string_bytes m.name) me_is place_is is.text is.is_text.named)
               (subst (λ (x : Name). SaysFunction all given side (world_owner one is.text) x (sort_of f.kind) of (param_names f) split.front split.last) (sym is.is.named)
               (subst (λ (b : FunctionSort). SaysFunction all given side (world_owner one is.text) (full_name is.is.member.kind is.is.member.name) b of (param_names f) split.front split.last) (sym (sort_is _ is.is.member.kind f.kind is.is.kind))
               (subst (λ (xs : List Name). SaysFunction all given side (world_owner one is.text) (full_name is.is.member.kind is.is.member.name) (written_sort is.is.member.kind) of xs split.front split.last) (sym is.is.params_named) says)));
         }
 
-    own_interface : (side : Side) (k : WorldKey) (i : ℕ) → IsInterfaceListed one.context owners one.worlds m.name side k i → IsInterfaceSaid all owners side w i
-    own_interface side k i is = record {
+    own_interface : (side : Side) (k : WorldKey) (i : ℕ) (gate : Stability) → IsInterfaceListed (stays one.features) one.context owners one.worlds m.name m.stability side k i gate → IsInterfaceSaid all owners side w i
+    own_interface side k i gate is = record {
       whose = is.whose;
       owner = is.owner;
-      says = subst (λ (v : Owner). SaysInterface all side v is.whose) (owner_is one w (string_bytes m.name) me_is place_is is.text is.is_text.named) (says_interface one is.text is.listed is.whose among is.is_text.there is.there is.side_is is.listed_as);
+      says = subst (λ (v : Owner). SaysInterface all side v is.whose) (owner_is one w (string_bytes m.name) me_is place_is is.text is.is_text.named) (says_interface one is.text is.listed is.whose among (text_remains one m.name m.stability is.text is.is_text) is.there is.side_is (gate, is.gates.0, is.gates.1) is.listed_as);
     }
 
-    own_type : (k : WorldKey) (i : ℕ) → IsTypeMeant given one.context owners types one.worlds m.name k i → IsTypeSaid all given owners types w k i
+    own_type : (k : WorldKey) (i : ℕ) → IsTypeMeant (stays one.features) given one.context owners types one.worlds m.name m.stability k i → IsTypeSaid all given owners types w k i
     own_type k i is = record {
       spelling = is.spelling;
       known_by = is.known_by;
       tree = is.means.0;
       stands = is.means.1;
-      says = subst (λ (v : Owner). SaysType all given v is.spelling is.means.0) (owner_is one w (string_bytes m.name) me_is place_is is.text is.is_text.named) (says_type one is.text is.spelling is.means.0 among is.is_text.there is.means.2);
+      says = subst (λ (v : Owner). SaysType all given v is.spelling is.means.0) (owner_is one w (string_bytes m.name) me_is place_is is.text is.is_text.named) (says_type one is.text is.spelling is.means.0 among (text_remains one m.name m.stability is.text is.is_text) (type_remains one.features types (own_members is.text.members) is.spelling i is.written) is.means.2);
     }
 
     own_imports : IsSideSaid all given owners types Import w m.imports.items
     own_imports = record {
       functions = λ k f has. own_function Import f (means.imported_functions k f has);
-      interfaces = λ k i gate span has. own_interface Import k i (means.imported k i gate span has);
+      interfaces = λ k i gate span has. own_interface Import k i gate (means.imported k i gate span has);
       types = λ k i span has. own_type k i (means.own_types k i span has);
     }
 
     own_exports : IsSideSaid all given owners types Export w m.exports.items
     own_exports = record {
       functions = λ k f has. own_function Export f (means.exported_functions k f has);
-      interfaces = λ k i gate span has. own_interface Export k i (means.exported k i gate span has);
+      interfaces = λ k i gate span has. own_interface Export k i gate (means.exported k i gate span has);
       types = λ k i span has. absurd (means.no_exported_types k i span has);
     }
 
@@ -264,143 +266,6 @@ module _ (owners : Owners) (given : Owner → Name → Tree) (from : ℕ) (v : O
       let same : def.0 ≡ t = same_Some def.0 t (sym def.1 ∙ has) in
       (d.0, d.1, local_of (trees owners given a) d.0.name d.0.owner d.0.kind t (owner_of owners d.0.owner) refl (known i d.0 d.1) is (def.2 ∙ ap (λ (u : Tree). Some u) same))
 
--- ---- what included worlds bring
-
--- an item that comes, renamed, of one that was there
-record Came (names : List IncludeName) (c : Copies) (es : List (WorldKey × WorldItem)) (k : WorldKey) (i : WorldItem) : Type 0 where
-  first : WorldKey
-  item_was : WorldItem
-  there : Has es (first, item_was)
-  copied : WorldItem
-  is_copied : IsCopiedItem c item_was copied
-  is_renamed : IsRenamedItem names copied i
-  between : WorldKey
-  same_key : IsSameKey first between
-  renamed_key : IsRenamedKey names between k
-
-renamed_at : (names : List IncludeName) (es fs : List (WorldKey × WorldItem)) → AreRenamed names es fs → (k : WorldKey) (i : WorldItem) → Has fs (k, i) → (l : WorldKey) × (j : WorldItem) × Has es (l, j) × IsRenamedItem names j i × IsRenamedKey names l k
-renamed_at names _ _ renames.no_entries k i has = absurd (has_none (k, i) has)
-renamed_at names _ _ (renames.one_more l m j i0 es fs key renamed rest) k i has = elim (has_cases (m, i0) fs (k, i) has) as (λ _. (n : WorldKey) × (x : WorldItem) × Has ((l, j) ∷ es) (n, x) × IsRenamedItem names x i × IsRenamedKey names n k) [
-  | inl here ↦ (l, j, has_here (l, j) es, subst (IsRenamedItem names j) (sym (ap (λ (e : WorldKey × WorldItem). e.1) here)) renamed, subst (IsRenamedKey names l) (sym (ap (λ (e : WorldKey × WorldItem). e.0) here)) key)
-  | inr later ↦ (let r = renamed_at names es fs rest k i later in (r.0, r.1, has_later (l, j) es (r.0, r.1) r.2, r.3, r.4))
-]
-
-copied_at : (c : Copies) (es fs : List (WorldKey × WorldItem)) → AreCopiedEntries c es fs → (k : WorldKey) (i : WorldItem) → Has fs (k, i) → (l : WorldKey) × (j : WorldItem) × Has es (l, j) × IsCopiedItem c j i × IsSameKey l k
-copied_at c _ _ copies.no_entries k i has = absurd (has_none (k, i) has)
-copied_at c _ _ (copies.one_entry_more l m j i0 es fs key copied rest) k i has = elim (has_cases (m, i0) fs (k, i) has) as (λ _. (n : WorldKey) × (x : WorldItem) × Has ((l, j) ∷ es) (n, x) × IsCopiedItem c x i × IsSameKey n k) [
-  | inl here ↦ (l, j, has_here (l, j) es, subst (IsCopiedItem c j) (sym (ap (λ (e : WorldKey × WorldItem). e.1) here)) copied, subst (IsSameKey l) (sym (ap (λ (e : WorldKey × WorldItem). e.0) here)) key)
-  | inr later ↦ (let r = copied_at c es fs rest k i later in (r.0, r.1, has_later (l, j) es (r.0, r.1) r.2, r.3, r.4))
-]
-
-came : (names : List IncludeName) (c : Copies) (es fs : List (WorldKey × WorldItem)) → AreIncludedEntries names c es fs → (k : WorldKey) (i : WorldItem) → Has fs (k, i) → Came names c es k i
-came names c es fs (between, copied, renamed) k i has =
-    let r = renamed_at names between fs renamed k i has in
-    let o = copied_at c es between copied r.0 r.1 r.2 in
-    record { first = o.0; item_was = o.1; there = o.2; copied = r.1; is_copied = o.3; is_renamed = r.3; between = r.0; same_key = o.4; renamed_key = r.4 }
-
--- a function comes of a function
-record CameFunction (names : List IncludeName) (c : Copies) (es : List (WorldKey × WorldItem)) (h : Function) : Type 0 where
-  key : WorldKey
-  f : Function
-  there : Has es (key, item.Function f)
-  g : Function
-  is_same : IsSameFunction f g
-  between : Function
-  is_moved : IsMovedFunction (goes c) g between
-  to : String Global
-  is : h ≡ record between { name = to }
-  renamed : IsRenamed names (string_bytes between.name) (string_bytes to)
-
-function_eq : (f g : Function) → item.Function f ≡ item.Function g → f ≡ g
-function_eq f g e = cc
-
-moved_from : (c : Copies) (v : WorldItem) (g : Function) → IsMovedItem (goes c) (λ (i : ℕ). i) v (item.Function g) → (f : Function) × (v ≡ item.Function f) × IsMovedFunction (goes c) f g
-moved_from c _ _ (moved_function f g is) = (f, refl, is)
-
-same_from : (v : WorldItem) (g : Function) → IsSameItem v (item.Function g) → (f : Function) × (v ≡ item.Function f) × IsSameFunction f g
-same_from _ _ (same_function f g is) = (f, refl, is)
-
-came_function : (names : List IncludeName) (c : Copies) (es : List (WorldKey × WorldItem)) (k : WorldKey) (h : Function) → Came names c es k (item.Function h) → CameFunction names c es h
-came_function names c es k h r = by r.copied refl r.is_renamed
-  where
-    by : (x : WorldItem) → r.copied ≡ x → IsRenamedItem names x (item.Function h) → CameFunction names c es h
-    by (item.Function b) is renamed =
-        let moved = moved_from c r.is_copied.0 b (subst (λ (x : WorldItem). IsMovedItem (goes c) (λ (i : ℕ). i) r.is_copied.0 x) is r.is_copied.2) in
-        let same = same_from r.item_was moved.0 (subst (IsSameItem r.item_was) moved.1 r.is_copied.1) in
-        record {
-          key = r.first;
-          f = same.0;
-          there = subst (λ (x : WorldItem). Has es (r.first, x)) same.1 r.there;
-          g = moved.0;
-          is_same = same.2;
-          between = b;
-          is_moved = moved.2;
-          to = renamed.0;
-          is = function_eq h (record b { name = renamed.0 }) renamed.1;
-          renamed = renamed.2;
-        }
-    by (item.Interface i gate span) is renamed = absurd cc
-    by (item.TypeItem i span) is renamed = absurd cc
-
--- a type of one
-type_eq : (i j : ℕ) (s t : Span) → item.TypeItem i s ≡ item.TypeItem j t → i ≡ j
-type_eq i j s t e = cc
-
-moved_type_from : (c : Copies) (v : WorldItem) (i : ℕ) (s : Span) → IsMovedItem (goes c) (λ (i : ℕ). i) v (item.TypeItem i s) → (j : ℕ) × (v ≡ item.TypeItem j s) × (i ≡ goes c j)
-moved_type_from c _ _ _ (moved_type j s) = (j, refl, refl)
-
-same_type_from : (v : WorldItem) (i : ℕ) (s : Span) → IsSameItem v (item.TypeItem i s) → v ≡ item.TypeItem i s
-same_type_from _ _ _ (same_type i s) = refl
-
-came_type : (names : List IncludeName) (c : Copies) (es : List (WorldKey × WorldItem)) (k : WorldKey) (i : ℕ) (span : Span) → (r : Came names c es k (item.TypeItem i span)) → (j : ℕ) × (s : Span) × Has es (r.first, item.TypeItem j s) × (i ≡ goes c j)
-came_type names c es k i span r = by r.copied refl r.is_renamed
-  where
-    by : (x : WorldItem) → r.copied ≡ x → IsRenamedItem names x (item.TypeItem i span) → (j : ℕ) × (s : Span) × Has es (r.first, item.TypeItem j s) × (i ≡ goes c j)
-    by (item.Function b) is renamed = absurd (let bad : item.TypeItem i span ≡ item.Function (record b { name = renamed.0 }) = renamed.1 in cc)
-    by (item.Interface j g s) is renamed = absurd (let bad : item.TypeItem i span ≡ item.Interface j g s = renamed in cc)
-    by (item.TypeItem j s) is renamed =
-        let moved = moved_type_from c r.is_copied.0 j s (subst (λ (x : WorldItem). IsMovedItem (goes c) (λ (i : ℕ). i) r.is_copied.0 x) is r.is_copied.2) in
-        let same = same_type_from r.item_was moved.0 s (subst (IsSameItem r.item_was) moved.1 r.is_copied.1) in
-        (moved.0, s, subst (λ (x : WorldItem). Has es (r.first, x)) same r.there, type_eq i j span s renamed ∙ moved.2)
-
--- by its key
-key_came : (names : List IncludeName) (k l n : WorldKey) (x : Name) → IsSameKey k l → IsRenamedKey names l n → known k ≡ spelled x → (y : Name) × (known n ≡ spelled y) × IsRenamed names x y
-key_came names _ _ n x (same_name a b same) renamed by = (
-  string_bytes renamed.0,
-  ap known renamed.1,
-  subst (λ (z : Name). IsRenamed names z (string_bytes renamed.0)) (same ∙ spelled_eq (string_bytes a) x by) renamed.2,
-)
-  where
-    spelled_eq : (p q : Name) → spelled p ≡ spelled q → p ≡ q
-    spelled_eq p q e = cc
-key_came names _ _ n x (same_key_interface id) renamed by = absurd cc
-
-key_same : (k l : WorldKey) (x : Name) → IsSameKey k l → known k ≡ spelled x → known l ≡ spelled x
-key_same _ _ x (same_name a b same) by = ap spelled same ∙ by
-key_same _ _ x (same_key_interface id) by = by
-
--- and an interface of the same
-interface_eq : (i j : ℕ) (g d : Stability) (s t : Span) → item.Interface i g s ≡ item.Interface j d t → i ≡ j
-interface_eq i j g d s t e = cc
-
-moved_interface_from : (c : Copies) (v : WorldItem) (i : ℕ) (g : Stability) (s : Span) → IsMovedItem (goes c) (λ (i : ℕ). i) v (item.Interface i g s) → v ≡ item.Interface i g s
-moved_interface_from c _ _ _ _ (moved_interface i g s) = refl
-
-same_interface_from : (v : WorldItem) (i : ℕ) (g : Stability) (s : Span) → IsSameItem v (item.Interface i g s) → (d : Stability) × (v ≡ item.Interface i d s)
-same_interface_from _ _ _ _ (same_interface i d g s same) = (d, refl)
-
-came_interface : (names : List IncludeName) (c : Copies) (es : List (WorldKey × WorldItem)) (k : WorldKey) (i : ℕ) (gate : Stability) (span : Span) → Came names c es k (item.Interface i gate span) → (l : WorldKey) × (d : Stability) × (s : Span) × Has es (l, item.Interface i d s)
-came_interface names c es k i gate span r = by r.copied refl r.is_renamed
-  where
-    by : (x : WorldItem) → r.copied ≡ x → IsRenamedItem names x (item.Interface i gate span) → (l : WorldKey) × (d : Stability) × (s : Span) × Has es (l, item.Interface i d s)
-    by (item.Function b) is renamed = absurd (let bad : item.Interface i gate span ≡ item.Function (record b { name = renamed.0 }) = renamed.1 in cc)
-    by (item.Interface j g s) is renamed =
-        let same_id : i ≡ j = interface_eq i j gate g span s renamed in
-        let moved = moved_interface_from c r.is_copied.0 j g s (subst (λ (x : WorldItem). IsMovedItem (goes c) (λ (i : ℕ). i) r.is_copied.0 x) is r.is_copied.2) in
-        let same = same_interface_from r.item_was j g s (subst (IsSameItem r.item_was) moved r.is_copied.1) in
-        (r.first, same.0, s, subst (λ (n : ℕ). Has es (r.first, item.Interface n same.0 s)) (sym same_id) (subst (λ (x : WorldItem). Has es (r.first, x)) same.1 r.there))
-    by (item.TypeItem j s) is renamed = absurd (let bad : item.Interface i gate span ≡ item.TypeItem j s = renamed in cc)
-
 -- ---- an include
 
 -- of what is moved the resource is
@@ -432,11 +297,11 @@ side_has (e ∷ es) k x i has of = elim (has_cases e es (k, x) has) as (λ _. or
 
 module _ (law_types : IncludedTypesStandForTheSame) (law : IncludedFunctionsStandForTheSame) (all : List PackageTexts) (one : PackageTexts) (among : Has all one) (given : Owner → Name → Tree) (owners : Owners) (m : MovedWorld) (w : Owner)
     (me_is : w.package_text ≡ one.context.me) (place_is : w.place ≡ in_world (string_bytes m.name))
-    (n : WorldInclude) (is : IsIncludeMeant one.context owners one.worlds m.name n) (into : ℕ) (d : World) (a : List TypeDef) (own : List ℕ) (new : List TypeDef)
+    (n : WorldInclude) (is : IsIncludeMeant (stays one.features) one.context owners one.worlds m.name m.stability n) (into : ℕ) (d : World) (a : List TypeDef) (own : List ℕ) (new : List TypeDef)
     (behind : AreIncludedBehind n.names.items owners given n.id into (included_owner one is.written) (world_owner one is.text) d a own new)
   where
     written : IsIncludeWritten all one is.text is.written n.names.items
-    written = record { among = among; text = is.is_text.there; there = is.there; names_are = is.names }
+    written = record { among = among; text = text_remains one m.name m.stability is.text is.is_text; there = is.there; names_are = is.names; remains = (n.stability, is.gates.0, is.gates.1) }
 
     module _ (side : Side) (es fs : List (WorldKey × WorldItem)) (of_world : (i : ℕ) → order.Has (side_ids es) i → IsOfItem d i) (entries : AreIncludedEntries n.names.items (copies_behind a own) es fs)
         (said : IsSideSaid all given owners a side (included_owner one is.written) es)
@@ -603,7 +468,7 @@ module _ (law_types : IncludedTypesStandForTheSame) (law : IncludedFunctionsStan
     exports : IsSideSaid all given owners s.types Export w s.exports
 
   module _ (one : PackageTexts) (among : Has all one) (m : MovedWorld) (w : Owner) (me_is : w.package_text ≡ one.context.me) (place_is : w.place ≡ in_world (string_bytes m.name)) (worlds : List World) (id : ℕ) (few : length worlds ≤ id) (whose : slice_get owners.worlds id ≡ Some w) where
-    includes_said : (ns : List WorldInclude) (s t : joined.State) → Includes worlds id ns s t → ((n : WorldInclude) → Has ns n → IsIncludeMeant one.context owners one.worlds m.name n) → AreTypesKnown s.types → IsWhole owners given s.types
+    includes_said : (ns : List WorldInclude) (s t : joined.State) → Includes worlds id ns s t → ((n : WorldInclude) → Has ns n → IsIncludeMeant (stays one.features) one.context owners one.worlds m.name m.stability n) → AreTypesKnown s.types → IsWhole owners given s.types
         → AreSaid all given owners s.types worlds → AreStateSaid w s → AreStateSaid w t
     includes_said _ s _ (includes_none _) meant known whole said own = own
     includes_said _ s u (includes_one ns n _ t _ before at) meant known whole said own =
@@ -613,7 +478,7 @@ module _ (law_types : IncludedTypesStandForTheSame) (law : IncludedFunctionsStan
         let t_whole = included_whole law_types owners packages apart given worlds id few there ns s t before known whole in
         let grown = included_grow worlds id ns s t before in
         let t_said : AreSaid all given owners t.types worlds = subst (λ (ts : List TypeDef). AreSaid all given owners ts worlds) (sym grown.1) (said_behind given owners s.types grown.0 all worlds said) in
-        let is : IsIncludeMeant one.context owners one.worlds m.name n = meant n (has_right ns (n ∷ []) n (has_here n [])) in
+        let is : IsIncludeMeant (stays one.features) one.context owners one.worlds m.name m.stability n = meant n (has_right ns (n ∷ []) n (has_here n [])) in
         let from = t_said n.id at.0 (included_owner one is.written) at.2 is.owner in
         let into : slice_get owners.worlds id ≡ Some (world_owner one is.text) = whose ∙ ap (λ (v : Owner). Some v) (sym (owner_is one w (string_bytes m.name) me_is place_is is.text is.is_text.named)) in
         let behind : AreIncludedBehind n.names.items owners given n.id id (included_owner one is.written) (world_owner one is.text) at.0 t.types at.3.own at.1.types.items = record {
@@ -640,7 +505,7 @@ same_owners owners = record { interfaces = []; interfaces_are = sym (append-nil 
 -- so it is of worlds that came to a graph of texts
 record AreOfTexts (given : Owner → Name → Tree) (owners : Owners) (one : PackageTexts) (types : List TypeDef) (first : ℕ) (ms : List MovedWorld) : Type 0 where
   whose : (k : ℕ) (m : MovedWorld) → slice_get ms k ≡ Some m → slice_get owners.worlds (first + k) ≡ Some (record { package_text = one.context.me; place = in_world (string_bytes m.name) })
-  means : (k : ℕ) (m : MovedWorld) → slice_get ms k ≡ Some m → IsWorldMeant given one.context owners types one.worlds m.name m.imports.items m.exports.items m.includes.items
+  means : (k : ℕ) (m : MovedWorld) → slice_get ms k ≡ Some m → IsWorldMeant (stays one.features) given one.context owners types one.worlds m.name m.stability m.imports.items m.exports.items m.includes.items
 
 module _ (law_types : IncludedTypesStandForTheSame) (law : IncludedFunctionsStandForTheSame) (all : List PackageTexts) (given : Owner → Name → Tree) (owners : Owners) (packages : List Package) (apart : AreWorldsApart owners packages) (one : PackageTexts) (among : Has all one) where
   added_said : (interfaces : List Interface) (uses : Rows) (owner : ℕ) (ms : List MovedWorld) (s t : State) → AreAdded interfaces uses owner ms s t → AreOfTexts given owners one s.types (length s.worlds.listed) ms
@@ -660,9 +525,9 @@ module _ (law_types : IncludedTypesStandForTheSame) (law : IncludedFunctionsStan
       let to_t = added_grow interfaces uses owner ms s t before in
       let w : Owner = record { package_text = one.context.me; place = in_world (string_bytes m.name) } in
       let whose : slice_get owners.worlds (length t.worlds.listed) ≡ Some w = ap (slice_get owners.worlds) so_many ∙ of_texts.whose (length ms) m (get_last ms m) in
-      let means : IsWorldMeant given one.context owners t.types one.worlds m.name m.imports.items m.exports.items m.includes.items =
-      subst (λ (ts : List TypeDef). IsWorldMeant given one.context owners ts one.worlds m.name m.imports.items m.exports.items m.includes.items) (sym to_t.1)
-      (world_still given owners owners (same_owners owners) s.types to_t.0 refl one.context one.worlds m.name m.imports.items m.exports.items m.includes.items (of_texts.means (length ms) m (get_last ms m))) in
+      let means : IsWorldMeant (stays one.features) given one.context owners t.types one.worlds m.name m.stability m.imports.items m.exports.items m.includes.items =
+      subst (λ (ts : List TypeDef). IsWorldMeant (stays one.features) given one.context owners ts one.worlds m.name m.stability m.imports.items m.exports.items m.includes.items) (sym to_t.1)
+      (world_still (stays one.features) given owners owners (same_owners owners) s.types to_t.0 refl one.context one.worlds m.name m.stability m.imports.items m.exports.items m.includes.items (of_texts.means (length ms) m (get_last ms m))) in
       let sides = a.is_joined.sides in
       let own : AreStateSaid law_types law all given owners packages apart w (own_state t.types m) = record { imports = own_imports all one among given owners t.types m w refl refl means; exports = own_exports all one among given owners t.types m w refl refl means } in
       let state = includes_said law_types law all given owners packages apart one among m w refl refl t.worlds.listed (length t.worlds.listed) (omega arith) whose m.includes.items (own_state t.types m) sides.joined sides.includes means.included t_known t_whole so_far own in
@@ -711,7 +576,7 @@ module _ (given : Owner → Name → Tree) (old new : Owners) (more_owners : Hav
 
 module _ (moved : MovedTypesStandForTheSame) (functions_stand : MovedFunctionsStandForTheSame) (law_types : IncludedTypesStandForTheSame) (law : IncludedFunctionsStandForTheSame)
     (texts : PackageTexts) (owners : Owners) (eq : PackageName → PackageName → Bool) (features : FeatureSet) (old : Graph) (p : UnresolvedPackage) (new : Graph) (id : ℕ) (tells : TellsNamesApart eq) (stand : NamesOfGraphStand old)
-    (owned : AreOwned owners old.tables) (whole : AreWhole old.tables) (known : AreTypesKnown old.tables.types) (have : HasTrees owners old.tables) (are : AreOwnersOf texts.context.owners p) (own_known : AreOwnTypesKnown p) (of_texts : IsOfTexts texts p)
+    (owned : AreOwned owners old.tables) (whole : AreWhole old.tables) (known : AreTypesKnown old.tables.types) (have : HasTrees owners old.tables) (are : AreOwnersOf texts.context.owners p) (own_known : AreOwnTypesKnown p) (of_texts : IsOfTexts texts p) (active : texts.features ≡ features)
     (h : IsPushed eq features old p new id) (o : AreOwnedWith texts.context.owners owners eq features old p new id h) (given : Owner → Name → Tree) (by : IsGivenBy given o.all new.tables)
     (all : List PackageTexts) (said : AreWorldsSaid all owners old.tables)
   where
@@ -764,7 +629,8 @@ module _ (moved : MovedTypesStandForTheSame) (functions_stand : MovedFunctionsSt
     came_of_texts : AreOfTexts given o.all texts there (length old.tables.worlds.listed) h.put.added.parts.own_worlds.moved
     came_of_texts = record {
       whose = new_whose;
-      means = λ k m at. worlds_go_at functions_stand given texts.context texts.interfaces texts.worlds o.all eq features old p new id of_texts.meant h agreed_here there stand_here k m at;
+      means = λ k m at. subst (λ (set : FeatureSet). IsWorldMeant (stays set) given texts.context o.all there texts.worlds m.name m.stability m.imports.items m.exports.items m.includes.items) (sym active)
+          (worlds_go_at functions_stand given texts.context texts.interfaces texts.worlds o.all eq features old p new id of_texts.meant h agreed_here there stand_here (written_goes eq features old p new id h texts.context.owners given (of_texts.meant.whole given)) k m at);
     }
 
     there_whole : IsWhole o.all given there
@@ -781,5 +647,5 @@ module _ (moved : MovedTypesStandForTheSame) (functions_stand : MovedFunctionsSt
         (subst (λ (ts : List TypeDef). AreSaid (all ++ texts ∷ []) given o.all ts old.tables.worlds.listed) (sym a.own_types.types_are) old_said)
 
 pub pushed_worlds_said : MovedTypesStandForTheSame → MovedFunctionsStandForTheSame → IncludedTypesStandForTheSame → IncludedFunctionsStandForTheSame → PushedWorldsAreSaid
-pushed_worlds_said moved functions_stand law_types law all texts owners eq features old p new id tells stand owned whole known have are own_known of_texts h o said given by =
-    all_said moved functions_stand law_types law texts owners eq features old p new id tells stand owned whole known have are own_known of_texts h o given by all said
+pushed_worlds_said moved functions_stand law_types law all texts owners eq features old p new id tells stand owned whole known have are own_known of_texts active h o said given by =
+    all_said moved functions_stand law_types law texts owners eq features old p new id tells stand owned whole known have are own_known of_texts active h o given by all said

@@ -1,12 +1,17 @@
 -- Types that a world has of its own, and resources that its functions are of.
 use Rattle.std.proofs.Common.{◌≡◌, ℕ, Bool, true, false, List, Option, Some, None, refl, sym, subst, ap, ◌∙◌}
-use Rattle.std.specs.Prelude.{if◌then◌else◌}
+use Rattle.std.proofs.lemmas.Option.{same_Some}
+use Rattle.std.specs.Prelude.{String, if◌then◌else◌}
+use Rattle.std.specs.declared.alloc.Global.{Global}
+use Rattle.wit_types.specs.declared.function.Function.{Function}
 use Rattle.wit_types.specs.declared.function.FunctionKind.{FunctionKind}
 use Rattle.wit_types.specs.declared.function.FunctionKind.TheVariants as of
 use Rattle.wit_types.specs.declared.interface.TypeDef.{TypeDef}
+use Rattle.wit_types.specs.declared.stability.Stability.{Stability}
 use Rattle.wit_types.specs.declared.world.IncludeName.{IncludeName}
-use Rattle.wit_scopes.specs.Members.{MemberKind, used, defined, function, method, static, constructor}
-use Rattle.wit_scopes.specs.Scopes.{ItemScope}
+use Rattle.wit_features.specs.Features.{FeatureSet, stays}
+use Rattle.wit_scopes.specs.Members.{MemberKind, MemberTree, used, defined, function, method, static, constructor}
+use Rattle.wit_scopes.specs.Scopes.{ItemScope, WorldScope}
 use Rattle.wit_sides.specs.Renames.{IsRenamed}
 use Rattle.wit_moves.specs.Moved.{resource_of}
 use Rattle.wit_arena.specs.Tree.{Name, PackageText, Place, in_world, Owner, Tree, named_tree, resource_leaf}
@@ -15,8 +20,9 @@ use Rattle.wit_arena.specs.Meaning.{MeansName, means_alias_of_name, means_alias,
 use Rattle.wit_copied_trees.specs.Renamed.{IsRenamedTree, same_primitive, renamed_list, renamed_fixed_length_list, renamed_option, renamed_tuple, renamed_result, renamed_future, renamed_stream, renamed_own, renamed_borrow, renamed_record, same_flags, same_enum, renamed_variant, renamed_name, renamed_leaf, other_name, other_leaf}
 use Rattle.wit_pushed_trees.specs.Meaning.{IsKindMeant}
 use Rattle.wit_pushed_trees.specs.Meant.{PackageTexts}
-use Rattle.wit_pushed_trees.specs.Staying.{resource_text}
-use Rattle.wit_pushed_trees.specs.Said.{world_owner, included_owner, SaysType, says_type, includes_type, IsOwnName, IsResourceSaid, HasResourceSaid}
+use Rattle.wit_pushed_trees.specs.Staying.{resource_text, TypeRemains, FunctionRemains}
+use Rattle.wit_pushed_trees.specs.Worlds.{IsKeptByGates, IsTextOf, IsTypeWritten}
+use Rattle.wit_pushed_trees.specs.Said.{HasWorldText, world_owner, included_owner, SaysType, says_type, includes_type, IsOwnName, IsResourceSaid, HasResourceSaid}
 
 -- ---- types of one owner
 
@@ -57,7 +63,7 @@ of_renamed names v w _ _ (other_name o x t other) is = absurd (other is)
 of_renamed names v w _ _ (other_leaf o x other) is = absurd (other is)
 
 pub of_saying : (all : List PackageTexts) (given : Owner → Name → Tree) (w : Owner) (x : Name) (t : Tree) → SaysType all given w x t → IsOf w t
-of_saying all given _ _ _ (says_type one w x t among text means) = of_meaning one.context.me one.context.scopes given (in_world w.name.text) x t means
+of_saying all given _ _ _ (says_type one w x t among text remains means) = of_meaning one.context.me one.context.scopes given (in_world w.name.text) x t means
 of_saying all given _ _ _ (includes_type one w i names x y t u is says renamed tree) = of_renamed names (included_owner one i) (world_owner one w) t u tree (of_saying all given (included_owner one i) x t says)
 
 -- ---- under their names
@@ -128,9 +134,35 @@ resource_so all more given old new a b w so None (Some x) has = absurd has
 resource_so all more given old new a b w so (Some i) None has = absurd has
 
 -- and by what is meant
-pub meant_resource : (all : List PackageTexts) (given : Owner → Name → Tree) (owners : Owners) (types : List TypeDef) (w : Owner) (stands : Name → ℕ → Type 0) → ((i : ℕ) (x : Name) → stands x i → IsResourceSaid all given owners types w i x)
-    → (o : Option ℕ) (n : Option Name) → IsResourceMeant stands o n → HasResourceSaid all given owners types w o n
-meant_resource all given owners types w stands so None None has = tt
-meant_resource all given owners types w stands so (Some i) (Some x) has = so i x has
-meant_resource all given owners types w stands so None (Some x) has = absurd has
-meant_resource all given owners types w stands so (Some i) None has = absurd has
+pub meant_resource : (all : List PackageTexts) (given : Owner → Name → Tree) (owners : Owners) (types : List TypeDef) (w : Owner) (stands : Name → ℕ → Type 0) (o : Option ℕ) (n : Option Name) → ((i : ℕ) (x : Name) → n ≡ Some x → stands x i → IsResourceSaid all given owners types w i x)
+    → IsResourceMeant stands o n → HasResourceSaid all given owners types w o n
+meant_resource all given owners types w stands None None so has = tt
+meant_resource all given owners types w stands (Some i) (Some x) so has = so i x refl has
+meant_resource all given owners types w stands None (Some x) so has = absurd has
+meant_resource all given owners types w stands (Some i) None so has = absurd has
+
+-- the name that is written is that of a type
+pub named_resource : (stands : Name → ℕ → Type 0) (o : Option ℕ) (n : Option Name) (x : Name) → n ≡ Some x → IsResourceMeant stands o n → (i : ℕ) × stands x i
+named_resource stands None None x e has = absurd cc
+named_resource stands None (Some y) x e has = absurd has
+named_resource stands (Some i) None x e has = absurd has
+named_resource stands (Some i) (Some y) x e has = (i, subst (λ (z : Name). stands z i) (same_Some y x e) has)
+
+-- ---- what remains
+
+-- what is kept by its gates remains
+pub text_remains : (one : PackageTexts) (name : String Global) (stability : Stability) (w : WorldScope) → IsTextOf (stays one.features) one.worlds name stability w → HasWorldText one w
+text_remains one name stability w t = (t.there, (stability, t.gates.0, t.gates.1))
+
+pub type_remains : (features : FeatureSet) (types : List TypeDef) (ms : List MemberTree) (x : Name) (i : ℕ) → IsTypeWritten (stays features) types ms x i → TypeRemains features ms x
+type_remains features types ms x i w = (w.member, w.written, w.spelled_as, (w.def.stability, w.gates.0, w.gates.1))
+
+pub function_remains : (features : FeatureSet) (types : List TypeDef) (ms : List MemberTree) (m : MemberTree) (f : Function) → IsKeptByGates (stays features) m.attributes f.stability → IsKindMeant (λ (x : Name) (i : ℕ). IsTypeWritten (stays features) types ms x i) m.kind f.kind
+    → FunctionRemains features ms m
+function_remains features types ms m f gates kind = record {
+  gates = (f.stability, gates.0, gates.1);
+  resource = λ x named. (
+      let written : Name → ℕ → Type 0 = λ y i. IsTypeWritten (stays features) types ms y i in
+      let r = named_resource written (resource_of f.kind) (resource_text m.kind) x named (kind_resource written m.kind f.kind kind) in
+      type_remains features types ms x r.0 r.1);
+}

@@ -1,6 +1,7 @@
 -- Packages mean the same wherever their texts stand among others.
 use Rattle.std.proofs.Common.{◌≡◌, ℕ, ◌<◌, List, [], ◌∷◌, ◌++◌, map, length, Option, Some, None, String, refl, sym, subst, ap, ◌∙◌}
 use Rattle.std.proofs.lemmas.List.{length-map}
+use Rattle.std.proofs.lemmas.Option.{slice_get-map}
 use Rattle.std.specs.Prelude.{string_bytes, option_map}
 use Rattle.std.specs.declared.alloc.Global.{Global}
 use Rattle.wit_words.specs.declared.source_map.Span.{Span}
@@ -27,6 +28,7 @@ use Rattle.wit_types.specs.WorldKey.{known}
 use Rattle.wit_offsets.specs.Offsets.{include_by, param_by, function_by, field_by, case_by, flag_by, enum_case_by, kind_by, type_def_by, interface_by, item_by, world_by, span_at}
 use Rattle.wit_scopes.specs.declared.worlds.Side.{Side}
 use Rattle.wit_scopes.specs.declared.worlds.Side.TheVariants.{Import, Export}
+use Rattle.wit_scopes.specs.Members.{MemberTree}
 use Rattle.wit_scopes.specs.Scopes.{WorldScope}
 use Rattle.wit_arena.specs.Tree.{Name, Place, in_world, Owner, Tree, named_tree, record_tree, flags_tree, enum_tree, variant_tree}
 use Rattle.wit_arena.specs.Unfold.{Owners, and_then, part_trees, kind_tree, named_kind_tree, nameless_tree, owner_of, def_tree_of, def_tree, trees_from, trees, ref_tree}
@@ -36,12 +38,12 @@ use Rattle.wit_arena.specs.Meaning.{Has}
 use Rattle.wit_arena.proofs.Lists.{map_has}
 use Rattle.wit_resolved_scopes.specs.InArena.{Context}
 use Rattle.wit_resolved_scopes.specs.Meaning.{function_refs}
-use Rattle.wit_resolved_scopes.specs.Texts.{InterfaceText}
+use Rattle.wit_resolved_scopes.specs.Texts.{InterfaceText, own_members}
 use Rattle.wit_well_formed.proofs.Lists.{got_behind}
 use Rattle.wit_well_formed.proofs.Offsets.{items_are}
 use Rattle.wit_graph_parts.specs.Own.{asked}
 use Rattle.wit_pushed_trees.specs.Meaning.{IsFunctionMeant, IsInterfaceMeant}
-use Rattle.wit_pushed_trees.specs.Worlds.{IsTypeMeant, IsOwnFunctionMeant, IsInterfaceListed, IsIncludeMeant, IsWorldMeant}
+use Rattle.wit_pushed_trees.specs.Worlds.{all_kept, IsTypeWritten, IsTypeMeant, IsOwnFunctionMeant, IsInterfaceListed, IsIncludeMeant, IsWorldMeant}
 use Rattle.wit_pushed_trees.specs.Packages.{MovedPackagesMeanTheirTexts}
 use Rattle.wit_pushed_trees.proofs.Texts.{member_kind_same}
 
@@ -154,6 +156,20 @@ module _ (f : Span → Span) where
       };
     }
 
+    -- a type of a world's text is
+    written_same : (ds : List TypeDef) (ms : List MemberTree) (x : Name) (i : ℕ) → IsTypeWritten all_kept ds ms x i → IsTypeWritten all_kept (map (type_def_by f) ds) ms x i
+    written_same ds ms x i w = record {
+      member = w.member;
+      written = w.written;
+      spelled_as = w.spelled_as;
+      def = type_def_by f w.def;
+      there = slice_get-map (type_def_by f) ds i ∙ ap (option_map (type_def_by f)) w.there;
+      named = w.named;
+      world = w.world;
+      owner = w.owner;
+      gates = w.gates;
+    }
+
     -- ---- interfaces and worlds
 
     interface_same : (c : Context) (ds : List TypeDef) (t : InterfaceText) (d : Interface) → IsInterfaceMeant given c owners ds t d → IsInterfaceMeant given c owners (map (type_def_by f) ds) t (interface_by f d)
@@ -185,45 +201,56 @@ module _ (f : Span → Span) where
     item_interface (item.TypeItem j at) i gate span e = absurd cc
     item_interface (item.Function g) i gate span e = absurd cc
 
-    interface_side : (P : WorldKey → ℕ → Type 0) (es : List (WorldKey × WorldItem)) → ((k : WorldKey) (i : ℕ) (gate : Stability) (span : Span) → Has es (k, item.Interface i gate span) → P k i) → (k : WorldKey) (i : ℕ) (gate : Stability) (span : Span) → Has (side_by es) (k, item.Interface i gate span) → P k i
+    interface_side : (P : WorldKey → ℕ → Stability → Type 0) (es : List (WorldKey × WorldItem)) → ((k : WorldKey) (i : ℕ) (gate : Stability) (span : Span) → Has es (k, item.Interface i gate span) → P k i gate) → (k : WorldKey) (i : ℕ) (gate : Stability) (span : Span)
+        → Has (side_by es) (k, item.Interface i gate span) → P k i gate
     interface_side P es listed k i gate span has =
         let e = map_has (λ (e : WorldKey × WorldItem). (e.0, item_by f e.1)) es (k, item.Interface i gate span) has in
         let of = item_interface e.0.1 i gate span (ap (λ (y : WorldKey × WorldItem). y.1) e.2) in
-        subst (λ (q : WorldKey). P q i) (sym (ap (λ (y : WorldKey × WorldItem). y.0) e.2)) (listed e.0.0 i gate of.0 (subst (λ (x : WorldItem). Has es (e.0.0, x)) of.1 e.1))
+        subst (λ (q : WorldKey). P q i gate) (sym (ap (λ (y : WorldKey × WorldItem). y.0) e.2)) (listed e.0.0 i gate of.0 (subst (λ (x : WorldItem). Has es (e.0.0, x)) of.1 e.1))
 
-    world_same : (c : Context) (ds : List TypeDef) (ws : List WorldScope) (name : String Global) (imports exports : List (WorldKey × WorldItem)) (includes : List WorldInclude) → IsWorldMeant given c owners ds ws name imports exports includes
-        → IsWorldMeant given c owners (map (type_def_by f) ds) ws name (side_by imports) (side_by exports) (map (include_by f) includes)
-    world_same c ds ws name imports exports includes is = record {
+    world_same : (c : Context) (ds : List TypeDef) (ws : List WorldScope) (name : String Global) (stability : Stability) (imports exports : List (WorldKey × WorldItem)) (includes : List WorldInclude) → IsWorldMeant all_kept given c owners ds ws name stability imports exports includes
+        → IsWorldMeant all_kept given c owners (map (type_def_by f) ds) ws name stability (side_by imports) (side_by exports) (map (include_by f) includes)
+    world_same c ds ws name stability imports exports includes is = record {
       text = is.text;
       is_text = is.is_text;
       own_types = λ k i span has.
           let e = map_has (λ (e : WorldKey × WorldItem). (e.0, item_by f e.1)) imports (k, item.TypeItem i span) has in
           let of = item_type e.0.1 i span (ap (λ (y : WorldKey × WorldItem). y.1) e.2) in
           let key_is : k ≡ e.0.0 = ap (λ (y : WorldKey × WorldItem). y.0) e.2 in
-          let t : IsTypeMeant given c owners ds ws name e.0.0 i = is.own_types e.0.0 i of.0 (subst (λ (x : WorldItem). Has imports (e.0.0, x)) of.1 e.1) in
-          record { text = t.text; is_text = t.is_text; spelling = t.spelling; known_by = ap known key_is ∙ t.known_by; means = stands_same c ds (in_world t.text.name.text) t.spelling i t.means };
+          let t : IsTypeMeant all_kept given c owners ds ws name stability e.0.0 i = is.own_types e.0.0 i of.0 (subst (λ (x : WorldItem). Has imports (e.0.0, x)) of.1 e.1) in
+          record { text = t.text; is_text = t.is_text; spelling = t.spelling; known_by = ap known key_is ∙ t.known_by; means = stands_same c ds (in_world t.text.name.text) t.spelling i t.means; written = written_same ds (own_members t.text.members) t.spelling i t.written };
       imported_functions = side_function Import imports is.imported_functions;
       exported_functions = side_function Export exports is.exported_functions;
-      imported = interface_side (IsInterfaceListed c owners ws name Import) imports is.imported;
-      exported = interface_side (IsInterfaceListed c owners ws name Export) exports is.exported;
+      imported = interface_side (IsInterfaceListed all_kept c owners ws name stability Import) imports is.imported;
+      exported = interface_side (IsInterfaceListed all_kept c owners ws name stability Export) exports is.exported;
       no_exported_types = λ k i span has.
           let e = map_has (λ (e : WorldKey × WorldItem). (e.0, item_by f e.1)) exports (k, item.TypeItem i span) has in
           let of = item_type e.0.1 i span (ap (λ (y : WorldKey × WorldItem). y.1) e.2) in
           is.no_exported_types e.0.0 i of.0 (subst (λ (x : WorldItem). Has exports (e.0.0, x)) of.1 e.1);
       included = λ n has.
           let e = map_has (include_by f) includes n has in
-          let i : IsIncludeMeant c owners ws name e.0 = is.included e.0 e.1 in
-          subst (IsIncludeMeant c owners ws name) (sym e.2) (record { text = i.text; is_text = i.is_text; written = i.written; there = i.there; owner = i.owner; names = i.names });
+          let i : IsIncludeMeant all_kept c owners ws name stability e.0 = is.included e.0 e.1 in
+          subst (IsIncludeMeant all_kept c owners ws name stability) (sym e.2) (record { text = i.text; is_text = i.is_text; written = i.written; there = i.there; owner = i.owner; names = i.names; gates = i.gates });
     }
       where
-        side_function : (side : Side) (es : List (WorldKey × WorldItem)) → ((k : WorldKey) (g : Function) → Has es (k, item.Function g) → IsOwnFunctionMeant given c owners ds ws name side g) → (k : WorldKey) (g : Function) → Has (side_by es) (k, item.Function g)
-            → IsOwnFunctionMeant given c owners (map (type_def_by f) ds) ws name side g
+        side_function : (side : Side) (es : List (WorldKey × WorldItem)) → ((k : WorldKey) (g : Function) → Has es (k, item.Function g) → IsOwnFunctionMeant all_kept given c owners ds ws name stability side g) → (k : WorldKey) (g : Function) → Has (side_by es) (k, item.Function g)
+            → IsOwnFunctionMeant all_kept given c owners (map (type_def_by f) ds) ws name stability side g
         side_function side es meant k g has =
             let e = map_has (λ (e : WorldKey × WorldItem). (e.0, item_by f e.1)) es (k, item.Function g) has in
             let of = item_function e.0.1 g (ap (λ (y : WorldKey × WorldItem). y.1) e.2) in
-            let m : IsOwnFunctionMeant given c owners ds ws name side of.0 = meant e.0.0 of.0 (subst (λ (x : WorldItem). Has es (e.0.0, x)) of.1 e.1) in
-            subst (IsOwnFunctionMeant given c owners (map (type_def_by f) ds) ws name side) (sym of.2)
-            (record { text = m.text; is_text = m.is_text; is = function_same c ds (in_world m.text.name.text) _ of.0 m.is; giver = m.giver; on_side = m.on_side; gives = m.gives })
+            let m : IsOwnFunctionMeant all_kept given c owners ds ws name stability side of.0 = meant e.0.0 of.0 (subst (λ (x : WorldItem). Has es (e.0.0, x)) of.1 e.1) in
+            subst (IsOwnFunctionMeant all_kept given c owners (map (type_def_by f) ds) ws name stability side) (sym of.2)
+            (record {
+              text = m.text;
+              is_text = m.is_text;
+              is = function_same c ds (in_world m.text.name.text) _ of.0 m.is;
+              giver = m.giver;
+              on_side = m.on_side;
+              gives = m.gives;
+              gates = m.gates;
+              resource = member_kind_same (λ (x : Name) (i : ℕ). IsTypeWritten all_kept ds (own_members m.text.members) x i) (λ (x : Name) (i : ℕ). IsTypeWritten all_kept (map (type_def_by f) ds) (own_members m.text.members) x i)
+                  (written_same ds (own_members m.text.members)) m.is.member.kind of.0.kind m.resource;
+            })
 
 -- ---- a package
 
@@ -241,7 +268,7 @@ moved_meant c interfaces worlds p n is =
           (text.0, text.1, text.2, subst (IsInterfaceMeant given c c.owners (map (type_def_by f) p.types) text.0) o.2 (interface_same f c.owners given c p.types text.0 o.0 text.3));
       each_world = λ given k w at.
           let o = got_behind (world_by f) (asked p).worlds p.worlds k w at in
-          let same = world_same f c.owners given c p.types worlds o.0.name o.0.imports.entries o.0.exports.entries o.0.includes.items (is.each_world given k o.0 o.1) in
-          subst (λ (v : World). IsWorldMeant given c c.owners (map (type_def_by f) p.types) worlds v.name v.imports.entries v.exports.entries v.includes.items) o.2
-          (subst (IsWorldMeant given c c.owners (map (type_def_by f) p.types) worlds o.0.name (side_by f c.owners given o.0.imports.entries) (side_by f c.owners given o.0.exports.entries)) (sym (items_are (include_by f) o.0.includes)) same);
+          let same = world_same f c.owners given c p.types worlds o.0.name o.0.stability o.0.imports.entries o.0.exports.entries o.0.includes.items (is.each_world given k o.0 o.1) in
+          subst (λ (v : World). IsWorldMeant all_kept given c c.owners (map (type_def_by f) p.types) worlds v.name v.stability v.imports.entries v.exports.entries v.includes.items) o.2
+          (subst (IsWorldMeant all_kept given c c.owners (map (type_def_by f) p.types) worlds o.0.name o.0.stability (side_by f c.owners given o.0.imports.entries) (side_by f c.owners given o.0.exports.entries)) (sym (items_are (include_by f) o.0.includes)) same);
     }

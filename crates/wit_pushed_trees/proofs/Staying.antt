@@ -319,7 +319,7 @@ own_placed features p (t ∷ ss) (suc k) s at =
 
 module _ (features : FeatureSet) (graph : List Interface) (sizes : Sizes) (foreign owners : OwnerPlaces) (p : UnresolvedPackage) (places : Places) (planned : IsPlanned features graph sizes foreign (own_parts p) owners places) where
   -- a type has a place where its gates let it stay and what it belongs to has one
-  type_is_placed : (whose : TypeOwner) (m : MemberTree) (i : ℕ) → (h : IsOwnType p whose m i) → is_placed places i ≡ (stays features h.def.stability && is_owner_placed owners h.def.owner)
+  pub type_is_placed : (whose : TypeOwner) (m : MemberTree) (i : ℕ) → (h : IsOwnType p whose m i) → is_placed places i ≡ (stays features h.def.stability && is_owner_placed owners h.def.owner)
   type_is_placed whose m i h =
       let cut = split (own_parts p).types h.place h.def h.there in
       let others : Places = map (type_found graph foreign.interfaces) (own_parts p).unknown in

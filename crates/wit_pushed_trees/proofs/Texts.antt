@@ -50,9 +50,12 @@ use Rattle.wit_reach.proofs.Holding.{got}
 use Rattle.wit_well_formed.proofs.Belonging.{counted, worlds_are_counted}
 use Rattle.wit_well_formed.proofs.Lists.{get_drop}
 use Rattle.wit_graph_parts.specs.Own.{asked, own_parts}
+use Rattle.wit_package_types.specs.Stability.{IsStabilityOf}
+use Rattle.wit_orders.specs.Needs.{types_of, AreSorted}
 use Rattle.wit_pushed_trees.proofs.Resolved.{name_in, named_place, text_owned}
+use Rattle.wit_pushed_trees.proofs.Staying.{was_sorted}
 use Rattle.wit_pushed_trees.specs.Meaning.{FunctionSort, is_freestanding, is_method, is_static, sort_of, written_sort, IsKindMeant, param_names, written_names, IsFunctionMeant, IsInterfaceMeant, IsOfText}
-use Rattle.wit_pushed_trees.specs.Worlds.{IsTextOf, IsTypeMeant, IsGiven, IsOwnFunctionMeant, extern_owner, listed_key, IsInterfaceListed, IsIncludeMeant, IsWorldMeant}
+use Rattle.wit_pushed_trees.specs.Worlds.{IsTextOf, all_kept, IsTypeWritten, IsTypeMeant, IsGiven, IsOwnFunctionMeant, extern_owner, listed_key, IsInterfaceListed, IsIncludeMeant, IsWorldMeant}
 use Rattle.wit_pushed_trees.specs.Packages.{ResolvedPackagesMeanTheirTexts}
 
 -- what is one of a kind
@@ -64,6 +67,9 @@ type_is i j s t e = cc
 
 interface_is : (i j : ℕ) (s t : Stability) (x y : Span) → item.Interface i s x ≡ item.Interface j t y → i ≡ j
 interface_is i j s t x y e = cc
+
+gate_is : (i j : ℕ) (s t : Stability) (x y : Span) → item.Interface i s x ≡ item.Interface j t y → s ≡ t
+gate_is i j s t x y e = cc
 
 listed_is : (l k : ListedTree) → scope.listed l ≡ scope.listed k → l ≡ k
 listed_is l k e = cc
@@ -116,6 +122,22 @@ names_mean : (given : Owner → Name → Tree) (c : Context) (a : List TypeDef) 
 names_mean given c a o whose sorted table each x i (n, at) =
     let m = each_right (IsTypeIn c o whose a) sorted table each n (x, i) at in
     subst (λ (y : Name). Stands c.me c.scopes given c.owners a o y i) (sym m.2.name) (m.2.means given)
+
+-- and in a world is that of the member that has it
+types_written : (c : Context) (a : List TypeDef) (o : Place) (world : ℕ) (ms sorted : List MemberTree) → AreSorted (types_of ms) sorted → (table : Entries) → Each (IsTypeIn c o (belongs.World world) a) sorted table → (x : Name) (i : ℕ) → Has table (x, i) → IsTypeWritten all_kept a ms x i
+types_written c a o world ms sorted are_sorted table each x i (n, at) =
+    let m = each_right (IsTypeIn c o (belongs.World world) a) sorted table each n (x, i) at in
+    record {
+      member = m.0;
+      written = was_sorted (types_of ms) are_sorted.0 sorted are_sorted.2 m.0 (n, m.1);
+      spelled_as = m.2.name;
+      def = m.2.def;
+      there = m.2.there;
+      named = m.2.is.name ∙ ap (λ (y : Name). Some y) (sym m.2.name);
+      world = world;
+      owner = m.2.is.owner;
+      gates = (m.2.is.stability, refl);
+    }
 
 -- a function of a scope that is one of these members
 abbrev in_scope : (given : Owner → Name → Tree) (c : Context) (a : List TypeDef) (o : Place) (ms : List MemberTree) (table : Entries) → ((x : Name) (i : ℕ) → Has table (x, i) → Stands c.me c.scopes given c.owners a o x i)
@@ -220,21 +242,23 @@ module _ (c : Context) (n : Name) (a : List TypeDef) (table : Entries) where
   entry_function ws side (scope.included i) e has h f is = absurd h
 
   -- and an interface for what is listed
-  abbrev IsOfListed : List WorldMemberTree → Side → WorldKey → ℕ → Type 0
-  IsOfListed ws side key i =
-      (l : ListedTree) × Has ws (scope.listed l) × (l.side ≡ side) × (w : Owner) × (extern_owner c n l l.kind ≡ Some w) × (slice_get c.owners.interfaces i ≡ Some w) × (known key ≡ listed_key l l.kind i)
+  abbrev IsOfListed : List WorldMemberTree → Side → WorldKey → ℕ → Stability → Type 0
+  IsOfListed ws side key i gate =
+      (l : ListedTree) × Has ws (scope.listed l) × (l.side ≡ side) × (w : Owner) × (extern_owner c n l l.kind ≡ Some w) × (slice_get c.owners.interfaces i ≡ Some w) × (known key ≡ listed_key l l.kind i) × IsStabilityOf l.attributes gate
 
   extern_interface : (ws : List WorldMemberTree) (side : Side) (l : ListedTree) → Has ws (scope.listed l) → l.side ≡ side → (k : ExternKind) → l.kind ≡ k → (e : Entry) → IsExternEntry c n a table l k e → (i : ℕ) (gate : Stability) (span : Span) → e.1 ≡ item.Interface i gate span
-      → IsOfListed ws side e.0 i
+      → IsOfListed ws side e.0 i gate
   extern_interface ws side l has on (scope.ExternKind.function f) kind e h i gate span is = absurd (let q : item.Interface i gate span ≡ item.Function h.made = sym is ∙ h.item in cc)
   extern_interface ws side l has on (scope.ExternKind.interface ms) kind e h i gate span is =
       let same : i ≡ h.id = interface_is i h.id gate h.stability span l.name.span (sym is ∙ h.item) in
-      (l, has, on, own_owner c (in_listed n l.side l.name.text), ap (extern_owner c n l) kind, ap (slice_get c.owners.interfaces) same ∙ h.owner, h.key ∙ ap (λ (k : ExternKind). listed_key l k i) (sym kind))
+      let gates : IsStabilityOf l.attributes gate = subst (IsStabilityOf l.attributes) (sym (gate_is i h.id gate h.stability span l.name.span (sym is ∙ h.item))) h.gates in
+      (l, has, on, own_owner c (in_listed n l.side l.name.text), ap (extern_owner c n l) kind, ap (slice_get c.owners.interfaces) same ∙ h.owner, h.key ∙ ap (λ (k : ExternKind). listed_key l k i) (sym kind), gates)
   extern_interface ws side l has on (scope.item t) kind e h i gate span is =
       let same : i ≡ h.id = interface_is i h.id gate h.stability span l.name.span (sym is ∙ h.item) in
-      (l, has, on, target_owner c.me in_interface t, ap (extern_owner c n l) kind, ap (slice_get c.owners.interfaces) same ∙ h.owner, h.key ∙ ap placed (sym same) ∙ ap (λ (k : ExternKind). listed_key l k i) (sym kind))
+      let gates : IsStabilityOf l.attributes gate = subst (IsStabilityOf l.attributes) (sym (gate_is i h.id gate h.stability span l.name.span (sym is ∙ h.item))) h.gates in
+      (l, has, on, target_owner c.me in_interface t, ap (extern_owner c n l) kind, ap (slice_get c.owners.interfaces) same ∙ h.owner, h.key ∙ ap placed (sym same) ∙ ap (λ (k : ExternKind). listed_key l k i) (sym kind), gates)
 
-  entry_interface : (ws : List WorldMemberTree) (side : Side) (x : WorldMemberTree) (e : Entry) → Has (side_members side ws) x → IsEntryOf c n a table x e → (i : ℕ) (gate : Stability) (span : Span) → e.1 ≡ item.Interface i gate span → IsOfListed ws side e.0 i
+  entry_interface : (ws : List WorldMemberTree) (side : Side) (x : WorldMemberTree) (e : Entry) → Has (side_members side ws) x → IsEntryOf c n a table x e → (i : ℕ) (gate : Stability) (span : Span) → e.1 ≡ item.Interface i gate span → IsOfListed ws side e.0 i gate
   entry_interface ws side (scope.member m) e has h i gate span is = absurd (let q : item.Interface i gate span ≡ item.Function h.made = sym is ∙ h.item in cc)
   entry_interface ws side (scope.listed l) e has h i gate span is = (let on = listed_on ws side l has in extern_interface ws side l on.0 on.1 l.kind refl e h i gate span is)
   entry_interface ws side (scope.included y) e has h i gate span is = absurd h
@@ -245,12 +269,15 @@ module _ (given : Owner → Name → Tree) (c : Context) (a : List TypeDef) (w :
   abbrev o : Name
   o = w.name.text
 
-  text : IsTextOf ws d.name w
-  text = record { there = there; named = is.name }
+  text : IsTextOf all_kept ws d.name d.stability w
+  text = record { there = there; named = is.name; gates = (is.stability, refl) }
 
-  type_meant : (k : WorldKey) (i : ℕ) (span : Span) → Has d.imports.entries (k, item.TypeItem i span) → IsTypeMeant given c c.owners a ws d.name k i
+  written : (x : Name) (i : ℕ) → Has is.table (x, i) → IsTypeWritten all_kept a (own_members w.members) x i
+  written = types_written c a (in_world o) id (own_members w.members) is.sorted is.are_sorted is.table is.types_are
+
+  type_meant : (k : WorldKey) (i : ℕ) (span : Span) → Has d.imports.entries (k, item.TypeItem i span) → IsTypeMeant all_kept given c c.owners a ws d.name d.stability k i
   type_meant k i span has =
-      elim (get_either is.type_entries is.other_imports has.0 (k, item.TypeItem i span) (subst (λ es. slice_get es has.0 ≡ Some (k, item.TypeItem i span)) is.imports_are has.1)) as (λ _. IsTypeMeant given c c.owners a ws d.name k i) [
+      elim (get_either is.type_entries is.other_imports has.0 (k, item.TypeItem i span) (subst (λ es. slice_get es has.0 ≡ Some (k, item.TypeItem i span)) is.imports_are has.1)) as (λ _. IsTypeMeant all_kept given c c.owners a ws d.name d.stability k i) [
         | inl own ↦
             let e = each_right (IsTypeEntry a) is.table is.type_entries is.type_entries_are has.0 (k, item.TypeItem i span) own in
             let t : Name × ℕ = e.0 in
@@ -262,49 +289,50 @@ module _ (given : Owner → Name → Tree) (c : Context) (a : List TypeDef) (w :
               spelling = t.0;
               known_by = e.2.key;
               means = subst (λ (z : ℕ). Stands c.me c.scopes given c.owners a (in_world o) t.0 z) (sym same) (subst (λ (x : Name). Stands c.me c.scopes given c.owners a (in_world o) x t.1) (sym of.2.name) (of.2.means given));
+              written = subst (λ (z : ℕ). IsTypeWritten all_kept a (own_members w.members) t.0 z) (sym same) (written t.0 t.1 (has.0, e.1));
             }
         | inr other ↦ absurd (
             let e = each_right (IsEntryOf c o a is.table) (side_members Import w.members) is.other_imports is.lists_are.imports_are other.0 (k, item.TypeItem i span) other.2 in
             no_type c o a is.table e.0 (k, item.TypeItem i span) e.2 i span refl)
       ]
 
-  side_function : (side : Side) (es : List Entry) → Each (IsEntryOf c o a is.table) (side_members side w.members) es → (n : ℕ) (k : WorldKey) (f : Function) → slice_get es n ≡ Some (k, item.Function f) → IsOwnFunctionMeant given c c.owners a ws d.name side f
+  side_function : (side : Side) (es : List Entry) → Each (IsEntryOf c o a is.table) (side_members side w.members) es → (n : ℕ) (k : WorldKey) (f : Function) → slice_get es n ≡ Some (k, item.Function f) → IsOwnFunctionMeant all_kept given c c.owners a ws d.name d.stability side f
   side_function side es each n k f at =
       let e = each_right (IsEntryOf c o a is.table) (side_members side w.members) es each n (k, item.Function f) at in
       let of = entry_function c o a is.table w.members side e.0 (k, item.Function f) (n, e.1) e.2 f refl in
-      record { text = w; is_text = text; is = in_scope given c a (in_world o) (own_members w.members) is.table (names_mean given c a (in_world o) (belongs.World id) is.sorted is.table is.types_are) of.0 f of.1 of.2; giver = e.0; on_side = (n, e.1); gives = of.3 }
+      record { text = w; is_text = text; is = in_scope given c a (in_world o) (own_members w.members) is.table (names_mean given c a (in_world o) (belongs.World id) is.sorted is.table is.types_are) of.0 f of.1 of.2; giver = e.0; on_side = (n, e.1); gives = of.3; gates = (of.2.is.stability, refl); resource = kind_meant (λ (x : Name) (i : ℕ). IsTypeWritten all_kept a (own_members w.members) x i) is.table written of.0.kind f.kind of.2.is.kind }
 
   side_interface : (side : Side) (es : List Entry) → Each (IsEntryOf c o a is.table) (side_members side w.members) es → (n : ℕ) (k : WorldKey) (i : ℕ) (gate : Stability) (span : Span) → slice_get es n ≡ Some (k, item.Interface i gate span)
-      → IsInterfaceListed c c.owners ws d.name side k i
+      → IsInterfaceListed all_kept c c.owners ws d.name d.stability side k i gate
   side_interface side es each n k i gate span at =
       let e = each_right (IsEntryOf c o a is.table) (side_members side w.members) es each n (k, item.Interface i gate span) at in
       let of = entry_interface c o a is.table w.members side e.0 (k, item.Interface i gate span) (n, e.1) e.2 i gate span refl in
-      record { text = w; is_text = text; listed = of.0; there = of.1; side_is = of.2; whose = of.3; listed_as = of.4; owner = of.5; keyed = of.6 }
+      record { text = w; is_text = text; listed = of.0; there = of.1; side_is = of.2; whose = of.3; listed_as = of.4; owner = of.5; keyed = of.6; gates = (of.7, refl) }
 
-  import_listed : (k : WorldKey) (i : ℕ) (gate : Stability) (span : Span) → Has d.imports.entries (k, item.Interface i gate span) → IsInterfaceListed c c.owners ws d.name Import k i
+  import_listed : (k : WorldKey) (i : ℕ) (gate : Stability) (span : Span) → Has d.imports.entries (k, item.Interface i gate span) → IsInterfaceListed all_kept c c.owners ws d.name d.stability Import k i gate
   import_listed k i gate span has =
-      elim (get_either is.type_entries is.other_imports has.0 (k, item.Interface i gate span) (subst (λ es. slice_get es has.0 ≡ Some (k, item.Interface i gate span)) is.imports_are has.1)) as (λ _. IsInterfaceListed c c.owners ws d.name Import k i) [
+      elim (get_either is.type_entries is.other_imports has.0 (k, item.Interface i gate span) (subst (λ es. slice_get es has.0 ≡ Some (k, item.Interface i gate span)) is.imports_are has.1)) as (λ _. IsInterfaceListed all_kept c c.owners ws d.name d.stability Import k i gate) [
         | inl own ↦ absurd (
             let e = each_right (IsTypeEntry a) is.table is.type_entries is.type_entries_are has.0 (k, item.Interface i gate span) own in
             let q : item.Interface i gate span ≡ item.TypeItem e.0.1 e.2.def.span = e.2.item in cc)
         | inr other ↦ side_interface Import is.other_imports is.lists_are.imports_are other.0 k i gate span other.2
       ]
 
-  include_meant : (n : WorldInclude) → Has d.includes.items n → IsIncludeMeant c c.owners ws d.name n
+  include_meant : (n : WorldInclude) → Has d.includes.items n → IsIncludeMeant all_kept c c.owners ws d.name d.stability n
   include_meant n has =
       let e = each_right (IsIncludeOf c) (includes_of w.members) d.includes.items is.lists_are.includes_are has.0 n has.1 in
-      record { text = w; is_text = text; written = e.0; there = (has.0, e.1); owner = e.2.owner; names = e.2.names }
+      record { text = w; is_text = text; written = e.0; there = (has.0, e.1); owner = e.2.owner; names = e.2.names; gates = (e.2.stability, refl) }
 
-  import_meant : (k : WorldKey) (f : Function) → Has d.imports.entries (k, item.Function f) → IsOwnFunctionMeant given c c.owners a ws d.name Import f
+  import_meant : (k : WorldKey) (f : Function) → Has d.imports.entries (k, item.Function f) → IsOwnFunctionMeant all_kept given c c.owners a ws d.name d.stability Import f
   import_meant k f has =
-      elim (get_either is.type_entries is.other_imports has.0 (k, item.Function f) (subst (λ es. slice_get es has.0 ≡ Some (k, item.Function f)) is.imports_are has.1)) as (λ _. IsOwnFunctionMeant given c c.owners a ws d.name Import f) [
+      elim (get_either is.type_entries is.other_imports has.0 (k, item.Function f) (subst (λ es. slice_get es has.0 ≡ Some (k, item.Function f)) is.imports_are has.1)) as (λ _. IsOwnFunctionMeant all_kept given c c.owners a ws d.name d.stability Import f) [
         | inl own ↦ absurd (
             let e = each_right (IsTypeEntry a) is.table is.type_entries is.type_entries_are has.0 (k, item.Function f) own in
             let q : item.Function f ≡ item.TypeItem e.0.1 e.2.def.span = e.2.item in cc)
         | inr other ↦ side_function Import is.other_imports is.lists_are.imports_are other.0 k f other.2
       ]
 
-  world_meant : IsWorldMeant given c c.owners a ws d.name d.imports.entries d.exports.entries d.includes.items
+  world_meant : IsWorldMeant all_kept given c c.owners a ws d.name d.stability d.imports.entries d.exports.entries d.includes.items
   world_meant = record {
     text = w;
     is_text = text;
@@ -344,11 +372,11 @@ module _ (files : List FileTree) (p : UnresolvedPackage) (r : Resolves files p) 
             (t.0, (o.0, t.1), ap (slice_get c.owners.interfaces) o.1 ∙ text_owned files p r o.0 t.0 t.1, interface_meant given c p.types t.0 (length s.foreign_interfaces + o.0) d (s.own_interfaces_are.each o.0 t.0 d t.1 o.2) (λ x named. named_place s.sorted o.0 t.0 x t.1 named))
       ]
 
-  own_world : (given : Owner → Name → Tree) (i : ℕ) (w : World) → slice_get (own_parts p).worlds i ≡ Some w → IsWorldMeant given c c.owners p.types (worlds_of s.sorted) w.name w.imports.entries w.exports.entries w.includes.items
+  own_world : (given : Owner → Name → Tree) (i : ℕ) (w : World) → slice_get (own_parts p).worlds i ≡ Some w → IsWorldMeant all_kept given c c.owners p.types (worlds_of s.sorted) w.name w.stability w.imports.entries w.exports.entries w.includes.items
   own_world given i w at =
       let n : ℕ = (asked p).worlds + i in
       let behind : slice_get p.worlds n ≡ Some w = get_drop (asked p).worlds p.worlds i w at in
-      elim (get_either s.foreign_worlds s.own_worlds n w (subst (λ (ws : List World). slice_get ws n ≡ Some w) s.worlds_are behind)) as (λ _. IsWorldMeant given c c.owners p.types (worlds_of s.sorted) w.name w.imports.entries w.exports.entries w.includes.items) [
+      elim (get_either s.foreign_worlds s.own_worlds n w (subst (λ (ws : List World). slice_get ws n ≡ Some w) s.worlds_are behind)) as (λ _. IsWorldMeant all_kept given c c.owners p.types (worlds_of s.sorted) w.name w.stability w.imports.entries w.exports.entries w.includes.items) [
         | inl other ↦
             let within : n < length s.foreign_worlds = slice_get_within s.foreign_worlds n w other in
             let so_many : length s.foreign_worlds ≡ worlds_in s.items = s.foreign_are.so_many_worlds in

@@ -25,14 +25,15 @@ use Rattle.wit_pushed_trees.specs.Owned.{AreOwnersOf, AreOwned, AreOwnedWith}
 use Rattle.wit_pushed_trees.specs.Packages.{IsPackageMeant}
 use Rattle.wit_pushed_trees.specs.Whole.{HasTrees}
 
--- what the files of a package say
+-- what the files of a package say, and the features that were active when it was pushed
 pub record PackageTexts : Type 0 where
+  pub features : FeatureSet
   pub context : Context
   pub interfaces : List InterfaceText
   pub worlds : List WorldScope
 
-abbrev pub texts_of : (files : List FileTree) (p : UnresolvedPackage) → Resolves files p → PackageTexts
-texts_of files p r = record { context = context_of r.resolved.me files r.resolved.items r.resolved.sorted; interfaces = interface_texts r.resolved.sorted; worlds = worlds_of r.resolved.sorted }
+abbrev pub texts_of : FeatureSet → (files : List FileTree) (p : UnresolvedPackage) → Resolves files p → PackageTexts
+texts_of features files p r = record { features = features; context = context_of r.resolved.me files r.resolved.items r.resolved.sorted; interfaces = interface_texts r.resolved.sorted; worlds = worlds_of r.resolved.sorted }
 
 -- the package has that name, and means what they say
 pub record IsOfTexts (texts : PackageTexts) (p : UnresolvedPackage) : Type 0 where
@@ -41,7 +42,7 @@ pub record IsOfTexts (texts : PackageTexts) (p : UnresolvedPackage) : Type 0 whe
 
 -- so it is of a package to which files are resolved, wherever its texts stand among others
 abbrev pub ResolvedPackagesAreOfTexts : Type 0
-ResolvedPackagesAreOfTexts = (files : List FileTree) (p : UnresolvedPackage) (r : Resolves files p) → IsOfTexts (texts_of files p r) p
+ResolvedPackagesAreOfTexts = (features : FeatureSet) (files : List FileTree) (p : UnresolvedPackage) (r : Resolves files p) → IsOfTexts (texts_of features files p r) p
 
 -- the interface of an id is of the package whose texts these are, and means what the one of them does whose it is
 pub record IsMeantBy (all : List PackageTexts) (given : Owner → Name → Tree) (owners : Owners) (t : Tables) (k : ℕ) (d : Interface) : Type 0 where

@@ -1,11 +1,11 @@
--- All worlds of a graph mean what the texts of its packages do (WIT, Packages, Item: `world`, `include`).
+-- All worlds of a graph mean what the texts of its packages do (WIT, Packages, Item: `world`, `include`, Feature Gates).
 use Rattle.std.specs.Prelude.{◌≡◌, ℕ, Bool, List, [], ◌∷◌, ◌++◌, Some, slice_get, string_bytes, take}
 use Rattle.wit_types.specs.declared.interface.TypeDef.{TypeDef}
 use Rattle.wit_types.specs.declared.world.World.{World}
 use Rattle.wit_types.specs.declared.«package».Package.{Package}
 use Rattle.wit_types.specs.declared.«package».PackageName.{PackageName}
 use Rattle.wit_types.specs.declared.«package».UnresolvedPackage.{UnresolvedPackage}
-use Rattle.wit_features.specs.Features.{FeatureSet}
+use Rattle.wit_features.specs.Features.{FeatureSet, stays}
 use Rattle.wit_arena.specs.Tree.{Name, in_world, Owner, Tree}
 use Rattle.wit_arena.specs.Unfold.{Owners}
 use Rattle.wit_arena.specs.Meaning.{Has}
@@ -34,7 +34,7 @@ pub record IsBuiltOf (own : MovedWorld) (number place : ℕ) (worlds : List Worl
   pub is_joined : IsJoinedWorld (take place worlds) place number own before after joined
   pub is_listed : IsSameWorld joined w
 
--- the world of an id is of the package whose texts these are; what it has itself means what that of its name does, and it includes the worlds to which paths of that lead
+-- the world of an id is of the package whose texts these are; what it has itself means what that of its name does, and it includes the worlds to which paths of that lead, by statements that stay
 pub record IsWorldMeantBy (all : List PackageTexts) (given : Owner → Name → Tree) (owners : Owners) (t : Tables) (place : ℕ) (w : World) : Type 0 where
   pub texts : PackageTexts
   pub are : Has all texts
@@ -44,7 +44,7 @@ pub record IsWorldMeantBy (all : List PackageTexts) (given : Owner → Name → 
   pub named : text_of «package».name ≡ texts.context.me
   pub own : MovedWorld
   pub owner : slice_get owners.worlds place ≡ Some (own_owner texts.context (in_world (string_bytes own.name)))
-  pub means : IsWorldMeant given texts.context owners t.types texts.worlds own.name own.imports.items own.exports.items own.includes.items
+  pub means : IsWorldMeant (stays texts.features) given texts.context owners t.types texts.worlds own.name own.stability own.imports.items own.exports.items own.includes.items
   pub is : IsBuiltOf own number place t.worlds.listed t.types w
 
 -- each world is, where for names of other packages is given what stands in the graph under them
@@ -59,6 +59,6 @@ abbrev pub PushedWorldsAreMeant : Type 0
 PushedWorldsAreMeant =
     (all : List PackageTexts) (texts : PackageTexts) (owners : Owners) (eq : PackageName → PackageName → Bool) (features : FeatureSet) (old : Graph) (p : UnresolvedPackage) (new : Graph) (id : ℕ)
     → TellsNamesApart eq → NamesOfGraphStand old → AreOwned owners old.tables → AreWhole old.tables → AreTypesKnown old.tables.types → HasTrees owners old.tables
-    → AreOwnersOf texts.context.owners p → IsOfTexts texts p
+    → AreOwnersOf texts.context.owners p → IsOfTexts texts p → texts.features ≡ features
     → (h : IsPushed eq features old p new id) → (o : AreOwnedWith texts.context.owners owners eq features old p new id h)
     → AreWorldsMeantBy all owners old.tables → AreWorldsMeantBy (all ++ texts ∷ []) o.all new.tables

@@ -14,14 +14,14 @@ use Rattle.wit_package.specs.Resolved.{context_of}
 use Rattle.wit_package.specs.Steps.{Resolves}
 use Rattle.wit_graph_parts.specs.Own.{asked, own_parts}
 use Rattle.wit_pushed_trees.specs.Meaning.{IsOfText}
-use Rattle.wit_pushed_trees.specs.Worlds.{IsWorldMeant}
+use Rattle.wit_pushed_trees.specs.Worlds.{all_kept, IsWorldMeant}
 
 -- whatever is given for names of other packages, types refer backwards alone, each interface of the package's own is that of one of these texts,
 -- and what its worlds have themselves means what their texts do
 pub record IsPackageMeant (c : Context) (interfaces : List InterfaceText) (worlds : List WorldScope) (p : UnresolvedPackage) : Type 0 where
   pub whole : (given : Owner → Name → Tree) → IsWhole c.owners given p.types
   pub each_interface : (given : Owner → Name → Tree) (k : ℕ) (d : Interface) → slice_get (own_parts p).interfaces k ≡ Some d → IsOfText given c c.owners p.types interfaces ((asked p).interfaces + k) d
-  pub each_world : (given : Owner → Name → Tree) (k : ℕ) (w : World) → slice_get (own_parts p).worlds k ≡ Some w → IsWorldMeant given c c.owners p.types worlds w.name w.imports.entries w.exports.entries w.includes.items
+  pub each_world : (given : Owner → Name → Tree) (k : ℕ) (w : World) → slice_get (own_parts p).worlds k ≡ Some w → IsWorldMeant all_kept given c c.owners p.types worlds w.name w.stability w.imports.entries w.exports.entries w.includes.items
 
 -- so it is of a package to which files are resolved
 abbrev pub ResolvedPackagesMeanTheirTexts : Type 0

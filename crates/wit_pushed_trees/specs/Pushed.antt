@@ -4,7 +4,7 @@ use Rattle.wit_types.specs.declared.interface.Interface.{Interface}
 use Rattle.wit_types.specs.declared.interface.TypeOwner.{TypeOwner}
 use Rattle.wit_types.specs.declared.«package».PackageName.{PackageName}
 use Rattle.wit_types.specs.declared.«package».UnresolvedPackage.{UnresolvedPackage}
-use Rattle.wit_features.specs.Features.{FeatureSet}
+use Rattle.wit_features.specs.Features.{FeatureSet, stays}
 use Rattle.wit_scopes.specs.Scopes.{WorldScope}
 use Rattle.wit_arena.specs.Tree.{Name, Owner, Tree}
 use Rattle.wit_arena.specs.Unfold.{Owners, owner_of, IsWhole}
@@ -43,9 +43,9 @@ PushedInterfacesMeanTheirTexts =
     → IsPackageMeant c interfaces worlds p → (h : IsPushed eq features old p new id) → AreAgreed given c.owners graph_owners old.tables h.foreign h.owners p
     → (k : ℕ) (d : Interface) → slice_get new.tables.interfaces.all (length old.tables.interfaces.all + k) ≡ Some d → IsOfText given c graph_owners new.tables.types interfaces (length old.tables.interfaces.all + k) d
 
--- and each world that came, by what it has itself and what it includes
+-- and each world that came, by what it has itself and what it includes, all of which stays
 abbrev pub PushedWorldsMeanTheirTexts : Type 0
 PushedWorldsMeanTheirTexts =
     (given : Owner → Name → Tree) (c : Context) (interfaces : List InterfaceText) (worlds : List WorldScope) (graph_owners : Owners) (eq : PackageName → PackageName → Bool) (features : FeatureSet) (old : Graph) (p : UnresolvedPackage) (new : Graph) (id : ℕ)
     → IsPackageMeant c interfaces worlds p → (h : IsPushed eq features old p new id) → AreAgreed given c.owners graph_owners old.tables h.foreign h.owners p
-    → (k : ℕ) (m : MovedWorld) → slice_get h.put.added.parts.own_worlds.moved k ≡ Some m → IsWorldMeant given c graph_owners new.tables.types worlds m.name m.imports.items m.exports.items m.includes.items
+    → (k : ℕ) (m : MovedWorld) → slice_get h.put.added.parts.own_worlds.moved k ≡ Some m → IsWorldMeant (stays features) given c graph_owners new.tables.types worlds m.name m.stability m.imports.items m.exports.items m.includes.items

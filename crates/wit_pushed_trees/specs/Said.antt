@@ -1,5 +1,5 @@
--- What worlds import and export by texts: what they have themselves, and what the worlds bring that they include, under names that change (WIT, Item: `world`,
--- `include`).
+-- What worlds import and export by texts: what they have themselves, and what the worlds bring that they include, under names that change, by statements that stay (WIT,
+-- Item: `world`, `include`, Feature Gates).
 use Rattle.std.specs.Prelude.{◌≡◌, ℕ, Bool, List, [], ◌∷◌, ◌++◌, Option, Some, None, map, slice_get, string_bytes}
 use Rattle.wit_words.specs.declared.source_map.Span.{Span}
 use Rattle.wit_types.specs.declared.function.Function.{Function}
@@ -27,7 +27,7 @@ use Rattle.wit_arena.specs.Standing.{HasTree}
 use Rattle.wit_arena.specs.Meaning.{Has, MeansParts, MeansName}
 use Rattle.wit_resolved_scopes.specs.InArena.{own_owner}
 use Rattle.wit_resolved_scopes.specs.Meaning.{written_parts}
-use Rattle.wit_resolved_scopes.specs.Texts.{side_members, includes_of}
+use Rattle.wit_resolved_scopes.specs.Texts.{own_members, side_members, includes_of}
 use Rattle.wit_worlds.specs.Worlds.{target_owner, include_name, written_name}
 use Rattle.wit_copied_trees.specs.Law.{IsOfTrees}
 use Rattle.wit_copied_trees.specs.Renamed.{IsRenamedTree, IsRenamedPart, AreRenamedTrees}
@@ -40,7 +40,7 @@ use Rattle.wit_pushed_trees.specs.Known.{AreTypesKnown, AreOwnTypesKnown}
 use Rattle.wit_pushed_trees.specs.Meaning.{FunctionSort, sort_of, written_sort, param_names, written_names}
 use Rattle.wit_pushed_trees.specs.Meant.{PackageTexts, IsOfTexts}
 use Rattle.wit_pushed_trees.specs.Owned.{AreOwnersOf, AreOwned, AreOwnedWith}
-use Rattle.wit_pushed_trees.specs.Staying.{resource_text}
+use Rattle.wit_pushed_trees.specs.Staying.{Remains, resource_text, TypeRemains, FunctionRemains}
 use Rattle.wit_pushed_trees.specs.Whole.{HasTrees}
 use Rattle.wit_pushed_trees.specs.Worlds.{IsGiven, extern_owner}
 
@@ -49,6 +49,10 @@ abbrev pub with_result : Trees → TreeOption → Trees
 with_result no_trees t = trees_and t no_trees
 with_result (trees_and u us) t = trees_and u (with_result us t)
 
+-- one of the worlds of texts, which remains
+abbrev pub HasWorldText : PackageTexts → WorldScope → Type 0
+HasWorldText one w = Has one.worlds w × Remains one.features w.attributes
+
 -- a world of texts, and one that it includes with names that change
 abbrev pub world_owner : PackageTexts → WorldScope → Owner
 world_owner one w = own_owner one.context (in_world w.name.text)
@@ -56,11 +60,13 @@ world_owner one w = own_owner one.context (in_world w.name.text)
 abbrev pub included_owner : PackageTexts → IncludedTree → Owner
 included_owner one i = target_owner one.context.me in_world i.world
 
+-- so says a statement of its text, which remains
 pub record IsIncludeWritten (all : List PackageTexts) (one : PackageTexts) (w : WorldScope) (i : IncludedTree) (names : List IncludeName) : Type 0 where
   pub among : Has all one
-  pub text : Has one.worlds w
+  pub text : HasWorldText one w
   pub there : Has (includes_of w.members) i
   pub names_are : map include_name names ≡ map written_name i.names
+  pub remains : Remains one.features i.attributes
 
 -- names of resources that functions are of, where these change
 abbrev pub IsRenamedResource : List IncludeName → Option Name → Option Name → Type 0
@@ -69,10 +75,11 @@ IsRenamedResource names (Some x) (Some y) = IsRenamed names x y
 IsRenamedResource names None (Some y) = ⊥
 IsRenamedResource names (Some x) None = ⊥
 
--- the world has a function of that name and sort on that side, of the resource of that name if it is of one, which takes these under these names and gives that
+-- the world has a function of that name and sort on that side, of the resource of that name if it is of one, which takes these under these names and gives that; what says so
+-- remains, by the features that were active when the texts were pushed
 pub data SaysFunction (all : List PackageTexts) (given : Owner → Name → Tree) (side : Side) : Owner → Name → FunctionSort → Option Name → List Name → Trees → TreeOption → Type 0 where
   says_function : (one : PackageTexts) (w : WorldScope) (x : WorldMemberTree) (m : MemberTree) (params : Trees) (result : TreeOption)
-      → Has all one → Has one.worlds w → Has (side_members side w.members) x → IsGiven x m
+      → Has all one → HasWorldText one w → Has (side_members side w.members) x → IsGiven x m → FunctionRemains one.features (own_members w.members) m
       → MeansParts one.context.me one.context.scopes given (in_world w.name.text) (written_parts m) (with_result params result)
       → SaysFunction all given side (world_owner one w) (full_name m.kind m.name) (written_sort m.kind) (resource_text m.kind) (written_names m) params result
   includes_function : (one : PackageTexts) (w : WorldScope) (i : IncludedTree) (names : List IncludeName) (x y : Name) (sort : FunctionSort) (of to : Option Name) (xs : List Name) (ps qs : Trees) (r q : TreeOption)
@@ -82,13 +89,14 @@ pub data SaysFunction (all : List PackageTexts) (given : Owner → Name → Tree
 
 -- the world has a type of that name, which stands for that
 pub data SaysType (all : List PackageTexts) (given : Owner → Name → Tree) : Owner → Name → Tree → Type 0 where
-  says_type : (one : PackageTexts) (w : WorldScope) (x : Name) (t : Tree) → Has all one → Has one.worlds w → MeansName one.context.me one.context.scopes given (in_world w.name.text) x t → SaysType all given (world_owner one w) x t
+  says_type : (one : PackageTexts) (w : WorldScope) (x : Name) (t : Tree) → Has all one → HasWorldText one w → TypeRemains one.features (own_members w.members) x → MeansName one.context.me one.context.scopes given (in_world w.name.text) x t
+      → SaysType all given (world_owner one w) x t
   includes_type : (one : PackageTexts) (w : WorldScope) (i : IncludedTree) (names : List IncludeName) (x y : Name) (t u : Tree)
       → IsIncludeWritten all one w i names → SaysType all given (included_owner one i) x t → IsRenamed names x y → IsRenamedTree names (included_owner one i) (world_owner one w) t u → SaysType all given (world_owner one w) y u
 
 -- the world has an interface on that side
 pub data SaysInterface (all : List PackageTexts) (side : Side) : Owner → Owner → Type 0 where
-  says_interface : (one : PackageTexts) (w : WorldScope) (l : ListedTree) (whose : Owner) → Has all one → Has one.worlds w → Has w.members (scope.listed l) → l.side ≡ side → extern_owner one.context w.name.text l l.kind ≡ Some whose
+  says_interface : (one : PackageTexts) (w : WorldScope) (l : ListedTree) (whose : Owner) → Has all one → HasWorldText one w → Has w.members (scope.listed l) → l.side ≡ side → Remains one.features l.attributes → extern_owner one.context w.name.text l l.kind ≡ Some whose
       → SaysInterface all side (world_owner one w) whose
   includes_interface : (one : PackageTexts) (w : WorldScope) (i : IncludedTree) (names : List IncludeName) (whose : Owner) → IsIncludeWritten all one w i names → SaysInterface all side (included_owner one i) whose
       → SaysInterface all side (world_owner one w) whose
@@ -159,6 +167,6 @@ abbrev pub PushedWorldsAreSaid : Type 0
 PushedWorldsAreSaid =
     (all : List PackageTexts) (texts : PackageTexts) (owners : Owners) (eq : PackageName → PackageName → Bool) (features : FeatureSet) (old : Graph) (p : UnresolvedPackage) (new : Graph) (id : ℕ)
     → TellsNamesApart eq → NamesOfGraphStand old → AreOwned owners old.tables → AreWhole old.tables → AreTypesKnown old.tables.types → HasTrees owners old.tables
-    → AreOwnersOf texts.context.owners p → AreOwnTypesKnown p → IsOfTexts texts p
+    → AreOwnersOf texts.context.owners p → AreOwnTypesKnown p → IsOfTexts texts p → texts.features ≡ features
     → (h : IsPushed eq features old p new id) → (o : AreOwnedWith texts.context.owners owners eq features old p new id h)
     → AreWorldsSaid all owners old.tables → AreWorldsSaid (all ++ texts ∷ []) o.all new.tables

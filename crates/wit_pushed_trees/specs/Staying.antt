@@ -39,6 +39,15 @@ resource_text (method r f) = Some r.text
 resource_text (static r f) = Some r.text
 resource_text (constructor r ps t) = Some r.text
 
+-- among these a type of that name remains
+abbrev pub TypeRemains : FeatureSet → List MemberTree → Name → Type 0
+TypeRemains features ms x = (n : MemberTree) × Has (types_of ms) n × (x ≡ n.name.text) × Remains features n.attributes
+
+-- a function does, and the resource that it is of
+pub record FunctionRemains (features : FeatureSet) (ms : List MemberTree) (m : MemberTree) : Type 0 where
+  pub gates : Remains features m.attributes
+  pub resource : (x : Name) → resource_text m.kind ≡ Some x → TypeRemains features ms x
+
 -- a function of a scope stays where its gates let it, and that resource does
 pub record FunctionStays (features : FeatureSet) (ms : List MemberTree) (m : MemberTree) : Type 0 where
   pub gates : Stays features m.attributes

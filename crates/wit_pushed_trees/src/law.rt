@@ -25,7 +25,7 @@ use wit_moved_trees::{
 
 /// The interfaces and worlds of a package to which files are resolved mean what their texts do, whatever is given for names of other packages: each
 /// name stands for what it means there by lexical scope; each function takes and gives what is written, and one of a resource is of that for which the
-/// resource's name stands (WIT, Items, Use, Types).
+/// resource's name stands. Of what worlds import, export and include themselves the gates that stand in front of it say the same (WIT, Items, Use, Types, Feature Gates).
 pub fn law_resolved_packages_mean_their_texts()
     ensures { ResolvedPackagesMeanTheirTexts }
 {}
@@ -52,7 +52,8 @@ pub fn law_pushed_interfaces_mean_their_texts()
     law_moved_functions_stand_for_the_same();
 }
 
-/// So does what each world that came has itself, and what it includes is what its text does (WIT, Item: `world`, `include`, Use, Types).
+/// So does what each world that came has itself, and what it includes is what its text does; all of it, and the world, stays by the features that are active (WIT, Item:
+/// `world`, `include`, Use, Types, Feature Gates).
 pub fn law_pushed_worlds_mean_their_texts()
     ensures { PushedWorldsMeanTheirTexts }
 {
@@ -216,8 +217,8 @@ pub fn law_empty_worlds_are_meant()
 {}
 
 /// Each world of a graph is of the package of one of some texts; what it has itself means what the text of its name does, it includes the worlds to which paths of
-/// that text lead, and has besides what these bring alone; and so it is, with one package's texts more, when `Graph::push` has answered for that package (WIT,
-/// Packages, Item: `world`, `include`).
+/// that text lead, all by statements that stay by the features that were active when the package was pushed, and has besides what these bring alone; and so it is, with
+/// one package's texts more, when `Graph::push` has answered for that package (WIT, Packages, Item: `world`, `include`, Feature Gates).
 pub fn law_pushed_worlds_are_meant()
     ensures { PushedWorldsAreMeant }
 {
@@ -231,8 +232,9 @@ pub fn law_empty_worlds_are_said()
 
 /// Each function, interface and type that a world of a graph imports or exports is one that texts say: its own text, or the text of a world that it includes,
 /// and so on, under names that change, types of an included world being the including one's. A function is of the sort and of the resource that are written there;
-/// it takes, under the names of the text, and gives what is written, each name standing for what it means there by lexical scope. So it is, with one package's texts
-/// more, when `Graph::push` has answered for that package (WIT, Item: `world`, `include`, Use, Types).
+/// it takes, under the names of the text, and gives what is written, each name standing for what it means there by lexical scope. Every statement that says so stays,
+/// by the features that were active when its package was pushed: the world's, the item's own, that of the resource that a function is of, and each `include`. So it is,
+/// with one package's texts more, when `Graph::push` has answered for that package (WIT, Item: `world`, `include`, Use, Types, Feature Gates).
 pub fn law_pushed_worlds_are_said()
     ensures { PushedWorldsAreSaid }
 {

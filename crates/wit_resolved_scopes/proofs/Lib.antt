@@ -11,3 +11,4 @@ pub mod Declaring
 pub mod Placing
 pub mod Fitting
 pub mod Listing
+pub mod Keying

@@ -2,26 +2,29 @@
 use Rattle.std.proofs.Common.{◌≡◌, ℕ, ◌+◌, List, [], ◌∷◌, ◌++◌, length, length-append, Some, refl, sym, subst, ap, ◌∙◌}
 use Rattle.std.specs.Prelude.{slice_get}
 use Rattle.wit_types.specs.declared.kind.«Type».TheVariants.{Id}
+use Rattle.wit_types.specs.declared.kind.TypeDefKind.{TypeDefKind}
 use Rattle.wit_types.specs.declared.function.Function.{Function}
 use Rattle.wit_types.specs.declared.interface.TypeDef.{TypeDef}
 use Rattle.wit_types.specs.declared.interface.TypeOwner.{TypeOwner}
-use Rattle.wit_scopes.specs.Members.{MemberTree}
+use Rattle.wit_items.specs.ItemTree.{TypeDefKindTree}
+use Rattle.wit_scopes.specs.Members.{MemberKind, MemberTree}
 use Rattle.wit_orders.specs.Needs.{types_of}
 use Rattle.wit_arena.specs.Tree.{Name, Place, in_interface, Owner, Tree}
 use Rattle.wit_arena.specs.Table.{Entries}
+use Rattle.wit_arena.specs.LowerKind.{LowersKind, lowers_alias, lowers_record, lowers_flags, lowers_enum, lowers_variant, lowers_resource, labels_of, written_labels}
 use Rattle.wit_arena.specs.Meaning.{Has}
 use Rattle.wit_arena.specs.Standing.{Stands, AreStanding}
 use Rattle.wit_arena.proofs.Lists.{get_kept, get_last}
 use Rattle.wit_arena.proofs.Extending.{Extends}
 use Rattle.wit_arena.proofs.Growing.{ref_grown}
 use Rattle.wit_package_types.specs.Known.{KnownTypes, with_interface}
-use Rattle.wit_package_types.specs.Fill.{IsTypeOf, Defines, Fills, fills_none, fills_more}
+use Rattle.wit_package_types.specs.Fill.{IsTypeOf, GivesKind, gives_defined, gives_used, Defines, Fills, fills_none, fills_more}
 use Rattle.wit_package_types.proofs.Filling.{defined_extends}
 use Rattle.wit_package_types.proofs.Filled.{filled_types_stand_for_their_meaning}
 use Rattle.wit_resolved_scopes.specs.Each.{Each}
 use Rattle.wit_resolved_scopes.specs.Scope.{functions_among, AddsFunction, adds_function, passes_type, LowersFunctions, no_members, one_more}
 use Rattle.wit_resolved_scopes.specs.Meaning.{StandsForFunction}
-use Rattle.wit_resolved_scopes.specs.InArena.{Context, IsTypeIn, IsFunctionOf, IsFunctionIn, IsScopeIn, GrowsFor, IsBuilt, ResolvedScopesAreIn}
+use Rattle.wit_resolved_scopes.specs.InArena.{Context, labels_written, IsTypeIn, IsFunctionOf, IsFunctionIn, IsScopeIn, GrowsFor, IsBuilt, ResolvedScopesAreIn}
 use Rattle.wit_resolved_scopes.proofs.Among.{function_pushed, type_passed}
 use Rattle.wit_resolved_scopes.proofs.Eaches.{each_push, each_to, each_given}
 use Rattle.wit_resolved_scopes.proofs.Following.{functions_extend}
@@ -39,9 +42,23 @@ record IsPut (whose : TypeOwner) (a : List TypeDef) (m : MemberTree) (e : Name �
   def : TypeDef
   there : slice_get a e.1 ≡ Some def
   is : IsTypeOf whose m def.kind def
+  labels : labels_of def.kind ≡ labels_written m.kind
+
+-- a definition has the labels that it is written with, and a name that is used has none
+lowered_labels : (table : Entries) (a b : List TypeDef) (t : TypeDefKindTree) (n : TypeDefKind) → LowersKind table a t b n → labels_of n ≡ written_labels t
+lowered_labels table a b t n (lowers_alias _ e r low) = refl
+lowered_labels table a b t n (lowers_record _ fs r low same) = same
+lowered_labels table a b t n (lowers_flags ls f same) = same
+lowered_labels table a b t n (lowers_enum ls e same) = same
+lowered_labels table a b t n (lowers_variant _ cs v low same) = same
+lowered_labels table a b t n (lowers_resource fs) = refl
+
+given_labels : (k : KnownTypes) (table : Entries) (a b : List TypeDef) (m : MemberKind) (n : TypeDefKind) → GivesKind k table a m b n → labels_of n ≡ labels_written m
+given_labels k table a b m n (gives_defined t _ _ low) = lowered_labels table a b t n low
+given_labels k table a b m n (gives_used from y i found) = refl
 
 put_kept : (whose : TypeOwner) (a b : List TypeDef) → Extends a b → (m : MemberTree) (e : Name × ℕ) → IsPut whose a m e → IsPut whose b m e
-put_kept whose a b more m e p = record { name = p.name; def = p.def; there = get_extended a b e.1 p.def more p.there; is = p.is }
+put_kept whose a b more m e p = record { name = p.name; def = p.def; there = get_extended a b e.1 p.def more p.there; is = p.is; labels = p.labels }
 
 put_here : (k : KnownTypes) (table : Entries) (whose : TypeOwner) (a : List TypeDef) (m : MemberTree) (b : List TypeDef) (i : ℕ) → Defines k table whose a m b i → IsPut whose b m (m.name.text, i)
 put_here k table whose a m b i d = record {
@@ -49,6 +66,7 @@ put_here k table whose a m b i d = record {
   def = d.def;
   there = subst (λ (n : ℕ). slice_get b n ≡ Some d.def) (sym d.id_is) (ap (λ (z : List TypeDef). slice_get z (length d.before)) d.last ∙ get_last d.before d.def);
   is = record { name = d.is.name; kind = refl; owner = d.is.owner; docs = d.is.docs; stability = d.is.stability; span = d.is.span };
+  labels = ap labels_of d.is.kind ∙ given_labels k table a d.before m.kind d.kind d.gives;
 }
 
 types_put : (k : KnownTypes) (whose : TypeOwner) (a : List TypeDef) (ms : List MemberTree) (b : List TypeDef) (table : Entries) → Fills k whose a ms b table → Each (IsPut whose b) ms table
@@ -68,6 +86,7 @@ module _ (c : Context) (o : Place) (whose : TypeOwner) (a b : List TypeDef) (tab
             def = q.def;
             there = q.there;
             is = q.is;
+            labels = q.labels;
             means = λ given. subst (λ (x : Name). Stands c.me c.scopes given c.owners b o x e.1) q.name (stands given e.0 e.1 there);
           }
 
@@ -121,6 +140,7 @@ module _ (c : Context) (a b : List TypeDef) (grows : GrowsFor c a b) (more : Ext
     def = t.def;
     there = get_extended a b e.1 t.def more t.there;
     is = t.is;
+    labels = t.labels;
     means = λ given. (let s = t.means given in (s.0, ref_grown c.owners given a b (Id e.1) s.0 (grows given) s.1, s.2));
   }
 

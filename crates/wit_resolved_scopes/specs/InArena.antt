@@ -1,15 +1,16 @@
 -- What stands in an arena for a scope: its types and functions as the text has them, each standing for what it means (WIT, Item: `interface`, Use).
-use Rattle.std.specs.Prelude.{◌≡◌, ℕ, List, map, Some, length, slice_get, string_bytes}
+use Rattle.std.specs.Prelude.{◌≡◌, ℕ, List, [], map, Some, length, slice_get, string_bytes}
 use Rattle.wit_types.specs.declared.function.Function.{Function}
 use Rattle.wit_types.specs.declared.interface.TypeDef.{TypeDef}
 use Rattle.wit_types.specs.declared.interface.TypeOwner.{TypeOwner}
-use Rattle.wit_scopes.specs.Members.{MemberTree}
+use Rattle.wit_scopes.specs.Members.{MemberKind, MemberTree, defined}
 use Rattle.wit_scopes.specs.Scopes.{ItemScope}
 use Rattle.wit_rules.specs.Labels.{full_name}
 use Rattle.wit_orders.specs.Needs.{types_of, AreSorted}
 use Rattle.wit_arena.specs.Tree.{Name, PackageText, Place, Owner, Tree}
 use Rattle.wit_arena.specs.Table.{Entries}
 use Rattle.wit_arena.specs.Docs.{said, contents_of}
+use Rattle.wit_arena.specs.LowerKind.{Label, written_labels, labels_of}
 use Rattle.wit_arena.specs.LowerParams.{written_param, param_label}
 use Rattle.wit_arena.specs.Unfold.{Owners, IsWhole}
 use Rattle.wit_arena.specs.Standing.{Stands, Grows, AreFunctional}
@@ -19,6 +20,7 @@ use Rattle.wit_package_types.specs.Fill.{IsTypeOf}
 use Rattle.wit_package_types.specs.Standing.{AreKnownStanding, AreOfScope}
 use Rattle.wit_functions.specs.Signature.{all_params, IsKindOf}
 use Rattle.wit_resolved_scopes.specs.Each.{Each}
+use Rattle.wit_resolved_scopes.specs.Texts.{InterfaceText}
 use Rattle.wit_resolved_scopes.specs.Scope.{functions_among, ResolvesScope}
 use Rattle.wit_resolved_scopes.specs.Meaning.{StandsForFunction}
 
@@ -31,14 +33,25 @@ pub record Context : Type 0 where
 abbrev pub own_owner : Context → Place → Owner
 own_owner c o = record { package_text = c.me; place = o }
 
+-- the id is that of an interface that belongs to the place of the text
+abbrev pub IsIdOf : Context → InterfaceText → ℕ → Type 0
+IsIdOf c t id = slice_get c.owners.interfaces id ≡ Some (own_owner c t.place)
+
 -- ---- what stands for them
 
--- a type under its name, of which the arena says what the text does; it stands for what the name means, whatever is given for names of other packages
+-- the labels that a type of a scope is written with, which a definition has
+abbrev pub labels_written : MemberKind → List Label
+labels_written (defined t) = written_labels t
+labels_written _ = []
+
+-- a type under its name, of which the arena says what the text does, and of its fields, flags or cases; it stands for what the name means, whatever is
+-- given for names of other packages
 pub record IsTypeIn (c : Context) (o : Place) (whose : TypeOwner) (a : List TypeDef) (m : MemberTree) (e : Name × ℕ) : Type 0 where
   pub name : e.0 ≡ m.name.text
   pub def : TypeDef
   pub there : slice_get a e.1 ≡ Some def
   pub is : IsTypeOf whose m def.kind def
+  pub labels : labels_of def.kind ≡ labels_written m.kind
   pub means : (given : Owner → Name → Tree) → Stands c.me c.scopes given c.owners a o m.name.text e.1
 
 -- a function of a scope with these types, of which the same is said as in the text

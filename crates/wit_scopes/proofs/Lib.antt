@@ -1,4 +1,3 @@
 pub mod Lists
 pub mod Outcomes
 pub mod Uses
-pub mod Files

@@ -9,6 +9,6 @@ mod worlds;
 
 pub use growing::push_to;
 pub use members::{Front, Member, MemberKind};
-pub use paths::{Target, is_same_package, known_name, path_by_itself};
-pub use scopes::{InterfaceScope, ItemScope, PackageScopes, WorldScope, package_scopes};
+pub use paths::{FileUses, Target, is_same_package, known_name, last_name, path_by_itself};
+pub use scopes::{InterfaceScope, ItemScope, PackageScopes, WorldScope};
 pub use worlds::{ExternKind, Included, Listed, Side, WorldMember};

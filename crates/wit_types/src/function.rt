@@ -43,7 +43,7 @@ pub struct Param {
 }
 
 /// Whose a function is, and whether it is asynchronous (WIT, Items: `func` and `resource`).
-#[derive(Clone, Copy, PartialEq, Eq)]
+#[derive(Clone, Copy, Debug, PartialEq, Eq)]
 pub enum FunctionKind {
     /// Of no resource.
     Freestanding,

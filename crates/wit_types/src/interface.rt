@@ -54,7 +54,7 @@ impl Stored for TypeDef {
 }
 
 /// Where a type belongs.
-#[derive(Clone, Copy, PartialEq, Eq)]
+#[derive(Clone, Copy, Debug, PartialEq, Eq)]
 pub enum TypeOwner {
     /// To a world.
     World(WorldId),

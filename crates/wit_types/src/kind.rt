@@ -8,7 +8,7 @@ use crate::docs::Docs;
 use crate::id::TypeId;
 
 /// A type where it is used (WIT, Types).
-#[derive(Clone, Copy, PartialEq, Eq, Hash)]
+#[derive(Clone, Copy, Debug, PartialEq, Eq, Hash)]
 pub enum Type {
     /// `bool`
     Bool,
@@ -78,7 +78,7 @@ pub enum TypeDefKind {
 }
 
 /// A reference to a resource (WIT, Types).
-#[derive(Clone, Copy, PartialEq, Eq, Hash)]
+#[derive(Clone, Copy, Debug, PartialEq, Eq, Hash)]
 pub enum Handle {
     /// `own<resource>`
     Own(TypeId),
@@ -170,7 +170,7 @@ pub struct EnumCase {
 }
 
 /// A result (WIT, Types).
-#[derive(Clone, Copy, PartialEq, Eq, Hash)]
+#[derive(Clone, Copy, Debug, PartialEq, Eq, Hash)]
 pub struct Result_ {
     /// The type of what stands for success, if something does.
     pub ok: Option<Type>,

@@ -35,7 +35,7 @@ impl FromStr for Mangling {
 }
 
 /// On which side of a core module a function stands (Canonical ABI, Flattening).
-#[derive(Clone, Copy, PartialEq, Eq)]
+#[derive(Clone, Copy, Debug, PartialEq, Eq)]
 pub enum AbiVariant {
     /// The module imports it.
     GuestImport,

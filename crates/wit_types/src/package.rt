@@ -79,7 +79,7 @@ impl Stored for Package {
 }
 
 /// What a path names in another package, as far as that can be told from where it stands.
-#[derive(Clone, Copy, PartialEq, Eq)]
+#[derive(Clone, Copy, Debug, PartialEq, Eq)]
 pub enum AstItem {
     /// An interface.
     Interface(InterfaceId),

@@ -10,10 +10,9 @@ use Rattle.wit_scopes.specs.declared.worlds.Side.{Side}
 use Rattle.wit_scopes.specs.Scopes.{WorldScope}
 use Rattle.wit_arena.specs.Tree.{in_world}
 use Rattle.wit_arena.specs.Table.{Entries}
-use Rattle.wit_interfaces.specs.Labelled.{IsIdOf}
 use Rattle.wit_resolved_scopes.specs.Each.{Each, AreApartBy}
 use Rattle.wit_resolved_scopes.specs.Scope.{functions_among}
-use Rattle.wit_resolved_scopes.specs.InArena.{Context, IsFunctionOf, IsFunctionIn, IsScopeIn}
+use Rattle.wit_resolved_scopes.specs.InArena.{Context, IsFunctionOf, IsFunctionIn, IsScopeIn, IsIdOf}
 use Rattle.wit_resolved_scopes.specs.Texts.{labelled_texts, own_members, side_members, key_text}
 use Rattle.wit_worlds.specs.Worlds.{Entry, AreLists, IsWorldIn}
 use Rattle.wit_worlds.specs.Paths.{PathsTree, LeadRight, HaveOneOwner}

@@ -18,8 +18,8 @@ use crate::paths::Paths;
 use indexmap::IndexMap;
 use std::alloc::{AllocError, Global};
 use wit_arena::{Table, Types, docs_of};
-use wit_interfaces::keyed;
 use wit_package_types::stability_in;
+use wit_resolved_scopes::keyed;
 use wit_scopes::{WorldMember, WorldScope};
 use wit_types::{World, WorldInclude, WorldItem, WorldKey};
 

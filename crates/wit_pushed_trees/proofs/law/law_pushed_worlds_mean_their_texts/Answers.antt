@@ -1,4 +1,4 @@
-use Rattle.wit_pushed_trees.proofs.Graphs.{worlds_go}
+use Rattle.wit_pushed_trees.proofs.Gates.{worlds_go}
 use Rattle.wit_pushed_trees.proofs.law.law_pushed_worlds_mean_their_texts.Goals as goal
 
 pub returns : goal.returns

@@ -1,0 +1,11 @@
+pub mod Lists
+pub mod Trees
+pub mod Items
+pub mod Core
+pub mod Instances
+pub mod Joined
+pub mod Adding
+pub mod Meaning
+pub mod Right
+pub mod Sections
+pub mod Typed

@@ -1,0 +1,4 @@
+pub mod Trees
+pub mod Seen
+pub mod Law
+pub mod Right

@@ -1,0 +1,5 @@
+pub mod Checking
+pub mod Kept
+pub mod Named
+pub mod Refused
+pub mod Declaring

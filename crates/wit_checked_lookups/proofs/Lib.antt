@@ -1,0 +1,4 @@
+pub mod Listed
+pub mod Items
+pub mod NameTests
+pub mod OwnKinds
