@@ -2,8 +2,8 @@
 use Rattle.std.proofs.Common.{◌≡◌, List, Some, ap, ◌∙◌}
 use Rattle.wit_types.specs.declared.interface.TypeDef.{TypeDef}
 use Rattle.wit_types.specs.declared.function.Param.{Param}
-use Rattle.wit_arena.specs.Tree.{Trees, resource_leaf}
-use Rattle.wit_arena.specs.Unfold.{Owners, trees}
+use Rattle.flat_types.specs.Passed.wit_arena-Tree.{Trees, resource_leaf}
+use Rattle.flat_types.specs.Passed.wit_arena-Unfold.{Owners, trees}
 use Rattle.flat_types.specs.Flats.{FlatValue, flats, params_flat, of_fields}
 use Rattle.flat_types.proofs.Agreeing.{each_flat, each_holds_string, each_holds_list, part_is_flat, parts_are_flat, all_known}
 use Rattle.canonical_options.specs.Contents.{contents_of, parts_contents, ContentsAreThoseOfTrees}

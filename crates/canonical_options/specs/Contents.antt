@@ -3,8 +3,8 @@ use Rattle.std.specs.Prelude.{◌≡◌, List, map, Option, Some, Bool}
 use Rattle.wit_types.specs.declared.kind.«Type».{«Type» as Ref}
 use Rattle.wit_types.specs.declared.interface.TypeDef.{TypeDef}
 use Rattle.wit_types.specs.declared.function.Param.{Param}
-use Rattle.wit_arena.specs.Tree.{TreeOption, Trees, resource_leaf}
-use Rattle.wit_arena.specs.Unfold.{Owners, part_tree, part_trees, trees}
+use Rattle.flat_types.specs.Passed.wit_arena-Tree.{TreeOption, Trees, resource_leaf}
+use Rattle.flat_types.specs.Passed.wit_arena-Unfold.{Owners, part_tree, part_trees, trees}
 use Rattle.flat_types.specs.Contents.{part_holds_string, parts_hold_string, part_holds_list, parts_hold_list}
 use Rattle.flat_types.specs.Flats.{FlatValue, flats, part_flat, params_flat, of_fields}
 

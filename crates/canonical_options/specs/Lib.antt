@@ -1,3 +1,4 @@
 pub mod Options
 pub mod Contents
 pub mod View
+pub mod Passed

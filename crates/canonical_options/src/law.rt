@@ -2,7 +2,7 @@
 
 ghost use Rattle.std.specs.Prelude.{List};
 ghost use Rattle.wit_types.specs.declared.interface.TypeDef.{TypeDef};
-ghost use Rattle.wit_arena.specs.Unfold.{Owners};
+ghost use Rattle.flat_types.specs.Passed.wit_arena-Unfold.{Owners};
 ghost use Rattle.canonical_options.specs.Contents.{ContentsAreThoseOfTrees};
 
 /// What values of the types of an arena hold, and parameters of functions over them, is what the types' trees hold (Component

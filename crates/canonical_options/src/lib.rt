@@ -7,6 +7,7 @@ mod options;
 mod required;
 
 pub use contents::TypeContents;
+pub use flat_types::{FlatTypes, Required, WasmSignature};
 pub use law::law_contents_are_those_of_trees;
 pub use link_lines::StringEncoding;
 pub use options::{Iter, OptionFault};

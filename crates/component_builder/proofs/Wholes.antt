@@ -4,9 +4,9 @@ use Rattle.std.specs.List.{flat_map, All}
 use Rattle.std.proofs.lemmas.List.{append-nil, drop_all}
 use Rattle.std.proofs.lemmas.List.Elements.{All-nil}
 use Rattle.binary_grammar.specs.Syntax.{bytes, IsTyped}
-use Rattle.component_entries.specs.Nested.{header}
+use Rattle.component_sections.specs.Passed.component_entries-Nested.{header}
 use Rattle.component_sections.specs.Component.{DefinitionValue, component, whole_sections, sections_of, section_bytes, IsSection}
-use Rattle.component_entries.proofs.Neighbours.{Left}
+use Rattle.component_sections.proofs.Passed.component_entries-Neighbours.{Left}
 
 module _ (ds : List DefinitionValue) (out : List ℕ) (at : ℕ) (so_far : Left section_bytes IsSection (sections_of ds) (sections_of (drop at ds)) header out) where
   pub all_written : length ds ≤ at → out ≡ bytes component ds

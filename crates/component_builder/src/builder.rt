@@ -6,7 +6,7 @@ ghost use Rattle.binary_grammar.specs.declared.writing.WriteFault.TheVariants as
 ghost use Rattle.binary_grammar.specs.Syntax.{bytes, IsTyped};
 ghost use Rattle.component_definitions.specs.Counting as counting;
 ghost use Rattle.component_sections.specs.Component.{definition_value, component, Follow, IsComponent};
-ghost use Rattle.component_entries.specs.Entries.{nothing};
+ghost use Rattle.component_sections.specs.Passed.component_entries-Entries.{nothing};
 ghost use Rattle.component_builder.specs.declared.builder.WriteToFault.TheVariants as faults;
 ghost use Rattle.component_builder.specs.Builder as spec;
 

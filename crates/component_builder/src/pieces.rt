@@ -4,7 +4,7 @@ ghost use Rattle.std.specs.Prelude.{◌≡◌, ◌+◌, ◌<◌, ◌≤◌, ◌^
 ghost use Rattle.std.specs.Io.KnownBytes.{Appends};
 ghost use Rattle.binary_grammar.specs.Syntax.{bytes, IsTyped};
 ghost use Rattle.component_sections.specs.Component.{definition_value, a_core_module, component, first_section, section_of, section_bytes, IsSection};
-ghost use Rattle.component_entries.specs.Nested.{header};
+ghost use Rattle.component_sections.specs.Passed.component_entries-Nested.{header};
 ghost use Rattle.component_builder.specs.Pieces as spec;
 
 use crate::output::{EmitFault, emit_behind};

@@ -1,8 +1,8 @@
 -- Aliases (Component Model Binary, Alias Definitions).
 use Rattle.std.specs.Prelude.{ℕ, List, [], Option, Some, None, Bool, true, false, ◌==◌, ◌||◌, if◌then◌else◌}
-use Rattle.binary_grammar.specs.declared.fault.Rule.TheVariants as rules
-use Rattle.binary_grammar.specs.Syntax.{◌◂◌, ◌>>=◌, one_byte, number, some_name, gives, tested}
-use Rattle.wasm_types.specs.declared.types.ExportKind.{ExportKind}
+use Rattle.component_value_types.specs.Passed.binary_grammar-declared-fault-Rule-TheVariants as rules
+use Rattle.component_value_types.specs.Passed.binary_grammar-Syntax.{◌◂◌, ◌>>=◌, one_byte, number, some_name, gives, tested}
+use Rattle.component_value_types.specs.Passed.wasm_types-declared-types-ExportKind.{ExportKind}
 use Rattle.component_value_types.specs.Scope.{Grammar, index, types_outwards}
 use Rattle.component_definitions.specs.declared.sorts.ComponentSort.{ComponentSort}
 use Rattle.component_definitions.specs.declared.sorts.ComponentSort.TheVariants as components

@@ -1,11 +1,11 @@
 -- Canonical definitions (Component Model Binary, Canonical Definitions).
 use Rattle.std.specs.Prelude.{ℕ, List, [], map, filter, length, Bool, nat_le, ◌==◌, ◌&&◌, if◌then◌else◌}
-use Rattle.binary_grammar.specs.declared.fault.Rule.TheVariants as rules
-use Rattle.binary_grammar.specs.Syntax.{◌◂◌, ◌>>=◌, one_byte, gives, refuses, tested, vec, byte_is}
+use Rattle.component_value_types.specs.Passed.binary_grammar-declared-fault-Rule-TheVariants as rules
+use Rattle.component_value_types.specs.Passed.binary_grammar-Syntax.{◌◂◌, ◌>>=◌, one_byte, gives, refuses, tested, vec, byte_is}
 use Rattle.component_value_types.specs.Scope.{Grammar, index}
 use Rattle.component_definitions.specs.declared.canonical.CanonicalOption.{CanonicalOption}
 use Rattle.component_definitions.specs.declared.canonical.CanonicalOption.TheVariants as options
-use Rattle.wasm_types.specs.declared.types.ExportKind.TheVariants as kinds
+use Rattle.component_value_types.specs.Passed.wasm_types-declared-types-ExportKind-TheVariants as kinds
 use Rattle.component_definitions.specs.declared.sorts.ComponentSort.TheVariants as components
 use Rattle.component_definitions.specs.declared.sorts.Sort.{Sort}
 use Rattle.component_definitions.specs.declared.sorts.Sort.TheVariants as sorts

@@ -1,7 +1,7 @@
 -- What there is of each sort behind a definition (Component Model, Explainer, Index Spaces).
 use Rattle.std.specs.Prelude.{ℕ, suc, Some}
-use Rattle.wasm_types.specs.declared.types.ExportKind.{ExportKind}
-use Rattle.wasm_types.specs.declared.types.ExportKind.TheVariants as kinds
+use Rattle.component_value_types.specs.Passed.wasm_types-declared-types-ExportKind.{ExportKind}
+use Rattle.component_value_types.specs.Passed.wasm_types-declared-types-ExportKind-TheVariants as kinds
 use Rattle.component_value_types.specs.declared.scope.Scope.{Scope}
 use Rattle.component_definitions.specs.declared.sorts.ComponentSort.{ComponentSort}
 use Rattle.component_definitions.specs.declared.sorts.ComponentSort.TheVariants as components

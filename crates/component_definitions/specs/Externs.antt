@@ -1,7 +1,7 @@
 -- Imports and exports (Component Model Binary, Import and Export Definitions).
 use Rattle.std.specs.Prelude.{ℕ, List, Option, option_map, nat_le, ◌==◌, if◌then◌else◌}
-use Rattle.binary_grammar.specs.declared.fault.Rule.TheVariants as rules
-use Rattle.binary_grammar.specs.Syntax.{Syntax, unbounded, ◌◂◌, ◌>>=◌, one_byte, some_name, gives, refuses, tested}
+use Rattle.component_value_types.specs.Passed.binary_grammar-declared-fault-Rule-TheVariants as rules
+use Rattle.component_value_types.specs.Passed.binary_grammar-Syntax.{Syntax, unbounded, ◌◂◌, ◌>>=◌, one_byte, some_name, gives, refuses, tested}
 use Rattle.component_value_types.specs.Combinators.{optional}
 use Rattle.component_value_types.specs.Scope.{Grammar, index}
 use Rattle.component_definitions.specs.declared.sorts.Sort.{Sort}

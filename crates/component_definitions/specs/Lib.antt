@@ -3,3 +3,4 @@ pub mod Aliases
 pub mod Canonical
 pub mod Externs
 pub mod Counting
+pub mod Passed

@@ -1,12 +1,12 @@
 -- Sorts (Component Model Binary, Instance Definitions).
 use Rattle.std.specs.Prelude.{ℕ, Result, Ok, Err, ◌==◌, if◌then◌else◌}
-use Rattle.binary_grammar.specs.declared.fault.Rule.{Rule}
-use Rattle.binary_grammar.specs.declared.fault.Rule.TheVariants as rules
-use Rattle.binary_grammar.specs.Syntax.{◌◂◌, ◌>>=◌, one_byte, gives, refuses}
-use Rattle.wasm_types.specs.declared.types.ExportKind.{ExportKind}
-use Rattle.wasm_types.specs.declared.types.ExportKind.TheVariants as kinds
-use Rattle.wasm_types.specs.Types.{kind_of, kind_byte}
-use Rattle.wasm_types.specs.Code.{coded}
+use Rattle.component_value_types.specs.Passed.binary_grammar-declared-fault-Rule.{Rule}
+use Rattle.component_value_types.specs.Passed.binary_grammar-declared-fault-Rule-TheVariants as rules
+use Rattle.component_value_types.specs.Passed.binary_grammar-Syntax.{◌◂◌, ◌>>=◌, one_byte, gives, refuses}
+use Rattle.component_value_types.specs.Passed.wasm_types-declared-types-ExportKind.{ExportKind}
+use Rattle.component_value_types.specs.Passed.wasm_types-declared-types-ExportKind-TheVariants as kinds
+use Rattle.component_value_types.specs.Passed.wasm_types-Types.{kind_of, kind_byte}
+use Rattle.component_value_types.specs.Passed.wasm_types-Code.{coded}
 use Rattle.component_value_types.specs.declared.scope.Scope.{Scope}
 use Rattle.component_value_types.specs.Scope.{Grammar}
 use Rattle.component_definitions.specs.declared.sorts.ComponentSort.{ComponentSort}

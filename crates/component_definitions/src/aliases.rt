@@ -1,15 +1,16 @@
 //! Aliases.
 
 ghost use Rattle.std.specs.Prelude.{◌≡◌, ◌∷◌, ◌++◌, OnOk, IfErr, Err};
-ghost use Rattle.binary_grammar.specs.Fault.{Gives};
-ghost use Rattle.binary_grammar.specs.Syntax.{meaning, bytes, IsTyped, IsText, u32_bytes, with_length};
+ghost use Rattle.component_value_types.specs.Passed.binary_grammar-Fault.{Gives};
+ghost use Rattle.component_value_types.specs.Passed.binary_grammar-Syntax.{meaning, bytes, IsTyped, IsText, u32_bytes, with_length};
 ghost use Rattle.component_definitions.specs.Sorts.{sort as sort_grammar};
 ghost use Rattle.component_definitions.specs.Aliases as spec;
 
 use crate::sorts::{ComponentSort, Sort};
-use binary_grammar::{Part, ReadError, Reader, Rule, WriteFault, broken_at, put_name, put_number};
-use component_value_types::Scope;
-use wasm_types::{Code, ExportKind};
+use component_value_types::{
+    Code, ExportKind, Part, ReadError, Reader, Rule, Scope, WriteFault, broken_at, put_name,
+    put_number,
+};
 
 /// Another name for what is there already (Component Model Binary, Alias Definitions).
 #[derive(Clone, Copy, Debug, PartialEq, Eq)]

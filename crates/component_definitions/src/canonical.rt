@@ -1,16 +1,15 @@
 //! Canonical definitions.
 
 ghost use Rattle.std.specs.Prelude.{◌≡◌, ◌∷◌, ◌++◌, map, filter, length, OnOk, IfErr, Err};
-ghost use Rattle.binary_grammar.specs.Fault.{Gives};
-ghost use Rattle.binary_grammar.specs.Syntax.{meaning, bytes, vec, IsTyped, u32_bytes};
+ghost use Rattle.component_value_types.specs.Passed.binary_grammar-Fault.{Gives};
+ghost use Rattle.component_value_types.specs.Passed.binary_grammar-Syntax.{meaning, bytes, vec, IsTyped, u32_bytes};
 ghost use Rattle.component_definitions.specs.Canonical as spec;
 
 use crate::sorts::{ComponentSort, Sort};
-use binary_grammar::{
-    Part, ReadError, Reader, Rule, WriteFault, broken_at, put_number, put_vec, vec_of,
+use component_value_types::{
+    ExportKind, Part, ReadError, Reader, Rule, Scope, WriteFault, broken_at, put_number, put_vec,
+    vec_of,
 };
-use component_value_types::Scope;
-use wasm_types::ExportKind;
 
 /// How values are lifted and lowered (Component Model Binary, Canonical Definitions).
 #[derive(Clone, Copy, Debug, PartialEq, Eq)]

@@ -6,8 +6,7 @@ ghost use Rattle.component_definitions.specs.Sorts.{core_count, component_count}
 
 use crate::externs::Description;
 use crate::sorts::{ComponentSort, Sort, count};
-use component_value_types::Scope;
-use wasm_types::ExportKind;
+use component_value_types::{ExportKind, Scope};
 
 /// An index space of a component (Component Model, Explainer, Index Spaces).
 #[derive(Clone, Copy, Debug, PartialEq, Eq)]

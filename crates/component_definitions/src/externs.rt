@@ -1,13 +1,15 @@
 //! Imports and exports.
 
 ghost use Rattle.std.specs.Prelude.{◌≡◌, ◌∷◌, ◌++◌, OnOk, IfErr, Err};
-ghost use Rattle.binary_grammar.specs.Fault.{Gives};
-ghost use Rattle.binary_grammar.specs.Syntax.{meaning, bytes, IsTyped, u32_bytes};
+ghost use Rattle.component_value_types.specs.Passed.binary_grammar-Fault.{Gives};
+ghost use Rattle.component_value_types.specs.Passed.binary_grammar-Syntax.{meaning, bytes, IsTyped, u32_bytes};
 ghost use Rattle.component_definitions.specs.Externs as spec;
 
 use crate::sorts::{Sort, count};
-use binary_grammar::{Part, ReadError, Reader, Rule, WriteFault, broken_at, put_name, put_number};
-use component_value_types::{Scope, optional_of, put_optional};
+use component_value_types::{
+    Part, ReadError, Reader, Rule, Scope, WriteFault, broken_at, optional_of, put_name, put_number,
+    put_optional,
+};
 
 /// What an import or export is (Component Model Binary, Import and Export Definitions).
 #[derive(Clone, Copy, Debug, PartialEq, Eq)]

@@ -3,9 +3,9 @@
 ghost use Rattle.std.specs.Prelude.{◌≡◌};
 ghost use Rattle.component_definitions.specs.Sorts as spec;
 
-use binary_grammar::{Part, ReadError, Reader, Rule, WriteFault};
-use component_value_types::Scope;
-use wasm_types::{Code, ExportKind, coded_of};
+use component_value_types::{
+    Code, ExportKind, Part, ReadError, Reader, Rule, Scope, WriteFault, coded_of,
+};
 
 /// A sort of a component (Component Model Binary, Instance Definitions).
 #[derive(Clone, Copy, Debug, PartialEq, Eq)]

@@ -9,12 +9,12 @@ use Rattle.wit_types.specs.declared.function.Function.{Function}
 use Rattle.wasm_types.specs.declared.types.ExportKind.TheVariants as kinds
 use Rattle.component_entries.specs.Entries.{DefinedValue, nothing}
 use Rattle.component_sections.specs.Component.{DefinitionValue, with_definition, exports_behind, Follows}
-use Rattle.type_sinks.proofs.Placed.{follow_push, named}
+use Rattle.linked_imports.proofs.Passed.type_sinks-Placed.{follow_push, named}
 use Rattle.component_builder.specs.Builder.{with_space}
-use Rattle.component_meaning.specs.Core.{MainModule, CoreItem}
-use Rattle.component_meaning.specs.Spaces.{meaning, core_at}
+use Rattle.linked_imports.specs.Passed.component_meaning-Core.{MainModule, CoreItem}
+use Rattle.linked_imports.specs.Passed.component_meaning-Spaces.{meaning, core_at}
 use Rattle.component_encoding.specs.Growing.{IsMainInstance}
-use Rattle.component_imports.specs.Functions.{function_names}
+use Rattle.linked_imports.specs.Passed.component_imports-Functions.{function_names}
 use Rattle.component_encoding.specs.Placing.{ArePlaced, known_behind, names_exported, StayPlaced, StayPlacedWith}
 use Rattle.component_encoding.proofs.Counts.{Lengths, counted, lengths, counts}
 

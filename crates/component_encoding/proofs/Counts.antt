@@ -21,8 +21,8 @@ use Rattle.component_instances.specs.Instances.{core_instantiate, core_inline}
 use Rattle.component_entries.specs.Entries.{an_alias, a_type, an_import, an_export}
 use Rattle.component_sections.specs.Component.{DefinitionValue, a_core_module, a_core_instance, a_component, an_instance, a_canonical, an_entry, space_of}
 use Rattle.component_builder.specs.Builder.{with_space, scope_of}
-use Rattle.component_meaning.specs.Core.{MainModule}
-use Rattle.component_meaning.specs.Spaces.{Spaces, no_spaces, joined, adds, after, meaning}
+use Rattle.linked_imports.specs.Passed.component_meaning-Core.{MainModule}
+use Rattle.linked_imports.specs.Passed.component_meaning-Spaces.{Spaces, no_spaces, joined, adds, after, meaning}
 
 -- so many of each, of those that are asked for
 pub record Lengths : Type 0 where

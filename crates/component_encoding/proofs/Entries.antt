@@ -9,11 +9,11 @@ use Rattle.component_definitions.specs.Aliases.{AliasValue, instance_export, cor
 use Rattle.component_entries.specs.declared.entry.Entry.{Entry}
 use Rattle.component_entries.specs.Entries.{EntryValue, entry_value, an_alias, a_type, an_import, an_export}
 use Rattle.component_sections.specs.Component.{DefinitionValue, an_entry}
-use Rattle.type_meaning.specs.Scope.{Scope, no_scope, joined as scopes_joined, adds as scope_adds, after as scope_after, meaning as scope_meaning}
-use Rattle.type_sinks.specs.Placing.{as_definitions}
-use Rattle.component_meaning.specs.Core.{MainModule}
-use Rattle.component_meaning.specs.Spaces.{Spaces, no_spaces, core_entry, core_again, core_alias, adds, after, meaning}
-use Rattle.component_meaning.proofs.Staying.{spaces_end}
+use Rattle.type_writing.specs.Passed.type_meaning-Scope.{Scope, no_scope, joined as scopes_joined, adds as scope_adds, after as scope_after, meaning as scope_meaning}
+use Rattle.linked_imports.specs.Passed.type_sinks-Placing.{as_definitions}
+use Rattle.linked_imports.specs.Passed.component_meaning-Core.{MainModule}
+use Rattle.linked_imports.specs.Passed.component_meaning-Spaces.{Spaces, no_spaces, core_entry, core_again, core_alias, adds, after, meaning}
+use Rattle.linked_imports.proofs.Passed.component_meaning-Staying.{spaces_end}
 
 -- beside what is in the scope an entry adds core items alone
 record AddsNone (s : Spaces) : Type 0 where

@@ -5,20 +5,20 @@ use Rattle.std.specs.Prelude.{slice_get, string_bytes}
 use Rattle.std.specs.List.{AllByRecursion as Each}
 use Rattle.component_definitions.specs.declared.canonical.CanonicalOption.{CanonicalOption}
 use Rattle.component_sections.specs.Component.{DefinitionValue}
-use Rattle.type_meaning.specs.Words.{BinaryTree}
-use Rattle.type_meaning.specs.Items.{from_lift, Entry, type_at, is_function}
-use Rattle.component_meaning.specs.Core.{MainModule, of_function}
-use Rattle.component_meaning.specs.Spaces.{Spaces, core_at, meaning}
+use Rattle.type_writing.specs.Passed.type_meaning-Words.{BinaryTree}
+use Rattle.type_writing.specs.Passed.type_meaning-Items.{from_lift, Entry, type_at, is_function}
+use Rattle.linked_imports.specs.Passed.component_meaning-Core.{MainModule, of_function}
+use Rattle.linked_imports.specs.Passed.component_meaning-Spaces.{Spaces, core_at, meaning}
 use Rattle.wasm_types.specs.declared.types.ExportKind.TheVariants as kinds
 use Rattle.wasm_types.specs.declared.entries.Export.{Export}
 use Rattle.wasm_types.specs.Entries.{ExportValue, export_value}
 use Rattle.wit_types.specs.declared.function.Function.{Function}
 use Rattle.type_writing.specs.Writing.{Begins}
-use Rattle.link_table.specs.View.{name_at, IsLinkOf, AreLinksOfEntries}
-use Rattle.link_table.specs.declared.exports.ExportLink.{ExportLink}
-use Rattle.link_table.specs.Linking.{Linking}
-use Rattle.link_table.specs.Table.{ExportEntry}
-use Rattle.right_components.specs.Ends.{AreOptionsOf}
+use Rattle.linked_imports.specs.Passed.link_table-View.{name_at, IsLinkOf, AreLinksOfEntries}
+use Rattle.linked_imports.specs.Passed.link_table-declared-exports-ExportLink.{ExportLink}
+use Rattle.linked_imports.specs.Passed.link_table-Linking.{Linking}
+use Rattle.linked_imports.specs.Passed.link_table-Table.{ExportEntry}
+use Rattle.linked_imports.specs.Passed.right_components-Ends.{AreOptionsOf}
 use Rattle.wit_arena.proofs.Lists.{get_more}
 use Rattle.component_encoding.specs.Growing.{Grows, AddsCoreItems, IsMainInstance, export_item}
 use Rattle.component_encoding.specs.declared.exports.Shared.{Shared}

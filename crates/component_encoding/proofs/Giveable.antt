@@ -14,7 +14,7 @@ use Rattle.component_builder.specs.Builder.{index_behind}
 use Rattle.component_value_types.specs.Combinators.{NamedValue}
 use Rattle.component_instances.specs.declared.instances.CoreItem.{CoreItem as CoreIndex}
 use Rattle.core_links.specs.Imports.{RepeatsPair}
-use Rattle.type_sinks.proofs.Names.{all_new_push}
+use Rattle.linked_imports.proofs.Passed.type_sinks-Names.{all_new_push}
 use Rattle.component_encoding.specs.Given.{Under, with_item, core_function, named_in, given_as, is_pair, first_from, AreGivenFor, IsFunctionBelow, item_names, MayBeGiven}
 use Rattle.component_encoding.specs.Instances.{lowering_of}
 use Rattle.component_encoding.proofs.Groups.{take_length, lowering_index}

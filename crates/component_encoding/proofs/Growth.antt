@@ -5,9 +5,9 @@ use Rattle.std.specs.Prelude.{slice_get, option_and_then}
 use Rattle.wasm_types.specs.declared.types.ExportKind.{ExportKind}
 use Rattle.wasm_types.specs.declared.types.ExportKind.TheVariants as kinds
 use Rattle.component_sections.specs.Component.{DefinitionValue}
-use Rattle.component_meaning.specs.Core.{MainModule, CoreItem}
-use Rattle.component_meaning.specs.Spaces.{Spaces, no_spaces, after, meaning, core_at}
-use Rattle.component_meaning.proofs.Staying.{stays}
+use Rattle.linked_imports.specs.Passed.component_meaning-Core.{MainModule, CoreItem}
+use Rattle.linked_imports.specs.Passed.component_meaning-Spaces.{Spaces, no_spaces, after, meaning, core_at}
+use Rattle.linked_imports.proofs.Passed.component_meaning-Staying.{stays}
 use Rattle.type_writing.specs.Writing.{Begins}
 use Rattle.component_encoding.specs.Growing.{Grows, AddsCoreItems, IsMainInstance}
 

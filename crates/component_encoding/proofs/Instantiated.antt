@@ -14,11 +14,11 @@ use Rattle.wit_order.specs.Order.{Has}
 use Rattle.component_sections.specs.Component.{DefinitionValue, a_core_module}
 use Rattle.component_builder.specs.Builder.{index_behind}
 use Rattle.component_value_types.specs.Combinators.{NamedValue}
-use Rattle.component_meaning.specs.Core.{matches, CoreImport, MainModule, CoreItem, of_main, of_items, CoreInstance}
-use Rattle.component_meaning.specs.Spaces.{Spaces, no_spaces, joined, after, meaning, given_for, if_matches, exports_of, main_instance, is_main, instantiated, given_by, all_given}
-use Rattle.component_meaning.proofs.Staying.{spaces_end}
+use Rattle.linked_imports.specs.Passed.component_meaning-Core.{matches, CoreImport, MainModule, CoreItem, of_main, of_items, CoreInstance}
+use Rattle.linked_imports.specs.Passed.component_meaning-Spaces.{Spaces, no_spaces, joined, after, meaning, given_for, if_matches, exports_of, main_instance, is_main, instantiated, given_by, all_given}
+use Rattle.linked_imports.proofs.Passed.component_meaning-Staying.{spaces_end}
 use Rattle.core_links.specs.Imports.{RepeatsPair}
-use Rattle.right_components.specs.Main.{core_import, main_of}
+use Rattle.linked_imports.specs.Passed.right_components-Main.{core_import, main_of}
 use Rattle.wit_arena.proofs.Lists.{get_last}
 use Rattle.component_encoding.specs.Given.{Under, given_as, AreGivenFor}
 use Rattle.component_encoding.specs.Instances.{lowering_of, instance_of, arguments_from, instantiation, lowered, AreLowerable, IsInstantiated}

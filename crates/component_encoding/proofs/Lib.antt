@@ -20,3 +20,4 @@ pub mod Behind
 pub mod PlacedLifts
 pub mod Giveable
 pub mod PlacedModule
+pub mod Passed

@@ -8,11 +8,11 @@ use Rattle.component_definitions.specs.Canonical.{lift}
 use Rattle.component_entries.specs.Entries.{an_export}
 use Rattle.component_sections.specs.Component.{DefinitionValue, a_canonical, an_entry}
 use Rattle.component_builder.specs.Builder.{index_behind}
-use Rattle.type_meaning.specs.Words.{BinaryTree}
-use Rattle.type_meaning.specs.Items.{Item, from_lift, a_function, or_nothing, item_at, type_at, is_function}
-use Rattle.type_meaning.specs.Scope.{renamed}
-use Rattle.component_meaning.specs.Core.{MainModule}
-use Rattle.component_meaning.specs.Spaces.{Spaces, after, meaning, lifting}
+use Rattle.type_writing.specs.Passed.type_meaning-Words.{BinaryTree}
+use Rattle.type_writing.specs.Passed.type_meaning-Items.{Item, from_lift, a_function, or_nothing, item_at, type_at, is_function}
+use Rattle.type_writing.specs.Passed.type_meaning-Scope.{renamed}
+use Rattle.linked_imports.specs.Passed.component_meaning-Core.{MainModule}
+use Rattle.linked_imports.specs.Passed.component_meaning-Spaces.{Spaces, after, meaning, lifting}
 use Rattle.wit_arena.proofs.Lists.{get_last}
 use Rattle.component_encoding.specs.Exports.{AddsExport, lifted}
 use Rattle.component_encoding.proofs.Counts.{Lengths, counts}

@@ -10,15 +10,15 @@ use Rattle.wasm_format.specs.Module.{imported_type}
 use Rattle.wit_types.specs.declared.mangling.AbiVariant.TheVariants.{GuestImport}
 use Rattle.wit_reach.specs.Types.{AreTypesBackward}
 use Rattle.type_writing.specs.Writing.{written}
-use Rattle.type_sinks.specs.Root.{InterfaceNames, root_label}
+use Rattle.linked_imports.specs.Passed.type_sinks-Root.{InterfaceNames, root_label}
 use Rattle.flat_trees.specs.Flat.{signature, core_type as flat_type}
 use Rattle.flat_trees.specs.Law.{UnfoldedFunctionsAreFlat, WrittenTreesKeepCoreTypes}
-use Rattle.component_meaning.specs.Core.{of_function, value_code, same_values, same_function_type, matches, CoreImport, of_lower, CoreItem}
-use Rattle.component_meaning.specs.Spaces.{Spaces, lowering}
-use Rattle.link_table.specs.Linking.{Linking, types_of}
-use Rattle.link_table.specs.Pairwise.{Pairwise}
-use Rattle.link_table.specs.Table.{ImportEntry, IsImportEntry, Table, IsTable}
-use Rattle.right_components.specs.Main.{core_type, core_import, main_of, kind_of}
+use Rattle.linked_imports.specs.Passed.component_meaning-Core.{of_function, value_code, same_values, same_function_type, matches, CoreImport, of_lower, CoreItem}
+use Rattle.linked_imports.specs.Passed.component_meaning-Spaces.{Spaces, lowering}
+use Rattle.linked_imports.specs.Passed.link_table-Linking.{Linking, types_of}
+use Rattle.linked_imports.specs.Passed.link_table-Pairwise.{Pairwise}
+use Rattle.linked_imports.specs.Passed.link_table-Table.{ImportEntry, IsImportEntry, Table, IsTable}
+use Rattle.linked_imports.specs.Passed.right_components-Main.{core_type, core_import, main_of, kind_of}
 use Rattle.linked_imports.specs.Imports.{IsLowered}
 use Rattle.component_encoding.specs.Instances.{lowered, AreLowerable}
 use Rattle.component_encoding.proofs.Lists.{get_there, get_map, each_at}

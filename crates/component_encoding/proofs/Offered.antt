@@ -9,15 +9,15 @@ use Rattle.wasm_types.specs.declared.types.ExportKind.TheVariants as kinds
 use Rattle.wasm_types.specs.Entries.{ExportValue}
 use Rattle.wasm_types.specs.Types.{FuncTypeValue}
 use Rattle.wasm_format.specs.Module.{ModuleValue, exported_type}
-use Rattle.component_meaning.specs.Core.{of_function, of_kind}
+use Rattle.linked_imports.specs.Passed.component_meaning-Core.{of_function, of_kind}
 use Rattle.core_links.specs.Names.{Names}
 use Rattle.core_links.specs.Exports.{IsAt}
-use Rattle.link_table.specs.Linking.{Linking}
-use Rattle.link_table.specs.Options.{IsMemory, IsMemoryIf, IsRealloc, IsReallocIf, IsReallocAt, realloc_type}
-use Rattle.link_table.specs.Table.{ExportEntry, IsExportEntry}
+use Rattle.linked_imports.specs.Passed.link_table-Linking.{Linking}
+use Rattle.linked_imports.specs.Passed.link_table-Options.{IsMemory, IsMemoryIf, IsRealloc, IsReallocIf, IsReallocAt, realloc_type}
+use Rattle.linked_imports.specs.Passed.link_table-Table.{ExportEntry, IsExportEntry}
 use Rattle.wit_types.specs.declared.mangling.AbiVariant.{AbiVariant}
-use Rattle.right_components.specs.Main.{core_type, core_export, main_of}
-use Rattle.right_components.specs.Ends.{IsNameOfMemory}
+use Rattle.linked_imports.specs.Passed.right_components-Main.{core_type, core_export, main_of}
+use Rattle.linked_imports.specs.Passed.right_components-Ends.{IsNameOfMemory}
 use Rattle.component_encoding.proofs.Lists.{get_has}
 use Rattle.component_encoding.specs.Growing.{export_named, Offers}
 use Rattle.component_encoding.specs.Exports.{IsOffered, IsEntryOffered}

@@ -6,11 +6,11 @@ use Rattle.wasm_types.specs.declared.types.ExportKind.TheVariants as kinds
 use Rattle.wasm_types.specs.Entries.{ExportValue}
 use Rattle.component_definitions.specs.declared.canonical.CanonicalOption.{CanonicalOption}
 use Rattle.component_definitions.specs.declared.canonical.CanonicalOption.TheVariants as canonical
-use Rattle.component_meaning.specs.Spaces.{Spaces}
-use Rattle.link_table.specs.Linking.{Linking}
-use Rattle.link_table.specs.Options.{Options}
-use Rattle.link_table.specs.View.{name_at}
-use Rattle.right_components.specs.Ends.{IsNameOfMemory, IsCoreExport, the_memory, the_realloc, is_there}
+use Rattle.linked_imports.specs.Passed.component_meaning-Spaces.{Spaces}
+use Rattle.linked_imports.specs.Passed.link_table-Linking.{Linking}
+use Rattle.linked_imports.specs.Passed.link_table-Options.{Options}
+use Rattle.linked_imports.specs.Passed.link_table-View.{name_at}
+use Rattle.linked_imports.specs.Passed.right_components-Ends.{IsNameOfMemory, IsCoreExport, the_memory, the_realloc, is_there}
 use Rattle.component_encoding.specs.Growing.{Grows}
 use Rattle.component_encoding.specs.Exports.{IsTaken, AreShared, IsOptionFor}
 use Rattle.component_encoding.specs.declared.exports.Taken.{Taken}

@@ -16,13 +16,13 @@ use Rattle.component_builder.specs.Builder.{index_behind}
 use Rattle.canonical_options.specs.Options.{encoding_option}
 use Rattle.link_lines.specs.declared.encoding.StringEncoding.{StringEncoding}
 use Rattle.link_lines.specs.declared.encoding.StringEncoding.TheVariants as encodings
-use Rattle.type_meaning.specs.Words.{BinaryTree}
-use Rattle.type_meaning.specs.Items.{Item, or_nothing, type_if, type_at, is_function}
-use Rattle.component_meaning.specs.Core.{MainModule, CoreItem}
-use Rattle.component_meaning.specs.Spaces.{meaning, core_at}
-use Rattle.link_table.specs.Linking.{Linking}
-use Rattle.link_table.specs.Options.{Options}
-use Rattle.right_components.specs.Ends.{IsOptionOf, the_memory, the_realloc, the_encoding, AreOptionsOf}
+use Rattle.type_writing.specs.Passed.type_meaning-Words.{BinaryTree}
+use Rattle.type_writing.specs.Passed.type_meaning-Items.{Item, or_nothing, type_if, type_at, is_function}
+use Rattle.linked_imports.specs.Passed.component_meaning-Core.{MainModule, CoreItem}
+use Rattle.linked_imports.specs.Passed.component_meaning-Spaces.{meaning, core_at}
+use Rattle.linked_imports.specs.Passed.link_table-Linking.{Linking}
+use Rattle.linked_imports.specs.Passed.link_table-Options.{Options}
+use Rattle.linked_imports.specs.Passed.right_components-Ends.{IsOptionOf, the_memory, the_realloc, the_encoding, AreOptionsOf}
 use Rattle.component_encoding.specs.Placing.{known_behind, names_exported, StayPlacedWith}
 use Rattle.component_encoding.proofs.Counts.{Lengths}
 use Rattle.component_encoding.proofs.Behind.{scope_from, known_counts, function_below, memory_below, placed_with, known_with, names_with}

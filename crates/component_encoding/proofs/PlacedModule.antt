@@ -11,9 +11,9 @@ use Rattle.component_entries.specs.Entries.{DefinedValue, nothing}
 use Rattle.component_sections.specs.Component.{DefinitionValue, a_core_module, with_definition, Follow}
 use Rattle.component_value_types.specs.Scope.{no_scope}
 use Rattle.component_builder.specs.Builder.{with_space, scope_of, index_behind}
-use Rattle.type_meaning.specs.Items.{Item, or_nothing}
-use Rattle.component_meaning.specs.Core.{MainModule, CoreItem}
-use Rattle.component_meaning.specs.Spaces.{lowering, meaning}
+use Rattle.type_writing.specs.Passed.type_meaning-Items.{Item, or_nothing}
+use Rattle.linked_imports.specs.Passed.component_meaning-Core.{MainModule, CoreItem}
+use Rattle.linked_imports.specs.Passed.component_meaning-Spaces.{lowering, meaning}
 use Rattle.component_encoding.specs.Given.{Under, IsFunctionBelow, item_names, MayBeGiven}
 use Rattle.component_encoding.specs.Instances.{lowering_of, instance_of, arguments_from, instantiation, AreLowerable}
 use Rattle.component_encoding.specs.Placing.{ArePlaced, known_behind, StayPlaced}
@@ -22,7 +22,7 @@ use Rattle.component_encoding.proofs.Behind.{scope_from, known_counts, known_wit
 use Rattle.component_encoding.proofs.Following.{IsFunctionThere, module_follows, lower_follows, inline_follows, instantiation_follows}
 use Rattle.component_encoding.proofs.Groups.{grown_both, lowered_count, instance_count}
 use Rattle.std.proofs.lemmas.Option.{slice_get_within}
-use Rattle.link_table.proofs.Pairwise.{placed}
+use Rattle.linked_imports.proofs.Passed.link_table-Pairwise.{placed}
 use Rattle.component_encoding.proofs.Lists.{get_there, each_of}
 
 -- ---- definitions one behind the other

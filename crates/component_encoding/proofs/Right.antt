@@ -6,29 +6,29 @@ use Rattle.std.specs.List.{AllByRecursion as Each}
 use Rattle.std.proofs.lemmas.Option.{slice_get_within}
 use Rattle.wit_order.specs.Order.{Has}
 use Rattle.wit_types.specs.declared.function.Function.{Function}
-use Rattle.type_meaning.specs.Words.{Label, BinaryTree, seen}
-use Rattle.type_meaning.specs.Items.{Origin, from_import, Item, nothing, a_function, item_at, or_nothing, Entry, type_at, is_function}
-use Rattle.type_meaning.specs.Scope.{Scope}
+use Rattle.type_writing.specs.Passed.type_meaning-Words.{Label, BinaryTree, seen}
+use Rattle.type_writing.specs.Passed.type_meaning-Items.{Origin, from_import, Item, nothing, a_function, item_at, or_nothing, Entry, type_at, is_function}
+use Rattle.type_writing.specs.Passed.type_meaning-Scope.{Scope}
 use Rattle.type_writing.proofs.Standing.{get_begin}
 use Rattle.type_writing.specs.Writing.{written}
-use Rattle.type_sinks.specs.Root.{InterfaceNames, root_label}
-use Rattle.component_meaning.specs.Core.{of_function, CoreItem, of_lower, CoreInstance}
-use Rattle.component_meaning.specs.Spaces.{Spaces, lowering, all_given}
+use Rattle.linked_imports.specs.Passed.type_sinks-Root.{InterfaceNames, root_label}
+use Rattle.linked_imports.specs.Passed.component_meaning-Core.{of_function, CoreItem, of_lower, CoreInstance}
+use Rattle.linked_imports.specs.Passed.component_meaning-Spaces.{Spaces, lowering, all_given}
 use Rattle.flat_trees.specs.Flat.{signature, core_type}
 use Rattle.wit_types.specs.declared.mangling.AbiVariant.TheVariants.{GuestImport}
-use Rattle.link_table.specs.Linking.{Linking, exported_functions}
-use Rattle.link_table.specs.Pairwise.{Pairwise}
-use Rattle.link_table.specs.Table.{ImportEntry, ExportEntry, Table, IsTable}
-use Rattle.right_components.specs.Main.{main_of}
-use Rattle.right_components.specs.Needed.{AreInOrder}
-use Rattle.right_components.specs.Outside.{AreInterfaceNames, resource_label, IsListed, AreTypesHeld, IsExported}
-use Rattle.right_components.specs.Ends.{IsImportOf, IsLoweringOf}
-use Rattle.right_components.specs.Right.{IsImported, ImportsRight, ExportsRight, ModulesRight, AreGiven, TakesOwn, LiftsOwn, LinksRight, IsRightFor}
+use Rattle.linked_imports.specs.Passed.link_table-Linking.{Linking, exported_functions}
+use Rattle.linked_imports.specs.Passed.link_table-Pairwise.{Pairwise}
+use Rattle.linked_imports.specs.Passed.link_table-Table.{ImportEntry, ExportEntry, Table, IsTable}
+use Rattle.linked_imports.specs.Passed.right_components-Main.{main_of}
+use Rattle.linked_imports.specs.Passed.right_components-Needed.{AreInOrder}
+use Rattle.linked_imports.specs.Passed.right_components-Outside.{AreInterfaceNames, resource_label, IsListed, AreTypesHeld, IsExported}
+use Rattle.linked_imports.specs.Passed.right_components-Ends.{IsImportOf, IsLoweringOf}
+use Rattle.linked_imports.specs.Passed.right_components-Right.{IsImported, ImportsRight, ExportsRight, ModulesRight, AreGiven, TakesOwn, LiftsOwn, LinksRight, IsRightFor}
 use Rattle.linked_imports.specs.Imports.{HasImport, its_own, of_instance, IsLowered, IsTypeAt, AreImportsWritten, AreImportsListed}
 use Rattle.component_encoding.specs.Growing.{Grows}
 use Rattle.component_encoding.specs.Instances.{lowered, IsInstantiated}
 use Rattle.component_encoding.specs.Exports.{IsExportOf, AreExported}
-use Rattle.link_table.proofs.Pairwise.{placed}
+use Rattle.linked_imports.proofs.Passed.link_table-Pairwise.{placed}
 use Rattle.component_encoding.proofs.Lists.{get_has, get_there, get_map, map_got, each_of}
 
 -- ---- lists

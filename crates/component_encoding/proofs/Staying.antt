@@ -10,12 +10,12 @@ use Rattle.wasm_types.specs.Entries.{ExportValue}
 use Rattle.component_definitions.specs.declared.canonical.CanonicalOption.{CanonicalOption}
 use Rattle.component_definitions.specs.declared.canonical.CanonicalOption.TheVariants as canonical
 use Rattle.canonical_options.specs.Options.{encoding_option, options_with}
-use Rattle.type_meaning.specs.Items.{Origin, Entry, type_at, is_function}
-use Rattle.component_meaning.specs.Spaces.{Spaces}
-use Rattle.link_table.specs.Linking.{Linking}
-use Rattle.link_table.specs.Options.{Options}
-use Rattle.link_table.specs.Table.{ExportEntry}
-use Rattle.right_components.specs.Ends.{IsCoreExport, IsOptionOf, the_memory, the_realloc, the_encoding, is_there, AreOptionsOf, IsLiftOf}
+use Rattle.type_writing.specs.Passed.type_meaning-Items.{Origin, Entry, type_at, is_function}
+use Rattle.linked_imports.specs.Passed.component_meaning-Spaces.{Spaces}
+use Rattle.linked_imports.specs.Passed.link_table-Linking.{Linking}
+use Rattle.linked_imports.specs.Passed.link_table-Options.{Options}
+use Rattle.linked_imports.specs.Passed.link_table-Table.{ExportEntry}
+use Rattle.linked_imports.specs.Passed.right_components-Ends.{IsCoreExport, IsOptionOf, the_memory, the_realloc, the_encoding, is_there, AreOptionsOf, IsLiftOf}
 use Rattle.component_encoding.specs.Growing.{Grows}
 use Rattle.component_encoding.specs.Exports.{IsTaken, AreShared, IsOptionFor, IsExportOf}
 use Rattle.component_encoding.specs.declared.exports.Taken.{Taken}

@@ -9,9 +9,9 @@ use Rattle.component_definitions.specs.Aliases.{core_instance_export}
 use Rattle.component_entries.specs.Entries.{an_alias}
 use Rattle.component_sections.specs.Component.{DefinitionValue, an_entry}
 use Rattle.component_builder.specs.Builder.{index_behind}
-use Rattle.component_meaning.specs.Core.{CoreType, is_of_kind, CoreExport, MainModule, of_export, CoreItem, CoreEntry, CoreInstance}
-use Rattle.component_meaning.specs.Spaces.{Spaces, after, meaning, core_at, core_export, entry_named, if_of_kind}
-use Rattle.component_meaning.proofs.Staying.{spaces_end}
+use Rattle.linked_imports.specs.Passed.component_meaning-Core.{CoreType, is_of_kind, CoreExport, MainModule, of_export, CoreItem, CoreEntry, CoreInstance}
+use Rattle.linked_imports.specs.Passed.component_meaning-Spaces.{Spaces, after, meaning, core_at, core_export, entry_named, if_of_kind}
+use Rattle.linked_imports.proofs.Passed.component_meaning-Staying.{spaces_end}
 use Rattle.wit_arena.proofs.Lists.{get_last}
 use Rattle.component_encoding.specs.Growing.{AddsCoreItems, export_named, Offers, IsMainInstance, export_item}
 use Rattle.component_encoding.proofs.Counts.{Lengths, counts}

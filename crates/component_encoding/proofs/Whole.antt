@@ -9,38 +9,38 @@ use Rattle.wit_types.specs.declared.function.Function.{Function}
 use Rattle.component_entries.specs.Entries.{EntryValue, DefinedValue}
 use Rattle.distinct_names.specs.Names.{all_new}
 use Rattle.component_sections.specs.Component.{DefinitionValue}
-use Rattle.type_meaning.specs.Items.{type_at, is_function}
-use Rattle.type_meaning.specs.Scope.{Scope, meaning as scope_meaning}
+use Rattle.type_writing.specs.Passed.type_meaning-Items.{type_at, is_function}
+use Rattle.type_writing.specs.Passed.type_meaning-Scope.{Scope, meaning as scope_meaning}
 use Rattle.type_writing.specs.Writing.{Begins, written}
-use Rattle.type_sinks.specs.Imports.{entry_names}
-use Rattle.type_sinks.specs.Placing.{ArePlaced as EntriesArePlaced}
-use Rattle.type_sinks.specs.Root.{InterfaceNames, root_label}
-use Rattle.type_sinks.proofs.Placed.{known}
+use Rattle.linked_imports.specs.Passed.type_sinks-Imports.{entry_names}
+use Rattle.linked_imports.specs.Passed.type_sinks-Placing.{ArePlaced as EntriesArePlaced}
+use Rattle.linked_imports.specs.Passed.type_sinks-Root.{InterfaceNames, root_label}
+use Rattle.linked_imports.proofs.Passed.type_sinks-Placed.{known}
 use Rattle.flat_trees.specs.Law.{UnfoldedFunctionsAreFlat, WrittenTreesKeepCoreTypes}
-use Rattle.component_meaning.specs.Core.{MainModule}
-use Rattle.component_meaning.specs.Spaces.{Spaces, meaning}
-use Rattle.link_table.specs.Linking.{Linking, types_of, exported_functions}
-use Rattle.link_table.specs.Pairwise.{Pairwise}
-use Rattle.link_table.specs.Table.{ExportEntry, Table, IsTable}
-use Rattle.link_table.specs.View.{name_at, AreLinksOfEntries}
-use Rattle.link_table.specs.declared.exports.ExportLink.{ExportLink}
-use Rattle.right_components.specs.Main.{main_of}
-use Rattle.right_components.specs.Outside.{AreInterfaceNames}
-use Rattle.right_components.specs.Right.{IsRightFor}
+use Rattle.linked_imports.specs.Passed.component_meaning-Core.{MainModule}
+use Rattle.linked_imports.specs.Passed.component_meaning-Spaces.{Spaces, meaning}
+use Rattle.linked_imports.specs.Passed.link_table-Linking.{Linking, types_of, exported_functions}
+use Rattle.linked_imports.specs.Passed.link_table-Pairwise.{Pairwise}
+use Rattle.linked_imports.specs.Passed.link_table-Table.{ExportEntry, Table, IsTable}
+use Rattle.linked_imports.specs.Passed.link_table-View.{name_at, AreLinksOfEntries}
+use Rattle.linked_imports.specs.Passed.link_table-declared-exports-ExportLink.{ExportLink}
+use Rattle.linked_imports.specs.Passed.right_components-Main.{main_of}
+use Rattle.linked_imports.specs.Passed.right_components-Outside.{AreInterfaceNames}
+use Rattle.linked_imports.specs.Passed.right_components-Right.{IsRightFor}
 use Rattle.linked_imports.specs.Imports.{IsTypeAt, AreImportsWritten, AreImportsListed}
 use Rattle.component_encoding.specs.Growing.{IsMainInstance}
 use Rattle.component_encoding.specs.Instances.{AreLowerable, IsInstantiated}
 use Rattle.component_encoding.specs.Exports.{IsEntryOffered, AreTypes, AreExported}
 use Rattle.component_encoding.specs.Component.{ArePlacedBehind}
-use Rattle.component_imports.specs.Functions.{function_names}
+use Rattle.linked_imports.specs.Passed.component_imports-Functions.{function_names}
 use Rattle.component_encoding.specs.Placing.{ArePlaced, names_exported, StayPlaced, StayPlacedWithAll}
-use Rattle.type_sinks.specs.Placing.{as_definitions}
+use Rattle.linked_imports.specs.Passed.type_sinks-Placing.{as_definitions}
 use Rattle.component_encoding.proofs.Entries.{entry_scope, are_of_entries}
 use Rattle.component_encoding.proofs.Growth.{grows}
 use Rattle.component_encoding.proofs.Lowerable.{are_lowerable}
 use Rattle.component_encoding.proofs.Offered.{entries_offered}
 use Rattle.std.proofs.lemmas.Option.{slice_get_within}
-use Rattle.link_table.proofs.Pairwise.{placed}
+use Rattle.linked_imports.proofs.Passed.link_table-Pairwise.{placed}
 use Rattle.component_encoding.proofs.Lists.{get_there, each_of}
 use Rattle.component_encoding.proofs.Right.{is_right}
 

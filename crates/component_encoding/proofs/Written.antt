@@ -6,9 +6,9 @@ use Rattle.wasm_types.specs.declared.types.ExportKind.{ExportKind}
 use Rattle.wasm_types.specs.declared.types.ExportKind.TheVariants as kinds
 use Rattle.component_value_types.specs.Combinators.{NamedValue}
 use Rattle.component_instances.specs.declared.instances.CoreItem.{CoreItem as CoreIndex}
-use Rattle.component_meaning.specs.Core.{MainModule, CoreItem, of_items, CoreInstance}
-use Rattle.component_meaning.specs.Spaces.{Spaces, joined, core_space, instance_space, core_at, entry_named, core_export, argument_named, inline_entry, after}
-use Rattle.component_meaning.proofs.Staying.{spaces_end}
+use Rattle.linked_imports.specs.Passed.component_meaning-Core.{MainModule, CoreItem, of_items, CoreInstance}
+use Rattle.linked_imports.specs.Passed.component_meaning-Spaces.{Spaces, joined, core_space, instance_space, core_at, entry_named, core_export, argument_named, inline_entry, after}
+use Rattle.linked_imports.proofs.Passed.component_meaning-Staying.{spaces_end}
 use Rattle.component_encoding.specs.Given.{Under, named_in, given_as}
 use Rattle.component_encoding.specs.Instances.{lowering_of, instance_of, arguments_from, lowered}
 

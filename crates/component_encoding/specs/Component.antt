@@ -2,16 +2,16 @@
 use Rattle.std.specs.Prelude.{◌≡◌, ℕ, List, [], true}
 use Rattle.distinct_names.specs.Names.{all_new}
 use Rattle.wit_types.specs.declared.function.Function.{Function}
-use Rattle.link_table.specs.Linking.{Linking}
+use Rattle.linked_imports.specs.Passed.link_table-Linking.{Linking}
 use Rattle.component_entries.specs.Entries.{EntryValue}
 use Rattle.component_sections.specs.Component.{DefinitionValue, IsComponent}
-use Rattle.component_meaning.specs.Spaces.{meaning}
-use Rattle.link_table.specs.Table.{Table}
-use Rattle.right_components.specs.Main.{main_of}
-use Rattle.right_components.specs.Right.{IsRightFor}
-use Rattle.type_sinks.specs.Placing.{ArePlaced as EntriesArePlaced}
+use Rattle.linked_imports.specs.Passed.component_meaning-Spaces.{meaning}
+use Rattle.linked_imports.specs.Passed.link_table-Table.{Table}
+use Rattle.linked_imports.specs.Passed.right_components-Main.{main_of}
+use Rattle.linked_imports.specs.Passed.right_components-Right.{IsRightFor}
+use Rattle.linked_imports.specs.Passed.type_sinks-Placing.{ArePlaced as EntriesArePlaced}
 use Rattle.linked_imports.specs.Imports.{AreNeeded, AreListed, AreNamed}
-use Rattle.component_imports.specs.Functions.{function_names}
+use Rattle.linked_imports.specs.Passed.component_imports-Functions.{function_names}
 use Rattle.component_encoding.specs.Placing.{ArePlaced}
 
 -- items are known by their names, and whatever the table needs, the world lists what that is made of

@@ -7,17 +7,17 @@ use Rattle.wasm_types.specs.declared.types.ExportKind.TheVariants as kinds
 use Rattle.wasm_types.specs.Entries.{ExportValue}
 use Rattle.wasm_types.specs.Types.{FuncTypeValue}
 use Rattle.wit_types.specs.declared.mangling.AbiVariant.TheVariants.{GuestExport}
-use Rattle.type_meaning.specs.Words.{BinaryTree}
-use Rattle.type_meaning.specs.Items.{Origin, from_lift, a_function, Entry, type_at, is_function}
-use Rattle.component_meaning.specs.Core.{CoreType, of_function, MainModule}
-use Rattle.component_meaning.specs.Spaces.{Spaces}
-use Rattle.link_table.specs.Linking.{Linking, types_of}
-use Rattle.link_table.specs.Options.{Options}
-use Rattle.link_table.specs.Table.{ExportEntry}
-use Rattle.link_table.specs.Types.{HasCoreType}
+use Rattle.type_writing.specs.Passed.type_meaning-Words.{BinaryTree}
+use Rattle.type_writing.specs.Passed.type_meaning-Items.{Origin, from_lift, a_function, Entry, type_at, is_function}
+use Rattle.linked_imports.specs.Passed.component_meaning-Core.{CoreType, of_function, MainModule}
+use Rattle.linked_imports.specs.Passed.component_meaning-Spaces.{Spaces}
+use Rattle.linked_imports.specs.Passed.link_table-Linking.{Linking, types_of}
+use Rattle.linked_imports.specs.Passed.link_table-Options.{Options}
+use Rattle.linked_imports.specs.Passed.link_table-Table.{ExportEntry}
+use Rattle.linked_imports.specs.Passed.link_table-Types.{HasCoreType}
 use Rattle.component_definitions.specs.declared.canonical.CanonicalOption.{CanonicalOption}
-use Rattle.link_table.specs.View.{name_at}
-use Rattle.right_components.specs.Ends.{IsNameOfMemory, IsCoreExport, IsOptionOf, is_there, IsLiftOf}
+use Rattle.linked_imports.specs.Passed.link_table-View.{name_at}
+use Rattle.linked_imports.specs.Passed.right_components-Ends.{IsNameOfMemory, IsCoreExport, IsOptionOf, is_there, IsLiftOf}
 use Rattle.component_encoding.specs.Growing.{Offers}
 use Rattle.component_encoding.specs.declared.exports.Taken.{Taken}
 use Rattle.component_encoding.specs.declared.exports.Shared.{Shared}

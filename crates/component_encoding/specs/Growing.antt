@@ -1,8 +1,8 @@
 -- Definitions that follow others, and what they leave as it was (Component Model, Explainer, Index Spaces).
 use Rattle.std.specs.Prelude.{◌≡◌, ℕ, List, ◌∷◌, [], slice_get, Option, Some, None, true, bytes_eq, if◌then◌else◌}
 use Rattle.wasm_types.specs.declared.types.ExportKind.{ExportKind}
-use Rattle.component_meaning.specs.Core.{CoreType, is_of_kind, CoreExport, MainModule, of_export, CoreItem, CoreInstance}
-use Rattle.component_meaning.specs.Spaces.{Spaces, joined, exports_of}
+use Rattle.linked_imports.specs.Passed.component_meaning-Core.{CoreType, is_of_kind, CoreExport, MainModule, of_export, CoreItem, CoreInstance}
+use Rattle.linked_imports.specs.Passed.component_meaning-Spaces.{Spaces, joined, exports_of}
 
 abbrev pub Grows : Spaces → Spaces → Type 0
 Grows s t = (more : Spaces) × (t ≡ joined s more)

@@ -5,10 +5,10 @@ use Rattle.component_definitions.specs.Canonical.{lower}
 use Rattle.component_instances.specs.Instances.{core_instantiate, core_inline}
 use Rattle.component_sections.specs.Component.{DefinitionValue, a_core_instance, a_canonical}
 use Rattle.component_value_types.specs.Combinators.{NamedValue}
-use Rattle.type_meaning.specs.Items.{item_at}
-use Rattle.component_meaning.specs.Core.{matches, CoreImport, MainModule, CoreItem, of_main, of_items, CoreInstance}
-use Rattle.component_meaning.specs.Spaces.{Spaces, lowering, all_given, exports_of}
-use Rattle.link_table.specs.Pairwise.{Pairwise}
+use Rattle.type_writing.specs.Passed.type_meaning-Items.{item_at}
+use Rattle.linked_imports.specs.Passed.component_meaning-Core.{matches, CoreImport, MainModule, CoreItem, of_main, of_items, CoreInstance}
+use Rattle.linked_imports.specs.Passed.component_meaning-Spaces.{Spaces, lowering, all_given, exports_of}
+use Rattle.linked_imports.specs.Passed.link_table-Pairwise.{Pairwise}
 use Rattle.component_encoding.specs.Given.{Under}
 
 -- ---- what is written

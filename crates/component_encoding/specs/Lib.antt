@@ -4,3 +4,4 @@ pub mod Instances
 pub mod Exports
 pub mod Component
 pub mod Placing
+pub mod Passed

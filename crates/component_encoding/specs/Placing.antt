@@ -4,7 +4,7 @@ use Rattle.std.specs.Prelude.{◌≡◌, ℕ, List, true}
 use Rattle.binary_grammar.specs.Several.{grown}
 use Rattle.distinct_names.specs.Names.{is_new, with_name, all_new}
 use Rattle.wit_types.specs.declared.function.Function.{Function}
-use Rattle.component_imports.specs.Functions.{function_names}
+use Rattle.linked_imports.specs.Passed.component_imports-Functions.{function_names}
 use Rattle.component_entries.specs.Entries.{DefinedValue, nothing}
 use Rattle.component_sections.specs.Component.{DefinitionValue, with_definition, Follow}
 

@@ -3,11 +3,11 @@
 ghost use Rattle.std.specs.Prelude.{◌≡◌, ◌+◌, ◌<◌, ◌++◌, ◌∷◌, [], length, map, OnOk, IfOk};
 ghost use Rattle.component_definitions.specs.Canonical.{lower};
 ghost use Rattle.component_instances.specs.Instances.{core_argument_value};
-ghost use Rattle.component_meaning.specs.Spaces.{meaning};
+ghost use Rattle.linked_imports.specs.Passed.component_meaning-Spaces.{meaning};
 ghost use Rattle.component_sections.specs.Component.{a_canonical};
 ghost use Rattle.component_value_types.specs.Names.{named_value};
 ghost use Rattle.core_links.specs.Imports.{RepeatsPair};
-ghost use Rattle.right_components.specs.Main.{main_of};
+ghost use Rattle.linked_imports.specs.Passed.right_components-Main.{main_of};
 ghost use Rattle.type_writing.specs.Writing.{Begins};
 ghost use Rattle.wasm_format.specs.Module.{module_value};
 ghost use Rattle.wasm_types.specs.Entries.{import_value};

@@ -7,3 +7,4 @@ mod given;
 mod instances;
 
 pub use component::{component_of, encode};
+pub use linked_imports::{LinkTable, Linking, TableFault, law_tables_are_one, table_of};

@@ -5,8 +5,8 @@ use Rattle.binary_grammar.specs.declared.fault.Rule.{Rule}
 use Rattle.binary_grammar.specs.declared.fault.Rule.TheVariants as rules
 use Rattle.binary_grammar.specs.Syntax.{Syntax, unbounded, ◌◂◌, ◌>>=◌, gives, refuses, tested, where_known}
 use Rattle.distinct_names.specs.Names.{is_new, with_name}
-use Rattle.component_value_types.specs.declared.scope.Scope.{Scope}
-use Rattle.component_value_types.specs.Scope.{no_scope}
+use Rattle.component_definitions.specs.Passed.component_value_types-declared-scope-Scope.{Scope}
+use Rattle.component_definitions.specs.Passed.component_value_types-Scope.{no_scope}
 use Rattle.component_definitions.specs.declared.sorts.ComponentSort.TheVariants as components
 use Rattle.component_definitions.specs.declared.sorts.Sort.{Sort}
 use Rattle.component_definitions.specs.declared.sorts.Sort.TheVariants as sorts

@@ -5,7 +5,7 @@ use Rattle.binary_grammar.specs.declared.fault.Rule.{Rule}
 use Rattle.binary_grammar.specs.declared.fault.Rule.TheVariants as rules
 use Rattle.binary_grammar.specs.Several.{grown}
 use Rattle.binary_grammar.specs.Syntax.{Syntax, unbounded, bounded, ◌◂◌, ◌>>=◌, some_name, some_bytes, gives, refuses, tested, growing, sized, where_known, exactly, begins, seen, steps, bytes, IsTyped}
-use Rattle.component_value_types.specs.declared.scope.Scope.{Scope}
+use Rattle.component_definitions.specs.Passed.component_value_types-declared-scope-Scope.{Scope}
 use Rattle.component_definitions.specs.Counting.{inside}
 use Rattle.component_entries.specs.declared.entry.EntryKind.{EntryKind}
 use Rattle.component_entries.specs.declared.nested.NestedSection.{NestedSection}

@@ -10,9 +10,10 @@ ghost use Rattle.component_entries.specs.declared.entry.EntryKind.TheVariants as
 
 use crate::entry::{Entry, EntryKind, is_resource};
 use binary_grammar::{Part, ReadError, Reader, Rule, broken_at};
-use component_definitions::{Alias, Export, Import, IndexSpace, extern_name, inside, with_one};
+use component_definitions::{
+    Alias, Export, Import, IndexSpace, NO_SCOPE, Scope, extern_name, inside, with_one,
+};
 use component_instances::TypeDefinition;
-use component_value_types::{NO_SCOPE, Scope};
 use distinct_names::Names;
 use std::alloc::Global;
 

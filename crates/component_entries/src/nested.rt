@@ -4,9 +4,9 @@ ghost use Rattle.std.specs.Prelude.{◌≡◌, ◌++◌, map, IfOk, OnOk, Err};
 ghost use Rattle.std.specs.List.{flat_map, All};
 ghost use Rattle.binary_grammar.specs.Fault.{Gives};
 ghost use Rattle.binary_grammar.specs.Syntax.{meaning, sized, begins, some_name};
-ghost use Rattle.component_value_types.specs.declared.scope.Scope.{Scope};
+ghost use Rattle.component_definitions.specs.Passed.component_value_types-declared-scope-Scope.{Scope};
 ghost use Rattle.component_entries.specs.Entries.{entry_value};
-ghost use Rattle.component_value_types.specs.Scope.{no_scope};
+ghost use Rattle.component_definitions.specs.Passed.component_value_types-Scope.{no_scope};
 ghost use Rattle.component_entries.specs.Nested as spec;
 
 use crate::defined::Defined;
@@ -16,7 +16,7 @@ use binary_grammar::{
     Content, ReadError, Reader, Rule, Step, WriteFault, bounded_growing_of, broken_at, moved,
     steps_of,
 };
-use component_value_types::Scope;
+use component_definitions::Scope;
 use std::alloc::{AllocError, Global};
 
 /// A component within a component, which has aliases, types, imports and exports alone, and defines no resource.
@@ -156,7 +156,7 @@ impl<'a> Content<'a> for NestedComponent<'a> {
     type Context = Scope;
 
     ghost use Rattle.std.specs.Prelude.{List};
-    ghost use Rattle.component_value_types.specs.declared.scope.Scope.{Scope};
+    ghost use Rattle.component_definitions.specs.Passed.component_value_types-declared-scope-Scope.{Scope};
     ghost use Rattle.component_entries.specs.Entries.{EntryValue};
     ghost use Rattle.component_entries.specs.Nested as spec;
 

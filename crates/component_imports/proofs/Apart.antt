@@ -23,8 +23,8 @@ use Rattle.wit_reach.specs.Deps.{interface_of}
 use Rattle.wit_order.proofs.Lists.{has_was}
 use Rattle.wit_reach.proofs.Lists.{has_append}
 use Rattle.wit_reach.proofs.Ends.{reaches_more}
-use Rattle.type_meaning.specs.Tree.{Parts}
-use Rattle.type_writing.specs.Unfolding.{OwnName, WitTree, FormOf, form_of, under_name, Unfolds, unfolds_primitive, unfolds_type, KindUnfolds, unfolds_form, unfolds_alias, PartsUnfold, no_parts, gap_unfolds, part_unfolds}
+use Rattle.type_sinks.specs.Passed.type_meaning-Tree.{Parts}
+use Rattle.type_sinks.specs.Passed.type_writing-Unfolding.{OwnName, WitTree, FormOf, form_of, under_name, Unfolds, unfolds_primitive, unfolds_type, KindUnfolds, unfolds_form, unfolds_alias, PartsUnfold, no_parts, gap_unfolds, part_unfolds}
 use Rattle.type_sinks.specs.Inside.{is_of, IsApart, AreApart}
 use Rattle.wit_reach.specs.Holding.{IsUpTo, TypesUseEarlier}
 use Rattle.component_imports.specs.Order.{EarlierTypesAreApart}

@@ -7,7 +7,7 @@ use Rattle.std.proofs.lemmas.List.{append-nil, map-append}
 use Rattle.std.proofs.lemmas.Grind.{flat_map-append}
 use Rattle.wit_types.specs.declared.function.Function.{Function}
 use Rattle.wit_reach.specs.Ids.{function_ids}
-use Rattle.type_writing.proofs.Standing.{taken_next}
+use Rattle.type_sinks.proofs.Passed.type_writing-Standing.{taken_next}
 use Rattle.component_imports.specs.Functions.{functions_of}
 use Rattle.component_imports.specs.Interfaces.{ids_of, linked_of, asked}
 use Rattle.component_imports.proofs.Exported.{functions_next}

@@ -10,7 +10,7 @@ use Rattle.wit_order.specs.Order.{Has}
 use Rattle.wit_types.specs.declared.function.Function.{Function}
 use Rattle.wit_types.specs.declared.interface.TypeDef.{TypeDef}
 use Rattle.wit_reach.specs.Paths.{AreRising}
-use Rattle.type_writing.specs.Writing.{name_given}
+use Rattle.type_sinks.specs.Passed.type_writing-Writing.{name_given}
 use Rattle.type_sinks.specs.Inside.{is_of}
 use Rattle.component_imports.specs.Functions.{function_names}
 use Rattle.component_imports.specs.Interfaces.{owned_name, owned_names}

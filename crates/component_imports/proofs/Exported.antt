@@ -7,10 +7,10 @@ use Rattle.std.proofs.lemmas.List.{map-append, take-append-drop}
 use Rattle.wit_order.specs.Order.{Has}
 use Rattle.wit_types.specs.declared.function.Function.{Function}
 use Rattle.wit_types.specs.declared.function.Param.{Param}
-use Rattle.type_writing.specs.Functions.{function_form}
-use Rattle.type_writing.specs.Placing.{AreParametersApart}
-use Rattle.type_writing.proofs.Standing.{taken_next}
-use Rattle.type_writing.proofs.Refusals.{parts_less}
+use Rattle.type_sinks.specs.Passed.type_writing-Functions.{function_form}
+use Rattle.type_sinks.specs.Passed.type_writing-Placing.{AreParametersApart}
+use Rattle.type_sinks.proofs.Passed.type_writing-Standing.{taken_next}
+use Rattle.type_sinks.proofs.Passed.type_writing-Refusals.{parts_less}
 use Rattle.component_imports.specs.Functions.{functions_of, function_names, HaveParametersApart, IsFunctionUnready, AreFunctionsUnready}
 
 pub functions_next : (fs : List (Bor Function)) (i : ℕ) (f : Bor Function) → i < length fs → f ≡ get_or fs i f → functions_of (take i fs) ++ f.now ∷ [] ≡ functions_of (take (i + 1) fs)

@@ -9,13 +9,13 @@ use Rattle.wit_types.specs.declared.kind.«Type».{«Type» as Ref}
 use Rattle.wit_types.specs.declared.function.Param.{Param}
 use Rattle.wit_types.specs.declared.interface.TypeDef.{TypeDef}
 use Rattle.wit_types.specs.declared.function.Function.{Function}
-use Rattle.type_meaning.specs.Words.{Site, imported}
-use Rattle.type_writing.specs.declared.fault.Fault.{Fault}
-use Rattle.type_writing.specs.Writing.{Setting, Begins, HasItsName, names_of_types, IsRemembered}
-use Rattle.type_writing.specs.Refusals.{IsCause}
-use Rattle.type_writing.proofs.Standing.{begins_on}
+use Rattle.type_sinks.specs.Passed.type_meaning-Words.{Site, imported}
+use Rattle.type_sinks.specs.Passed.type_writing-declared-fault-Fault.{Fault}
+use Rattle.type_sinks.specs.Passed.type_writing-Writing.{Setting, Begins, HasItsName, names_of_types, IsRemembered}
+use Rattle.type_sinks.specs.Passed.type_writing-Refusals.{IsCause}
+use Rattle.type_sinks.proofs.Passed.type_writing-Standing.{begins_on}
 use Rattle.type_sinks.proofs.Keeping.{each_keeps}
-use Rattle.type_writing.proofs.Refusals.{cause_weaker, types_less}
+use Rattle.type_sinks.proofs.Passed.type_writing-Refusals.{cause_weaker, types_less}
 use Rattle.type_sinks.specs.declared.root.Root.{Root}
 use Rattle.type_sinks.specs.declared.inside.InterfaceTypes.{InterfaceTypes}
 use Rattle.type_sinks.specs.Kept.{index_of}

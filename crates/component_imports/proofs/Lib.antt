@@ -11,3 +11,4 @@ mod Turns
 mod Apart
 mod Earlier
 mod Distinct
+pub mod Passed

@@ -20,8 +20,8 @@ use Rattle.wit_reach.proofs.Sorting.{belongs_one}
 use Rattle.wit_reach.proofs.Lists.{has_parts, has_append}
 use Rattle.wit_reach.proofs.Ends.{reaches_then}
 use Rattle.wit_reach.proofs.Seen.{path_over}
-use Rattle.type_meaning.specs.Words.{imported}
-use Rattle.type_writing.specs.Writing.{HasItsName, name_given, names_of_types, IsRemembered}
+use Rattle.type_sinks.specs.Passed.type_meaning-Words.{imported}
+use Rattle.type_sinks.specs.Passed.type_writing-Writing.{HasItsName, name_given, names_of_types, IsRemembered}
 use Rattle.type_sinks.specs.declared.root.Root.{Root}
 use Rattle.type_sinks.specs.Kept.{index_of}
 use Rattle.type_sinks.specs.Root.{IsHome}

@@ -20,9 +20,9 @@ use Rattle.wit_types.specs.declared.interface.TypeDef.{TypeDef}
 use Rattle.wit_order.proofs.Lists.{has_was}
 use Rattle.wit_reach.proofs.Lists.{has_parts, has_append}
 use Rattle.wit_reach.specs.Ids.{ref_ids, part_ids, kind_ids, signature_ids}
-use Rattle.type_writing.specs.Functions.{function_form}
-use Rattle.type_writing.specs.Writing.{Setting, name_of, name_given, names_of_types}
-use Rattle.type_writing.specs.Refusals.{IsUnready as IsPartUnready, AreUnready, IsKindUnready, IsNamedUnready, IsDefUnready, AreTypesUnready}
+use Rattle.type_sinks.specs.Passed.type_writing-Functions.{function_form}
+use Rattle.type_sinks.specs.Passed.type_writing-Writing.{Setting, name_of, name_given, names_of_types}
+use Rattle.type_sinks.specs.Passed.type_writing-Refusals.{IsUnready as IsPartUnready, AreUnready, IsKindUnready, IsNamedUnready, IsDefUnready, AreTypesUnready}
 use Rattle.type_sinks.specs.declared.root.Root.{Root}
 use Rattle.component_imports.specs.Functions.{function_names, AreFunctionsUnready}
 use Rattle.type_sinks.specs.Views.{setting_over}

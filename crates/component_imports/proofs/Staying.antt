@@ -8,10 +8,10 @@ use Rattle.wit_types.specs.declared.kind.«Type».{«Type» as Ref}
 use Rattle.wit_types.specs.declared.function.Param.{Param}
 use Rattle.wit_types.specs.declared.function.Function.{Function}
 use Rattle.wit_types.specs.declared.interface.TypeDef.{TypeDef}
-use Rattle.type_meaning.specs.Words.{Site, imported}
-use Rattle.type_meaning.specs.Items.{Item, Items, an_instance, or_nothing, item_at, from_import, a_function}
-use Rattle.type_writing.specs.Writing.{Begins, name_of, names_of_types, written}
-use Rattle.type_writing.proofs.Standing.{begins_here, begins_on, get_begin}
+use Rattle.type_sinks.specs.Passed.type_meaning-Words.{Site, imported}
+use Rattle.type_sinks.specs.Passed.type_meaning-Items.{Item, Items, an_instance, or_nothing, item_at, from_import, a_function}
+use Rattle.type_sinks.specs.Passed.type_writing-Writing.{Begins, name_of, names_of_types, written}
+use Rattle.type_sinks.proofs.Passed.type_writing-Standing.{begins_here, begins_on, get_begin}
 use Rattle.type_sinks.specs.declared.root.Root.{Root}
 use Rattle.type_sinks.specs.Root.{root_label, IsHome}
 use Rattle.type_sinks.specs.Views.{root_scope, root_names, interface_names, RootIsGood, IsInstanceWith, InstanceHasFunction}

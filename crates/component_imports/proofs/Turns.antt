@@ -19,7 +19,7 @@ use Rattle.wit_reach.specs.Deps.{interface_of}
 use Rattle.wit_order.proofs.Lists.{has_was}
 use Rattle.wit_reach.proofs.Lists.{has_parts, has_append}
 use Rattle.wit_reach.proofs.Ends.{reaches_more}
-use Rattle.type_writing.specs.Writing.{IsRemembered}
+use Rattle.type_sinks.specs.Passed.type_writing-Writing.{IsRemembered}
 use Rattle.type_sinks.specs.Kept.{index_of}
 use Rattle.type_sinks.specs.declared.root.Root.{Root}
 use Rattle.type_sinks.specs.Inside.{is_of}

@@ -8,12 +8,12 @@ use Rattle.wit_types.specs.declared.kind.«Type».{«Type» as Ref}
 use Rattle.wit_types.specs.declared.function.Param.{Param}
 use Rattle.wit_types.specs.declared.function.Function.{Function}
 use Rattle.wit_types.specs.declared.interface.TypeDef.{TypeDef}
-use Rattle.type_meaning.specs.Words.{Label, BinaryTree}
-use Rattle.type_meaning.specs.Items.{Item, or_nothing, nothing, a_type, a_function, an_instance_type, an_instance, type_if, type_at, is_function}
-use Rattle.type_writing.specs.Functions.{FunctionStands}
-use Rattle.type_writing.specs.Unfolding.{OwnName}
-use Rattle.type_writing.specs.Writing.{Begins, Setting, written}
-use Rattle.type_writing.proofs.Standing.{get_begin, begins_on, begins_same}
+use Rattle.type_sinks.specs.Passed.type_meaning-Words.{Label, BinaryTree}
+use Rattle.type_sinks.specs.Passed.type_meaning-Items.{Item, or_nothing, nothing, a_type, a_function, an_instance_type, an_instance, type_if, type_at, is_function}
+use Rattle.type_sinks.specs.Passed.type_writing-Functions.{FunctionStands}
+use Rattle.type_sinks.specs.Passed.type_writing-Unfolding.{OwnName}
+use Rattle.type_sinks.specs.Passed.type_writing-Writing.{Begins, Setting, written}
+use Rattle.type_sinks.proofs.Passed.type_writing-Standing.{get_begin, begins_on, begins_same}
 use Rattle.type_sinks.specs.declared.root.Root.{Root}
 use Rattle.type_sinks.specs.Root.{root_label}
 use Rattle.type_sinks.specs.Views.{root_scope, root_names, interface_names, root_setting, RootIsGood}

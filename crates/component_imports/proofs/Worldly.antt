@@ -7,11 +7,11 @@ use Rattle.wit_types.specs.declared.kind.«Type».{«Type» as Ref}
 use Rattle.wit_types.specs.declared.function.Param.{Param}
 use Rattle.wit_types.specs.declared.function.Function.{Function}
 use Rattle.wit_types.specs.declared.interface.TypeDef.{TypeDef}
-use Rattle.type_meaning.specs.Words.{Label, BinaryTree}
-use Rattle.type_meaning.specs.Items.{Item, Origin, or_nothing, from_import, a_function}
-use Rattle.type_meaning.specs.Scope.{import_label}
-use Rattle.type_writing.specs.Writing.{Begins, written}
-use Rattle.type_writing.proofs.Standing.{get_begin}
+use Rattle.type_sinks.specs.Passed.type_meaning-Words.{Label, BinaryTree}
+use Rattle.type_sinks.specs.Passed.type_meaning-Items.{Item, Origin, or_nothing, from_import, a_function}
+use Rattle.type_sinks.specs.Passed.type_meaning-Scope.{import_label}
+use Rattle.type_sinks.specs.Passed.type_writing-Writing.{Begins, written}
+use Rattle.type_sinks.proofs.Passed.type_writing-Standing.{get_begin}
 use Rattle.type_sinks.specs.declared.root.Root.{Root}
 use Rattle.type_sinks.specs.Root.{root_label}
 use Rattle.type_sinks.specs.Views.{root_scope, interface_names, IsFunctionAt}

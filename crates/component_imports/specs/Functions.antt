@@ -5,9 +5,9 @@ use Rattle.std.specs.List.{AllByRecursion as Each}
 use Rattle.distinct_names.specs.Names.{is_new}
 use Rattle.wit_types.specs.declared.function.Function.{Function}
 use Rattle.wit_types.specs.declared.interface.TypeDef.{TypeDef}
-use Rattle.type_writing.specs.Functions.{function_form}
-use Rattle.type_writing.specs.Placing.{AreParametersApart}
-use Rattle.type_writing.specs.Refusals.{AreUnready}
+use Rattle.type_sinks.specs.Passed.type_writing-Functions.{function_form}
+use Rattle.type_sinks.specs.Passed.type_writing-Placing.{AreParametersApart}
+use Rattle.type_sinks.specs.Passed.type_writing-Refusals.{AreUnready}
 use Rattle.type_sinks.specs.declared.inside.InterfaceTypes.{InterfaceTypes}
 use Rattle.type_sinks.specs.Views.{HasFunction}
 

@@ -5,10 +5,10 @@ use Rattle.distinct_names.specs.Names.{is_new}
 use Rattle.wit_order.specs.Order.{Has}
 use Rattle.wit_types.specs.declared.function.Function.{Function}
 use Rattle.wit_types.specs.declared.interface.TypeDef.{TypeDef}
-use Rattle.type_meaning.specs.Words.{imported}
-use Rattle.type_writing.specs.declared.fault.Fault.{Fault}
-use Rattle.type_writing.specs.Writing.{Setting, Begins, HasItsName, names_of_types, IsRemembered}
-use Rattle.type_writing.specs.Refusals.{IsCause, AreTypesUnready}
+use Rattle.type_sinks.specs.Passed.type_meaning-Words.{imported}
+use Rattle.type_sinks.specs.Passed.type_writing-declared-fault-Fault.{Fault}
+use Rattle.type_sinks.specs.Passed.type_writing-Writing.{Setting, Begins, HasItsName, names_of_types, IsRemembered}
+use Rattle.type_sinks.specs.Passed.type_writing-Refusals.{IsCause, AreTypesUnready}
 use Rattle.type_sinks.specs.declared.root.Root.{Root}
 use Rattle.type_sinks.specs.declared.inside.InterfaceTypes.{InterfaceTypes}
 use Rattle.type_sinks.specs.Kept.{index_of}

@@ -12,12 +12,12 @@ use Rattle.wit_reach.specs.Needed.{AreNeeded}
 use Rattle.wit_reach.specs.Paths.{AreEnds}
 use Rattle.wit_reach.specs.Made.{IsMadeOfWithin}
 use Rattle.wit_types.specs.declared.interface.TypeOwner.TheVariants as belongs
-use Rattle.type_meaning.specs.Words.{imported}
-use Rattle.type_writing.specs.Writing.{Begins, HasItsName, name_given, IsRemembered}
+use Rattle.type_sinks.specs.Passed.type_meaning-Words.{imported}
+use Rattle.type_sinks.specs.Passed.type_writing-Writing.{Begins, HasItsName, name_given, IsRemembered}
 use Rattle.type_sinks.specs.declared.root.Root.{Root}
 use Rattle.type_sinks.specs.Kept.{index_of}
 use Rattle.wit_types.specs.declared.kind.«Type».TheVariants.{Id}
-use Rattle.type_writing.specs.Unfolding.{WitTree, Unfolds}
+use Rattle.type_sinks.specs.Passed.type_writing-Unfolding.{WitTree, Unfolds}
 use Rattle.type_sinks.specs.Inside.{is_of, IsApart}
 use Rattle.type_sinks.specs.Root.{IsHome}
 use Rattle.type_sinks.specs.Views.{root_scope, root_names, interface_names, RootIsGood, IsInstanceWith, IsTypeOf, InstanceHasFunction}

@@ -5,3 +5,4 @@ pub mod World
 pub mod Ready
 pub mod Order
 pub mod Distinct
+pub mod Passed

@@ -12,9 +12,9 @@ use Rattle.wit_reach.specs.Paths.{AreRising, Reaches}
 use Rattle.wit_reach.specs.Types.{IsMadeOf}
 use Rattle.wit_reach.specs.Made.{IsMadeOfWithin}
 use Rattle.wit_reach.specs.Needed.{BelongsTo}
-use Rattle.type_writing.specs.Functions.{function_form}
-use Rattle.type_writing.specs.Writing.{Setting, names_of_types, IsRemembered}
-use Rattle.type_writing.specs.Refusals.{AreUnready, IsKindUnready}
+use Rattle.type_sinks.specs.Passed.type_writing-Functions.{function_form}
+use Rattle.type_sinks.specs.Passed.type_writing-Writing.{Setting, names_of_types, IsRemembered}
+use Rattle.type_sinks.specs.Passed.type_writing-Refusals.{AreUnready, IsKindUnready}
 use Rattle.type_sinks.specs.declared.root.Root.{Root}
 use Rattle.type_sinks.specs.Inside.{is_of}
 use Rattle.type_sinks.specs.Views.{root_names, root_setting, interface_names}

@@ -7,10 +7,10 @@ use Rattle.wit_types.specs.declared.interface.TypeDef.{TypeDef}
 use Rattle.wit_types.specs.declared.interface.TypeOwner.TheVariants as belongs
 use Rattle.wit_reach.specs.Paths.{AreEnds}
 use Rattle.wit_reach.specs.Made.{IsMadeOfWithin}
-use Rattle.type_meaning.specs.Scope.{import_label}
-use Rattle.type_writing.specs.Functions.{function_form, FunctionStands}
-use Rattle.type_writing.specs.Refusals.{AreUnready}
-use Rattle.type_writing.specs.Writing.{Begins, names_of_types, IsRemembered}
+use Rattle.type_sinks.specs.Passed.type_meaning-Scope.{import_label}
+use Rattle.type_sinks.specs.Passed.type_writing-Functions.{function_form, FunctionStands}
+use Rattle.type_sinks.specs.Passed.type_writing-Refusals.{AreUnready}
+use Rattle.type_sinks.specs.Passed.type_writing-Writing.{Begins, names_of_types, IsRemembered}
 use Rattle.type_sinks.specs.Root.{root_label}
 use Rattle.type_sinks.specs.declared.root.Root.{Root}
 use Rattle.type_sinks.specs.Kept.{index_of}

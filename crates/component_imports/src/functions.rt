@@ -3,15 +3,14 @@
 ghost use Rattle.std.specs.Prelude.{◌≡◌, ◌++◌, List, OnOk, IfErr};
 ghost use Rattle.std.specs.List.{AllByRecursion as Each};
 ghost use Rattle.wit_types.specs.declared.interface.TypeDef.{TypeDef as Def};
-ghost use Rattle.type_writing.specs.Refusals.{IsCause};
-ghost use Rattle.type_writing.specs.Writing.{IsRemembered};
+ghost use Rattle.type_sinks.specs.Passed.type_writing-Refusals.{IsCause};
+ghost use Rattle.type_sinks.specs.Passed.type_writing-Writing.{IsRemembered};
 ghost use Rattle.type_sinks.specs.Kept.{index_of};
 ghost use Rattle.type_sinks.specs.Views.{inside_names, inside_setting, InsideIsGood, InsideIsPlaced, IsFullInside};
 ghost use Rattle.component_imports.specs.Functions.{functions_of, function_names, HasFunctionOf, HaveParametersApart, AreFunctionsUnready};
 
 use std::alloc::Global;
-use type_sinks::InterfaceTypes;
-use type_writing::Fault;
+use type_sinks::{Fault, InterfaceTypes};
 use wit_types::Function;
 
 /// Exports functions, in order. Answers `NotYet` where a type of one isn't written or the name of one is there already, `TooLarge` where

@@ -2,9 +2,9 @@
 
 ghost use Rattle.std.specs.Prelude.{◌≡◌, ◌<◌, ◌++◌, [], length, IfOk, IfErr, OnOk};
 ghost use Rattle.std.specs.List.{All, AllByRecursion as Each};
-ghost use Rattle.type_writing.specs.Placing.{AreLabelsApart};
-ghost use Rattle.type_writing.specs.Refusals.{IsCause};
-ghost use Rattle.type_writing.specs.Writing.{Begins, HasItsName, names_of_types, IsRemembered};
+ghost use Rattle.type_sinks.specs.Passed.type_writing-Placing.{AreLabelsApart};
+ghost use Rattle.type_sinks.specs.Passed.type_writing-Refusals.{IsCause};
+ghost use Rattle.type_sinks.specs.Passed.type_writing-Writing.{Begins, HasItsName, names_of_types, IsRemembered};
 ghost use Rattle.type_sinks.specs.Inside.{TakenAreApart};
 ghost use Rattle.type_sinks.specs.Kept.{index_of};
 ghost use Rattle.type_sinks.specs.Views.{root_scope, RootIsGood, RootIsPlaced, inside_names, inside_setting, setting_over, InsideIsGood, InsideIsPlaced, IsFullInside, IsGiven};
@@ -13,8 +13,7 @@ ghost use Rattle.component_imports.specs.Interface.{AreItemsUnready, IsFilled, I
 
 use crate::functions::export_functions;
 use std::alloc::Global;
-use type_sinks::{InterfaceTypes, Root};
-use type_writing::{Fault, write_types};
+use type_sinks::{Fault, InterfaceTypes, Root, write_types};
 use wit_types::{Arena, Function, InterfaceId, TypeDef, TypeId};
 
 /// Writes types and exports functions over them.

@@ -13,15 +13,14 @@ ghost use Rattle.type_sinks.specs.Inside.{TakenAreApart};
 ghost use Rattle.type_sinks.specs.Kept.{index_of};
 ghost use Rattle.type_sinks.specs.Views.{root_scope, RootIsGood, RootIsPlaced};
 ghost use Rattle.component_imports.specs.Functions.{functions_of, HaveParametersApart};
-ghost use Rattle.type_writing.specs.Placing.{AreLabelsApart};
-ghost use Rattle.type_writing.specs.Refusals.{IsCause};
+ghost use Rattle.type_sinks.specs.Passed.type_writing-Placing.{AreLabelsApart};
+ghost use Rattle.type_sinks.specs.Passed.type_writing-Refusals.{IsCause};
 ghost use Rattle.component_imports.specs.Interfaces as spec;
 ghost use Rattle.component_imports.specs.Ready.{AreWritable};
 
 use crate::interface::import_interface;
 use std::alloc::{AllocError, Global};
-use type_sinks::Root;
-use type_writing::Fault;
+use type_sinks::{Fault, Root};
 use wit_reach::{NeededTypes, add_function, made_of_within};
 use wit_types::{Arena, Function, InterfaceId, TypeDef, TypeId, TypeOwner};
 

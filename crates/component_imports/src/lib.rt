@@ -13,4 +13,5 @@ pub use law::{
     law_apart_are_distinct, law_earlier_types_are_apart, law_earlier_types_are_used,
     law_ready_functions_are_imported, law_ready_is_imported,
 };
+pub use type_sinks::Root;
 pub use world::{WrittenFunctions, import_functions, write_functions};

@@ -3,9 +3,9 @@
 ghost use Rattle.std.specs.Prelude.{◌≡◌, ◌++◌, List, length, IfOk, IfErr, OnOk};
 ghost use Rattle.wit_types.specs.declared.interface.TypeDef.{TypeDef as Def};
 ghost use Rattle.wit_reach.specs.Types.{AreTypesBackward, AreTypesThere};
-ghost use Rattle.type_writing.specs.Placing.{AreLabelsApart};
-ghost use Rattle.type_writing.specs.Refusals.{IsCause};
-ghost use Rattle.type_writing.specs.Writing.{Begins, IsRemembered};
+ghost use Rattle.type_sinks.specs.Passed.type_writing-Placing.{AreLabelsApart};
+ghost use Rattle.type_sinks.specs.Passed.type_writing-Refusals.{IsCause};
+ghost use Rattle.type_sinks.specs.Passed.type_writing-Writing.{Begins, IsRemembered};
 ghost use Rattle.type_sinks.specs.Kept.{index_of};
 ghost use Rattle.type_sinks.specs.Views.{root_scope, root_names, interface_names, RootIsGood, RootIsPlaced};
 ghost use Rattle.component_imports.specs.Functions.{functions_of, function_names, HaveParametersApart, AreFunctionsUnready};
@@ -14,8 +14,7 @@ ghost use Rattle.component_imports.specs.World.{AreFunctionsAt, AreWorldItemsImp
 
 use crate::interfaces::add_functions;
 use std::alloc::Global;
-use type_sinks::Root;
-use type_writing::{Fault, write_function, write_types};
+use type_sinks::{Fault, Root, write_function, write_types};
 use wit_reach::made_of_within;
 use wit_types::{Arena, Function, TypeDef, TypeId, TypeOwner, WorldId};
 

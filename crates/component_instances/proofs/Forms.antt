@@ -1,10 +1,10 @@
 -- No defined type begins as a resource type or the type of an instance does.
 use Rattle.std.proofs.Common.{◌≡◌, false, refl}
 use Rattle.std.specs.Prelude.{◌==◌}
-use Rattle.component_value_types.specs.declared.values.PrimitiveValueType.{PrimitiveValueType}
-use Rattle.component_value_types.specs.declared.values.PrimitiveValueType.TheVariants as primitives
-use Rattle.component_value_types.specs.Values.{primitive_byte}
-use Rattle.component_value_types.specs.Types.{DefinedTypeValue, which, primitive, record_of, variant_of, list_of, fixed_length_list_of, tuple_of, flags_of, enum_of, option_of, result_of, own, borrow, function}
+use Rattle.component_definitions.specs.Passed.component_value_types-declared-values-PrimitiveValueType.{PrimitiveValueType}
+use Rattle.component_definitions.specs.Passed.component_value_types-declared-values-PrimitiveValueType-TheVariants as primitives
+use Rattle.component_definitions.specs.Passed.component_value_types-Values.{primitive_byte}
+use Rattle.component_definitions.specs.Passed.component_value_types-Types.{DefinedTypeValue, which, primitive, record_of, variant_of, list_of, fixed_length_list_of, tuple_of, flags_of, enum_of, option_of, result_of, own, borrow, function}
 
 primitive_is_not : (p : PrimitiveValueType) → ((primitive_byte p == 0x3f) ≡ false) × ((primitive_byte p == 0x42) ≡ false)
 primitive_is_not primitives.Bool = (refl, refl)

@@ -3,10 +3,10 @@ use Rattle.std.specs.Prelude.{ℕ, List, [], ◌∷◌, ◌++◌, map, Bool, tru
 use Rattle.binary_grammar.specs.declared.fault.Rule.TheVariants as rules
 use Rattle.binary_grammar.specs.Syntax.{Syntax, unbounded, ◌◂◌, ◌>>=◌, one_byte, gives, refuses, tested, growing, where_known}
 use Rattle.distinct_names.specs.Names.{is_new, with_name}
-use Rattle.component_value_types.specs.declared.scope.Scope.{Scope}
-use Rattle.component_value_types.specs.declared.values.PrimitiveValueType.TheVariants as primitives
-use Rattle.component_value_types.specs.Scope.{Grammar}
-use Rattle.component_value_types.specs.Types.{DefinedTypeValue, defined_type_value, defined_type, primitive}
+use Rattle.component_definitions.specs.Passed.component_value_types-declared-scope-Scope.{Scope}
+use Rattle.component_definitions.specs.Passed.component_value_types-declared-values-PrimitiveValueType-TheVariants as primitives
+use Rattle.component_definitions.specs.Passed.component_value_types-Scope.{Grammar}
+use Rattle.component_definitions.specs.Passed.component_value_types-Types.{DefinedTypeValue, defined_type_value, defined_type, primitive}
 use Rattle.component_definitions.specs.declared.sorts.ComponentSort.TheVariants as components
 use Rattle.component_definitions.specs.declared.sorts.Sort.{Sort}
 use Rattle.component_definitions.specs.declared.sorts.Sort.TheVariants as sorts

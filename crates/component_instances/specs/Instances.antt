@@ -2,11 +2,11 @@
 use Rattle.std.specs.Prelude.{ℕ, List, [], map, ◌==◌, if◌then◌else◌}
 use Rattle.binary_grammar.specs.declared.fault.Rule.TheVariants as rules
 use Rattle.binary_grammar.specs.Syntax.{◌◂◌, ◌>>=◌, one_byte, gives, refuses, vec, byte_is}
-use Rattle.wasm_types.specs.Types.{kind_of, kind_byte}
-use Rattle.wasm_types.specs.Code.{coded}
-use Rattle.component_value_types.specs.Combinators.{NamedValue, named_vec, distinct}
-use Rattle.component_value_types.specs.Names.{named_value}
-use Rattle.component_value_types.specs.Scope.{Grammar, index}
+use Rattle.component_definitions.specs.Passed.wasm_types-Types.{kind_of, kind_byte}
+use Rattle.component_definitions.specs.Passed.wasm_types-Code.{coded}
+use Rattle.component_definitions.specs.Passed.component_value_types-Combinators.{NamedValue, named_vec, distinct}
+use Rattle.component_definitions.specs.Passed.component_value_types-Names.{named_value}
+use Rattle.component_definitions.specs.Passed.component_value_types-Scope.{Grammar, index}
 use Rattle.component_instances.specs.declared.instances.CoreArgument.{CoreArgument}
 use Rattle.component_instances.specs.declared.instances.CoreItem.{CoreItem}
 use Rattle.component_instances.specs.declared.instances.Item.{Item}

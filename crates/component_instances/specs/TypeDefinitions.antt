@@ -2,11 +2,11 @@
 use Rattle.std.specs.Prelude.{ℕ, List, [], Option, None, option_map, ◌==◌, if◌then◌else◌}
 use Rattle.binary_grammar.specs.declared.fault.Rule.TheVariants as rules
 use Rattle.binary_grammar.specs.Syntax.{◌◂◌, ◌>>=◌, one_byte, gives, byte_is}
-use Rattle.component_value_types.specs.Combinators.{optional}
-use Rattle.component_value_types.specs.Scope.{Grammar, index}
-use Rattle.component_value_types.specs.Types as values
-use Rattle.component_value_types.specs.Types.{DefinedTypeValue, defined_type_value, primitive}
-use Rattle.component_value_types.specs.declared.values.PrimitiveValueType.TheVariants as primitives
+use Rattle.component_definitions.specs.Passed.component_value_types-Combinators.{optional}
+use Rattle.component_definitions.specs.Passed.component_value_types-Scope.{Grammar, index}
+use Rattle.component_definitions.specs.Passed.component_value_types-Types as values
+use Rattle.component_definitions.specs.Passed.component_value_types-Types.{DefinedTypeValue, defined_type_value, primitive}
+use Rattle.component_definitions.specs.Passed.component_value_types-declared-values-PrimitiveValueType-TheVariants as primitives
 use Rattle.component_instances.specs.declared.type_definitions.ResourceType.{ResourceType}
 use Rattle.component_instances.specs.declared.type_definitions.CoreFunctionIndex.{CoreFunctionIndex}
 use Rattle.component_instances.specs.declared.type_definitions.TypeDefinition.{TypeDefinition}

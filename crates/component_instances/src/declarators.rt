@@ -10,10 +10,9 @@ use binary_grammar::{
     Part, ReadError, Reader, Rule, Step, WriteFault, broken_at, growing_of, put_number,
 };
 use component_definitions::{
-    Alias, ComponentSort, Description, IndexSpace, Sort, described_sort, extern_name, inside,
-    put_extern_name, with_one,
+    Alias, ComponentSort, DefinedType, Description, IndexSpace, Scope, Sort, described_sort,
+    extern_name, inside, put_extern_name, with_one,
 };
-use component_value_types::{DefinedType, Scope};
 use distinct_names::Names;
 
 /// What an instance type says (Component Model Binary, Type Definitions, Instance Declarators).
@@ -190,7 +189,7 @@ impl<'a> Part<'a> for InstanceType<'a> {
     type Context = Scope;
 
     ghost use Rattle.std.specs.Prelude.{List};
-    ghost use Rattle.component_value_types.specs.declared.scope.Scope.{Scope};
+    ghost use Rattle.component_definitions.specs.Passed.component_value_types-declared-scope-Scope.{Scope};
     ghost use Rattle.component_instances.specs.Declarators as spec;
 
     ghost Value = { List spec.DeclaratorValue };

@@ -3,14 +3,15 @@
 ghost use Rattle.std.specs.Prelude.{◌≡◌, map};
 ghost use Rattle.binary_grammar.specs.Fault.{Gives};
 ghost use Rattle.binary_grammar.specs.Syntax.{meaning, vec};
-ghost use Rattle.component_value_types.specs.Combinators.{named_vec, distinct};
-ghost use Rattle.component_value_types.specs.Names.{named_value};
+ghost use Rattle.component_definitions.specs.Passed.component_value_types-Combinators.{named_vec, distinct};
+ghost use Rattle.component_definitions.specs.Passed.component_value_types-Names.{named_value};
 ghost use Rattle.component_instances.specs.Instances as spec;
 
 use binary_grammar::{Part, ReadError, Reader, Rule, WriteFault, put_number, put_vec};
-use component_definitions::{Sort, core_count, count, extern_name, put_extern_name};
-use component_value_types::{HasName, Named, Scope, distinct_vec_of};
-use wasm_types::{Code, ExportKind, coded_of};
+use component_definitions::{
+    Code, ExportKind, HasName, Named, Scope, Sort, coded_of, core_count, count, distinct_vec_of,
+    extern_name, put_extern_name,
+};
 
 /// What a core module is given under a name: all that a core instance exports.
 #[derive(Clone, Copy, Debug, PartialEq, Eq)]
@@ -86,7 +87,7 @@ impl<'a> Part<'a> for CoreArgument {
     type Context = Scope;
 
     ghost use Rattle.std.specs.Prelude.{ℕ};
-    ghost use Rattle.component_value_types.specs.declared.scope.Scope.{Scope};
+    ghost use Rattle.component_definitions.specs.Passed.component_value_types-declared-scope-Scope.{Scope};
     ghost use Rattle.component_instances.specs.Instances as spec;
 
     ghost Value = { ℕ };
@@ -117,7 +118,7 @@ impl<'a> Part<'a> for CoreArgument {
 impl<'a> Part<'a> for CoreItem {
     type Context = Scope;
 
-    ghost use Rattle.component_value_types.specs.declared.scope.Scope.{Scope};
+    ghost use Rattle.component_definitions.specs.Passed.component_value_types-declared-scope-Scope.{Scope};
     ghost use Rattle.component_instances.specs.declared.instances.CoreItem.{CoreItem};
     ghost use Rattle.component_instances.specs.Instances as spec;
 
@@ -149,7 +150,7 @@ impl<'a> Part<'a> for CoreItem {
 impl<'a> Part<'a> for Item {
     type Context = Scope;
 
-    ghost use Rattle.component_value_types.specs.declared.scope.Scope.{Scope};
+    ghost use Rattle.component_definitions.specs.Passed.component_value_types-declared-scope-Scope.{Scope};
     ghost use Rattle.component_instances.specs.declared.instances.Item.{Item};
     ghost use Rattle.component_instances.specs.Instances as spec;
 
@@ -181,7 +182,7 @@ impl<'a> Part<'a> for Item {
 impl<'a> Part<'a> for InlineExport<'a> {
     type Context = Scope;
 
-    ghost use Rattle.component_value_types.specs.declared.scope.Scope.{Scope};
+    ghost use Rattle.component_definitions.specs.Passed.component_value_types-declared-scope-Scope.{Scope};
     ghost use Rattle.component_instances.specs.Instances as spec;
 
     ghost Value = { spec.InlineExportValue };
@@ -268,7 +269,7 @@ fn instantiate<'a>(there: Scope, from: &mut Reader<'a>) -> Result<Instance<'a>, 
 impl<'a> Part<'a> for CoreInstance<'a> {
     type Context = Scope;
 
-    ghost use Rattle.component_value_types.specs.declared.scope.Scope.{Scope};
+    ghost use Rattle.component_definitions.specs.Passed.component_value_types-declared-scope-Scope.{Scope};
     ghost use Rattle.component_instances.specs.Instances as spec;
 
     ghost Value = { spec.CoreInstanceValue };
@@ -310,7 +311,7 @@ impl<'a> Part<'a> for CoreInstance<'a> {
 impl<'a> Part<'a> for Instance<'a> {
     type Context = Scope;
 
-    ghost use Rattle.component_value_types.specs.declared.scope.Scope.{Scope};
+    ghost use Rattle.component_definitions.specs.Passed.component_value_types-declared-scope-Scope.{Scope};
     ghost use Rattle.component_instances.specs.Instances as spec;
 
     ghost Value = { spec.InstanceValue };

@@ -7,7 +7,7 @@ ghost use Rattle.component_instances.specs.TypeDefinitions as spec;
 
 use crate::declarators::InstanceType;
 use binary_grammar::{Part, ReadError, Reader, Rule, WriteFault, put_number};
-use component_value_types::{DefinedType, Scope, optional_of, put_optional};
+use component_definitions::{DefinedType, Scope, optional_of, put_optional};
 
 /// The place of a core function.
 #[derive(Clone, Copy, Debug, PartialEq, Eq)]
@@ -35,7 +35,7 @@ impl<'a> Part<'a> for CoreFunctionIndex {
     type Context = Scope;
 
     ghost use Rattle.std.specs.Prelude.{ℕ};
-    ghost use Rattle.component_value_types.specs.declared.scope.Scope.{Scope};
+    ghost use Rattle.component_definitions.specs.Passed.component_value_types-declared-scope-Scope.{Scope};
     ghost use Rattle.component_instances.specs.TypeDefinitions as spec;
 
     ghost Value = { ℕ };
@@ -64,7 +64,7 @@ impl<'a> Part<'a> for ResourceType {
     type Context = Scope;
 
     ghost use Rattle.std.specs.Prelude.{ℕ, Option};
-    ghost use Rattle.component_value_types.specs.declared.scope.Scope.{Scope};
+    ghost use Rattle.component_definitions.specs.Passed.component_value_types-declared-scope-Scope.{Scope};
     ghost use Rattle.component_instances.specs.TypeDefinitions as spec;
 
     ghost Value = { Option ℕ };
@@ -95,7 +95,7 @@ impl<'a> Part<'a> for ResourceType {
 impl<'a> Part<'a> for TypeDefinition<'a> {
     type Context = Scope;
 
-    ghost use Rattle.component_value_types.specs.declared.scope.Scope.{Scope};
+    ghost use Rattle.component_definitions.specs.Passed.component_value_types-declared-scope-Scope.{Scope};
     ghost use Rattle.component_instances.specs.TypeDefinitions as spec;
 
     ghost Value = { spec.TypeDefinitionValue };

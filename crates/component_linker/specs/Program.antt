@@ -14,9 +14,9 @@ use Rattle.command_line.specs.declared.line.Input.TheVariants as inputs
 use Rattle.command_line.specs.declared.line.Line.{Line}
 use Rattle.command_line.specs.declared.line.LineFault.{LineFault}
 use Rattle.command_line.specs.declared.line.LineFault.TheVariants as faults
-use Rattle.component_audit.specs.Texts.{verdict_text}
-use Rattle.component_audit.specs.declared.verdict.Verdict.{Verdict}
-use Rattle.component_audit.specs.declared.verdict.Verdict.TheVariants.{Yes, Finding}
+use Rattle.component_session.specs.Passed.component_audit-Texts.{verdict_text}
+use Rattle.component_session.specs.Passed.component_audit-declared-verdict-Verdict.{Verdict}
+use Rattle.component_session.specs.Passed.component_audit-declared-verdict-Verdict-TheVariants.{Yes, Finding}
 use Rattle.component_session.specs.Headline.{IsBuilt, IsLinkTable, IsJudged}
 use Rattle.component_session.specs.Input.{Input, ModuleInput, OptionsInput, empty_input}
 use Rattle.link_lines.specs.Line.{link_value}

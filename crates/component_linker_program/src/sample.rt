@@ -1,10 +1,10 @@
 //! The program's own example: a world that imports one function, and a module that imports it.
 
 ghost use Rattle.std.specs.Prelude.{◌<◌, length, IfOk};
-ghost use Rattle.component_session.specs.Input.{worlds_of};
+ghost use Rattle.component_linker.specs.Passed.component_session-Input.{worlds_of};
 
 use component_builder::emit;
-use component_session::{Fault, ResolveError, Session, Verdict, WorldId, audit};
+use component_linker::{Fault, ResolveError, Session, Verdict, WorldId, audit};
 use std::alloc::Global;
 use std::io::Write;
 use wit_component::{StringEncoding, lines_of};

@@ -4,9 +4,9 @@ use Rattle.std.proofs.lemmas.List.{append-nil, append_assoc}
 use Rattle.std.proofs.lemmas.List.Sums.{fold-append}
 use Rattle.std.specs.Prelude.{fold}
 use Rattle.component_sections.specs.Component.{DefinitionValue}
-use Rattle.type_meaning.specs.Items.{Item, Entry}
-use Rattle.type_meaning.specs.Scope as scopes
-use Rattle.type_meaning.specs.Scope.{Scope, no_scope}
+use Rattle.flat_trees.specs.Passed.type_meaning-Items.{Item, Entry}
+use Rattle.flat_trees.specs.Passed.type_meaning-Scope as scopes
+use Rattle.flat_trees.specs.Passed.type_meaning-Scope.{Scope, no_scope}
 use Rattle.component_meaning.specs.Core.{MainModule, CoreItem, CoreInstance}
 use Rattle.component_meaning.specs.Spaces.{Spaces, no_spaces, joined, adds, after, meaning, EarlierIndicesStay}
 

@@ -8,7 +8,7 @@ use Rattle.wasm_types.specs.declared.types.RefType.TheVariants as references
 use Rattle.wasm_types.specs.declared.types.ExportKind.{ExportKind}
 use Rattle.wasm_types.specs.declared.types.ExportKind.TheVariants as kinds
 use Rattle.wasm_types.specs.Types.{FuncTypeValue}
-use Rattle.component_definitions.specs.declared.canonical.CanonicalOption.{CanonicalOption}
+use Rattle.component_sections.specs.Passed.component_definitions-declared-canonical-CanonicalOption.{CanonicalOption}
 
 -- ---- core types
 

@@ -2,15 +2,15 @@
 -- (Component Model Binary, Component Definitions).
 use Rattle.std.specs.Prelude.{Bool, true, false, Option, Some, None, ◌&&◌}
 use Rattle.std.specs.List.{list_all}
-use Rattle.component_definitions.specs.declared.sorts.Sort.{Sort}
-use Rattle.component_definitions.specs.declared.sorts.Sort.TheVariants as sorts
-use Rattle.component_definitions.specs.declared.sorts.ComponentSort.TheVariants as components
-use Rattle.component_definitions.specs.declared.externs.Description.{Description}
-use Rattle.component_definitions.specs.declared.externs.Description.TheVariants as descriptions
-use Rattle.component_definitions.specs.Canonical.{CanonicalValue, lift, lower, resource_new, resource_drop, resource_rep}
-use Rattle.component_instances.specs.Declarators.{DeclaratorValue, declared_type, declared_alias, declared_export}
-use Rattle.component_instances.specs.TypeDefinitions.{TypeDefinitionValue, defined, resource, of_instance}
-use Rattle.component_entries.specs.Entries.{EntryValue, an_alias, a_type, an_import, an_export}
+use Rattle.component_sections.specs.Passed.component_definitions-declared-sorts-Sort.{Sort}
+use Rattle.component_sections.specs.Passed.component_definitions-declared-sorts-Sort-TheVariants as sorts
+use Rattle.component_sections.specs.Passed.component_definitions-declared-sorts-ComponentSort-TheVariants as components
+use Rattle.component_sections.specs.Passed.component_definitions-declared-externs-Description.{Description}
+use Rattle.component_sections.specs.Passed.component_definitions-declared-externs-Description-TheVariants as descriptions
+use Rattle.component_sections.specs.Passed.component_definitions-Canonical.{CanonicalValue, lift, lower, resource_new, resource_drop, resource_rep}
+use Rattle.component_sections.specs.Passed.component_instances-Declarators.{DeclaratorValue, declared_type, declared_alias, declared_export}
+use Rattle.component_sections.specs.Passed.component_instances-TypeDefinitions.{TypeDefinitionValue, defined, resource, of_instance}
+use Rattle.component_sections.specs.Passed.component_entries-Entries.{EntryValue, an_alias, a_type, an_import, an_export}
 use Rattle.component_sections.specs.Component.{DefinitionValue, a_core_module, a_core_instance, a_component, an_instance, a_canonical, an_entry}
 
 -- a resource type is none of these

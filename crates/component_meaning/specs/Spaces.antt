@@ -7,19 +7,19 @@ use Rattle.wasm_types.specs.declared.types.ExportKind.{ExportKind}
 use Rattle.wasm_types.specs.declared.types.ExportKind.TheVariants as kinds
 use Rattle.wit_types.specs.declared.mangling.AbiVariant.TheVariants.{GuestImport}
 use Rattle.component_value_types.specs.Combinators.{NamedValue}
-use Rattle.component_definitions.specs.declared.canonical.CanonicalOption.{CanonicalOption}
-use Rattle.component_definitions.specs.declared.sorts.Sort.{Sort}
-use Rattle.component_definitions.specs.declared.sorts.Sort.TheVariants as sorts
-use Rattle.component_definitions.specs.declared.sorts.ComponentSort.TheVariants as components
-use Rattle.component_definitions.specs.Aliases.{AliasValue, instance_export, core_instance_export, outer}
-use Rattle.component_definitions.specs.Canonical.{CanonicalValue, lift, lower, resource_new, resource_drop, resource_rep}
-use Rattle.component_instances.specs.declared.instances.CoreItem.{CoreItem as CoreIndex}
-use Rattle.component_instances.specs.Instances.{CoreInstanceValue, core_instantiate, core_inline}
-use Rattle.component_entries.specs.Entries.{EntryValue, an_alias, a_type, an_import, an_export}
+use Rattle.component_sections.specs.Passed.component_definitions-declared-canonical-CanonicalOption.{CanonicalOption}
+use Rattle.component_sections.specs.Passed.component_definitions-declared-sorts-Sort.{Sort}
+use Rattle.component_sections.specs.Passed.component_definitions-declared-sorts-Sort-TheVariants as sorts
+use Rattle.component_sections.specs.Passed.component_definitions-declared-sorts-ComponentSort-TheVariants as components
+use Rattle.component_sections.specs.Passed.component_definitions-Aliases.{AliasValue, instance_export, core_instance_export, outer}
+use Rattle.component_sections.specs.Passed.component_definitions-Canonical.{CanonicalValue, lift, lower, resource_new, resource_drop, resource_rep}
+use Rattle.component_sections.specs.Passed.component_instances-declared-instances-CoreItem.{CoreItem as CoreIndex}
+use Rattle.component_sections.specs.Passed.component_instances-Instances.{CoreInstanceValue, core_instantiate, core_inline}
+use Rattle.component_sections.specs.Passed.component_entries-Entries.{EntryValue, an_alias, a_type, an_import, an_export}
 use Rattle.component_sections.specs.Component.{DefinitionValue, a_core_module, a_core_instance, a_component, an_instance, a_canonical, an_entry}
-use Rattle.type_meaning.specs.Words.{BinaryTree}
-use Rattle.type_meaning.specs.Items.{Item, nothing, a_function, from_lift, item_at, type_at, is_function}
-use Rattle.type_meaning.specs.Scope.{Scope, no_scope, in_space, adds as scope_adds, joined as scopes_joined}
+use Rattle.flat_trees.specs.Passed.type_meaning-Words.{BinaryTree}
+use Rattle.flat_trees.specs.Passed.type_meaning-Items.{Item, nothing, a_function, from_lift, item_at, type_at, is_function}
+use Rattle.flat_trees.specs.Passed.type_meaning-Scope.{Scope, no_scope, in_space, adds as scope_adds, joined as scopes_joined}
 use Rattle.flat_trees.specs.Flat.{signature, core_type}
 use Rattle.component_meaning.specs.Core.{CoreType, of_function, is_of_kind, matches, CoreImport, CoreExport, MainModule, of_export, of_lower, CoreItem, CoreEntry, Source, of_main, of_unknown, of_items, CoreInstance}
 

@@ -4,3 +4,4 @@ pub mod WholeSections
 pub mod Following
 pub mod Places
 pub mod Typed
+pub mod Passed

@@ -9,14 +9,14 @@ use Rattle.binary_grammar.specs.declared.fault.Rule.TheVariants as rules
 use Rattle.binary_grammar.specs.Place.{StandsAt}
 use Rattle.binary_grammar.specs.Several.{grown}
 use Rattle.binary_grammar.specs.Syntax.{Syntax, unbounded, bounded, ◌◂◌, ◌>>=◌, some_name, some_bytes, gives, refuses, tested, growing, sized, where_known, exactly, begins, everything, seen, steps, meaning, bytes, IsTyped, Meets, EachWhere, number}
-use Rattle.component_definitions.specs.declared.sorts.ComponentSort.TheVariants as components
-use Rattle.component_definitions.specs.declared.sorts.Sort.TheVariants as sorts
-use Rattle.component_definitions.specs.declared.counting.IndexSpace.{IndexSpace}
-use Rattle.component_definitions.specs.declared.counting.IndexSpace.TheVariants as spaces
-use Rattle.component_definitions.specs.Canonical.{CanonicalValue, canonical_value, canonical_sort, canonical, resource_new}
-use Rattle.component_definitions.specs.Counting.{with_one}
-use Rattle.component_definitions.specs.Aliases.{outer}
-use Rattle.component_instances.specs.Instances.{CoreInstanceValue, InstanceValue, core_instance_value, instance_value, core_instance, instance, core_inline, inline}
+use Rattle.component_entries.specs.Passed.component_definitions-declared-sorts-ComponentSort-TheVariants as components
+use Rattle.component_entries.specs.Passed.component_definitions-declared-sorts-Sort-TheVariants as sorts
+use Rattle.component_entries.specs.Passed.component_definitions-declared-counting-IndexSpace.{IndexSpace}
+use Rattle.component_entries.specs.Passed.component_definitions-declared-counting-IndexSpace-TheVariants as spaces
+use Rattle.component_entries.specs.Passed.component_definitions-Canonical.{CanonicalValue, canonical_value, canonical_sort, canonical, resource_new}
+use Rattle.component_entries.specs.Passed.component_definitions-Counting.{with_one}
+use Rattle.component_entries.specs.Passed.component_definitions-Aliases.{outer}
+use Rattle.component_entries.specs.Passed.component_instances-Instances.{CoreInstanceValue, InstanceValue, core_instance_value, instance_value, core_instance, instance, core_inline, inline}
 use Rattle.component_entries.specs.declared.entry.EntryKind.{EntryKind}
 use Rattle.component_sections.specs.declared.section.SectionId.{SectionId}
 use Rattle.component_sections.specs.declared.section.SectionId.TheVariants as ids

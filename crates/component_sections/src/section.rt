@@ -17,11 +17,10 @@ use binary_grammar::{
     Content, Part, ReadError, Reader, Rule, Step, WriteFault, bounded_growing_of, bounded_of,
     broken_at, moved, put_with_length,
 };
-use component_definitions::{CanonicalDefinition, ComponentSort, IndexSpace, Sort, with_one};
 use component_entries::{
-    Defined, Entry, EntryKind, Grouped, NestedComponent, custom_name, kind_of, put_first,
+    CanonicalDefinition, ComponentSort, CoreInstance, Defined, Entry, EntryKind, Grouped,
+    IndexSpace, Instance, NestedComponent, Sort, custom_name, kind_of, put_first, with_one,
 };
-use component_instances::{CoreInstance, Instance};
 
 /// What a section holds (Component Model Binary, Component Definitions).
 #[derive(Clone, Copy, Debug, PartialEq, Eq)]

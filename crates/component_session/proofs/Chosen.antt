@@ -3,7 +3,7 @@ use Rattle.std.proofs.Common.{◌≡◌, ℕ, zero, suc, ◌<◌, Bool, true, fa
 use Rattle.std.specs.Prelude.{bytes_eq, string_bytes, String, cond}
 use Rattle.std.specs.Map.{lookup}
 use Rattle.std.specs.declared.alloc.Global.{Global}
-use Rattle.wit_resolution.specs.Graph.{Graph, IsGraph}
+use Rattle.linked_components.specs.Passed.wit_graph-Graph.{Graph, IsGraph}
 use Rattle.wit_order.specs.Order.{Has}
 use Rattle.wit_productions.specs.NameTree.{UsePathTree, id, in_package}
 use Rattle.wit_selection.specs.Selection.{IsSelected, only, only_entry, only_world, only_world_of, world_in, world_of, meant, selected}

@@ -1,8 +1,8 @@
 -- Of bytes that are right for an input in whose way nothing stands, the auditor says yes.
 use Rattle.std.proofs.Common.{◌≡◌, ◌≢◌, List, ℕ, refl, subst, inl, inr}
-use Rattle.known_definitions.specs.Definition.{DefinitionValue}
-use Rattle.known_definitions.specs.Component.{IsComponent}
-use Rattle.known_definitions.proofs.Laws.{one_list, no_break, not_known}
+use Rattle.wit_component.specs.Passed.known_definitions-Definition.{DefinitionValue}
+use Rattle.wit_component.specs.Passed.known_definitions-Component.{IsComponent}
+use Rattle.wit_component.proofs.Passed.known_definitions-Laws.{one_list, no_break, not_known}
 use Rattle.component_session.specs.declared.fault.Fault.{Fault}
 use Rattle.component_session.specs.declared.fault.Fault.TheVariants as faults
 use Rattle.wit_component.specs.declared.finding.FindingKind.{FindingKind}

@@ -2,14 +2,14 @@
 use Rattle.std.proofs.Common.{◌≡◌, ◌∙◌, ℕ, zero, suc, Bool, List, [], ◌∷◌, ◌++◌, take, Result, Ok, Err, IfOk, IfErr, OnErr, refl, sym, subst, ap, inl, inr}
 use Rattle.std.specs.List.{AllZip, flat_map}
 use Rattle.wit_order.specs.Order.{Has}
-use Rattle.wit_resolution.specs.Groups.{UnresolvedPackageGroup}
-use Rattle.wit_resolution.specs.Own.{IsWellFormed}
-use Rattle.wit_resolution.specs.Law.{ParsedPackagesAreWellFormed}
-use Rattle.wit_resolution.specs.Groups.{packages_of, texts_of}
+use Rattle.text_graphs.specs.Passed.wit_resolution-Groups.{UnresolvedPackageGroup}
+use Rattle.linked_components.specs.Passed.wit_graph_parts-Own.{IsWellFormed}
+use Rattle.text_graphs.specs.Passed.wit_well_formed-Law.{ParsedPackagesAreWellFormed}
+use Rattle.text_graphs.specs.Passed.wit_resolution-Groups.{packages_of, texts_of}
 use Rattle.wit_types.specs.declared.«package».UnresolvedPackage.{UnresolvedPackage}
-use Rattle.wit_resolution.specs.Pushes.{Resolved, AreGroupsPushed, IsGroupsError, AreGroupsRefused, AreTextsPushed, AreTextsError, AreTextsRefused, AreGroupTextsKept, AreTextsKept}
-use Rattle.wit_resolution.specs.Texts.{IsGroupOf, AreTextsLeft}
-use Rattle.wit_resolve_errors.specs.declared.error.ResolveErrorKind.{ResolveErrorKind}
+use Rattle.text_graphs.specs.Passed.wit_resolution-Pushes.{Resolved, AreGroupsPushed, IsGroupsError, AreGroupsRefused, AreTextsPushed, AreTextsError, AreTextsRefused, AreGroupTextsKept, AreTextsKept}
+use Rattle.text_graphs.specs.Passed.wit_resolution-Texts.{IsGroupOf, AreTextsLeft}
+use Rattle.text_graphs.specs.Passed.wit_resolve_errors-declared-error-ResolveErrorKind.{ResolveErrorKind}
 use Rattle.wit_types.specs.declared.«package».PackageName.{PackageName}
 use Rattle.wit_words.specs.Sources.{SourceText}
 use Rattle.component_session.specs.Coming.{files_of_groups}

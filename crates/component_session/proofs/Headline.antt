@@ -1,12 +1,12 @@
 -- What is answered for a linking, said of its input.
 use Rattle.std.proofs.Common.{List, ℕ, ap, inl, inr, ◌∙◌}
-use Rattle.known_definitions.specs.Component.{IsComponent}
-use Rattle.known_definitions.specs.Component.{Fits}
+use Rattle.wit_component.specs.Passed.known_definitions-Component.{IsComponent}
+use Rattle.wit_component.specs.Passed.known_definitions-Component.{Fits}
 use Rattle.component_session.specs.Input.{Input, IsLinkingOf, IsWideLinkingOf}
 use Rattle.wit_component.specs.Linking.{Linking}
 use Rattle.wit_component.specs.Cause.{IsLinkable}
 use Rattle.component_session.specs.Refusals.{AreExportsSupplied, IsWide, OptionsBeyond, IsReady}
-use Rattle.link_table.specs.Linking.{Linking as WideLinking}
+use Rattle.linked_components.specs.Passed.link_table-Linking.{Linking as WideLinking}
 use Rattle.linked_components.specs.Build.{HasLines, IsComponentOf}
 use Rattle.wit_component.specs.Component.{component_of}
 use Rattle.component_session.specs.Headline.{IsRight, IsBuilt, IsLinkTable, IsJudged, IsVerdict}
@@ -15,7 +15,7 @@ use Rattle.component_audit.specs.declared.verdict.Verdict.{Verdict}
 use Rattle.component_audit.specs.declared.verdict.Verdict.TheVariants.{Yes, Finding}
 use Rattle.link_lines.specs.Line.{LinkValue}
 use Rattle.wit_component.specs.Links.{AreLinks}
-use Rattle.known_definitions.proofs.Laws.{one_list}
+use Rattle.wit_component.proofs.Passed.known_definitions-Laws.{one_list}
 use Rattle.wit_component.specs.Meaning.{Spaces, meaning}
 use Rattle.wit_component.proofs.Right.{written}
 use Rattle.wit_component.proofs.Right.{written_meets}

@@ -2,8 +2,8 @@
 use Rattle.std.proofs.Common.{◌≡◌, ℕ, ◌<◌, ◌+◌, Bool, List, length, length-append, Option, None, Result, Ok, Err, IfOk, OnOk, OnErr, sym, ap, subst, ◌∙◌, arith}
 use Rattle.std.specs.Option.{ForSome}
 use Rattle.wit_features.specs.Features.{FeatureSet}
-use Rattle.wit_resolution.specs.Push.{HasMorePackages}
-use Rattle.wit_resolution.specs.Pushes.{Resolved, nothing_resolved, AreTextsPushed, AreTextsRefused}
+use Rattle.linked_components.specs.Passed.wit_graph-Push.{HasMorePackages}
+use Rattle.text_graphs.specs.Passed.wit_resolution-Pushes.{Resolved, nothing_resolved, AreTextsPushed, AreTextsRefused}
 use Rattle.wit_types.specs.declared.«package».PackageName.{PackageName}
 use Rattle.wit_types.specs.declared.world.World.{World}
 use Rattle.wit_words.specs.Sources.{SourceText}

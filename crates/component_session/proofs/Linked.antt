@@ -14,7 +14,7 @@ use Rattle.wasm_format.proofs.Modules.{one_module}
 use Rattle.wasm_types.specs.Entries.{import_value}
 use Rattle.wasm_types.specs.declared.entries.Import.{Import}
 use Rattle.wit_core_names.specs.Texts.{Known}
-use Rattle.wit_resolution.specs.Names.{known_of}
+use Rattle.text_graphs.specs.Passed.wit_resolution-Names.{known_of}
 use Rattle.wit_types.specs.declared.world.World.{World}
 use Rattle.wit_component.specs.Linking.{reading}
 use Rattle.wit_component.proofs.Readings.{reading_is}

@@ -19,14 +19,14 @@ use Rattle.wit_component.proofs.NoCause.{no_link_cause}
 use Rattle.core_links.specs.Names.{Names}
 use Rattle.core_links.specs.declared.fault.LinkFault.{LinkFault as CoreFault}
 use Rattle.core_links.specs.declared.fault.LinkFault.TheVariants as core
-use Rattle.link_table.specs.Linking.{Linking as WideLinking}
-use Rattle.link_table.specs.Cause.{IsTableCause}
-use Rattle.link_table.specs.declared.fault.TableFault.{TableFault}
-use Rattle.link_table.specs.declared.fault.TableFault.TheVariants as tables
+use Rattle.linked_components.specs.Passed.link_table-Linking.{Linking as WideLinking}
+use Rattle.linked_components.specs.Passed.link_table-Cause.{IsTableCause}
+use Rattle.linked_components.specs.Passed.link_table-declared-fault-TableFault.{TableFault}
+use Rattle.linked_components.specs.Passed.link_table-declared-fault-TableFault-TheVariants as tables
 use Rattle.linked_components.specs.Build.{LinkedHaveNoCause, HasTwoNames}
-use Rattle.right_components.specs.Outside.{AreInterfaceNames}
-use Rattle.type_sinks.specs.Root.{InterfaceNames}
-use Rattle.wit_resolution.specs.Graph.{IsGraph}
+use Rattle.linked_components.specs.Passed.right_components-Outside.{AreInterfaceNames}
+use Rattle.linked_components.specs.Passed.type_sinks-Root.{InterfaceNames}
+use Rattle.linked_components.specs.Passed.wit_graph-Graph.{IsGraph}
 use Rattle.component_session.specs.Input.{Input, ModuleInput, world_at, IsLinkingOf, IsWideLinkingOf}
 use Rattle.component_session.specs.Faults.{of_module}
 use Rattle.component_session.specs.Refusals.{ChangesNames, MergesTracks, OptionsBeyond, by_canonical_names, by_given_names, by_tracks, OfWide, HasNoTable, IsLinkingCause, IsCause, IsBuildCause, IsReady, IsWideReady}

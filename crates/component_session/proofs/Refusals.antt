@@ -4,10 +4,10 @@ use Rattle.wit_component.specs.declared.fault.Fault.{Fault as LinkFault}
 use Rattle.wit_component.specs.declared.fault.Fault.TheVariants as linking
 use Rattle.core_links.specs.declared.fault.LinkFault.{LinkFault as CoreFault}
 use Rattle.core_links.specs.declared.fault.LinkFault.TheVariants as core
-use Rattle.link_table.specs.declared.fault.TableFault.{TableFault}
-use Rattle.link_table.specs.declared.fault.TableFault.TheVariants as tables
-use Rattle.link_table.specs.Linking.{Linking as WideLinking}
-use Rattle.link_table.specs.Cause.{IsTableCause}
+use Rattle.linked_components.specs.Passed.link_table-declared-fault-TableFault.{TableFault}
+use Rattle.linked_components.specs.Passed.link_table-declared-fault-TableFault-TheVariants as tables
+use Rattle.linked_components.specs.Passed.link_table-Linking.{Linking as WideLinking}
+use Rattle.linked_components.specs.Passed.link_table-Cause.{IsTableCause}
 use Rattle.linked_components.specs.Build.{IsComponentCause}
 use Rattle.linked_components.specs.declared.fault.ComponentFault.{ComponentFault}
 use Rattle.linked_components.specs.declared.fault.ComponentFault.TheVariants as components

@@ -1,7 +1,7 @@
 -- Files of groups that were read from their texts (WIT, Packages).
 use Rattle.std.specs.Prelude.{List, map}
-use Rattle.wit_resolution.specs.Groups.{UnresolvedPackageGroup}
-pub use Rattle.wit_resolve_errors.specs.declared.error.ResolveErrorKind.{ResolveErrorKind}
+use Rattle.text_graphs.specs.Passed.wit_resolution-Groups.{UnresolvedPackageGroup}
+pub use Rattle.text_graphs.specs.Passed.wit_resolve_errors-declared-error-ResolveErrorKind.{ResolveErrorKind}
 use Rattle.wit_words.specs.Sources.{SourceText}
 
 -- the files of groups, each of which was read from its texts

@@ -9,8 +9,8 @@ use Rattle.core_links.specs.declared.fault.LinkFault.{LinkFault as CoreFault}
 use Rattle.core_links.specs.declared.fault.LinkFault.TheVariants as core
 use Rattle.linked_types.specs.declared.fault.TypeFault.{TypeFault}
 use Rattle.linked_types.specs.declared.fault.TypeFault.TheVariants as types
-use Rattle.link_table.specs.declared.fault.TableFault.{TableFault}
-use Rattle.link_table.specs.declared.fault.TableFault.TheVariants as tables
+use Rattle.linked_components.specs.Passed.link_table-declared-fault-TableFault.{TableFault}
+use Rattle.linked_components.specs.Passed.link_table-declared-fault-TableFault-TheVariants as tables
 use Rattle.linked_components.specs.declared.fault.ComponentFault.{ComponentFault}
 use Rattle.linked_components.specs.declared.fault.ComponentFault.TheVariants as components
 use Rattle.component_session.specs.declared.fault.ModuleCause.{ModuleCause}

@@ -9,8 +9,8 @@
 -- which the auditor decides: the table in wit_component, Table.antt; the grammar in known_definitions, Component.antt; the fold in
 -- wit_component, Meaning.antt; and one condition for each kind of finding there, in Right.antt.
 use Rattle.std.specs.Prelude.{◌≡◌, ◌⊎◌, ℕ, ◌≤◌, List, length, map}
-use Rattle.known_definitions.specs.Definition.{DefinitionValue}
-use Rattle.known_definitions.specs.Component.{IsComponent}
+use Rattle.wit_component.specs.Passed.known_definitions-Definition.{DefinitionValue}
+use Rattle.wit_component.specs.Passed.known_definitions-Component.{IsComponent}
 use Rattle.wit_component.specs.Linking.{Linking}
 use Rattle.link_lines.specs.Line.{LinkValue}
 use Rattle.wit_component.specs.Links.{AreLinks}
@@ -23,8 +23,8 @@ use Rattle.component_audit.specs.declared.verdict.Verdict.TheVariants.{Yes, Find
 use Rattle.component_audit.specs.Judged.{IsBeyond, IsFinding}
 use Rattle.component_session.specs.Input.{Input, IsLinkingOf}
 use Rattle.linked_components.specs.Build.{IsEncoding}
-use Rattle.link_table.specs.Linking.{Linking as WideLinking}
-use Rattle.link_table.specs.Lines.{AreLines}
+use Rattle.linked_components.specs.Passed.link_table-Linking.{Linking as WideLinking}
+use Rattle.linked_components.specs.Passed.link_table-Lines.{AreLines}
 use Rattle.component_session.specs.Refusals.{IsReady, IsWideReady}
 
 -- ---- right for the input (Component Model Binary; Component Model, Explainer, Component Definitions)

@@ -4,10 +4,10 @@ use Rattle.wasm_format.specs.Module.{ModuleValue}
 use Rattle.wasm_format.specs.Grammar.{IsModule}
 use Rattle.wit_component.specs.Linking.{Linking, main_of}
 use Rattle.link_lines.specs.declared.encoding.StringEncoding.{StringEncoding}
-use Rattle.link_table.specs.Linking.{Linking as WideLinking}
+use Rattle.linked_components.specs.Passed.link_table-Linking.{Linking as WideLinking}
 use Rattle.linked_components.specs.Build.{AreNamesOf}
 use Rattle.plain_worlds.specs.World.{WorldMeaning, plain_world}
-use Rattle.wit_resolution.specs.Pushes.{Resolved, nothing_resolved}
+use Rattle.text_graphs.specs.Passed.wit_resolution-Pushes.{Resolved, nothing_resolved}
 use Rattle.wit_types.specs.declared.world.World.{World}
 
 -- a handed module

@@ -3,7 +3,7 @@ use Rattle.std.specs.Prelude.{ℕ, ◌<◌, Bool, length, Option}
 use Rattle.std.specs.Option.{ForSome}
 use Rattle.wasm_format.specs.Module.{ModuleValue}
 use Rattle.wasm_format.specs.Grammar.{IsModule}
-use Rattle.wit_resolution.specs.Pushes.{Resolved}
+use Rattle.text_graphs.specs.Passed.wit_resolution-Pushes.{Resolved}
 use Rattle.wit_types.specs.declared.«package».PackageName.{PackageName}
 use Rattle.text_graphs.specs.Coming.{ComeOfTexts}
 use Rattle.component_session.specs.Input.{ModuleInput, worlds_of}

@@ -14,15 +14,15 @@ use Rattle.wit_component.specs.Linking.{Linking}
 use Rattle.wit_component.specs.Cause.{IsStillToCome, IsLinkCause, IsLinkable, IsTooLarge}
 use Rattle.core_links.specs.declared.fault.LinkFault.{LinkFault as CoreFault}
 use Rattle.core_links.specs.declared.fault.LinkFault.TheVariants as core
-use Rattle.link_table.specs.declared.fault.TableFault.TheVariants as tables
-use Rattle.link_table.specs.Linking.{Linking as WideLinking}
-use Rattle.link_table.specs.Table.{Table, IsTable}
-use Rattle.link_table.specs.Cause.{IsTableCause}
+use Rattle.linked_components.specs.Passed.link_table-declared-fault-TableFault-TheVariants as tables
+use Rattle.linked_components.specs.Passed.link_table-Linking.{Linking as WideLinking}
+use Rattle.linked_components.specs.Passed.link_table-Table.{Table, IsTable}
+use Rattle.linked_components.specs.Passed.link_table-Cause.{IsTableCause}
 use Rattle.linked_components.specs.Build.{HasTwoNames}
 use Rattle.linked_components.specs.Tracks.{HasOneTrack, HasOtherNames}
 use Rattle.component_audit.specs.Judged.{IsBeyond}
 use Rattle.export_keys.specs.Keys.{ExportsMore}
-use Rattle.wit_resolution.specs.Names.{known_of}
+use Rattle.text_graphs.specs.Passed.wit_resolution-Names.{known_of}
 use Rattle.wit_types.specs.declared.world.World.{World}
 use Rattle.component_session.specs.Input.{Input, ModuleInput, IsChosen, IsLinkingOf, IsWideLinkingOf, world_at, worlds_of}
 

@@ -5,8 +5,7 @@ ghost use Rattle.component_session.specs.Faults as spec;
 ghost use Rattle.component_session.specs.Faults.{of_core, of_module};
 
 use core_links::LinkFault as CoreFault;
-use link_table::TableFault;
-use linked_components::ComponentFault;
+use linked_components::{ComponentFault, TableFault};
 use linked_types::TypeFault;
 use std::alloc::{AllocError, AllocFailed};
 use thiserror::Error;

@@ -1,14 +1,14 @@
 //! Laws of the public calls.
 
 ghost use Rattle.std.specs.Prelude.{◌≡◌, ◌⊎◌, ℕ, Bool, List, MatchResult};
-ghost use Rattle.known_definitions.specs.Component.{IsComponent};
+ghost use Rattle.wit_component.specs.Passed.known_definitions-Component.{IsComponent};
 ghost use Rattle.component_session.specs.Input as inputs;
-ghost use Rattle.link_table.specs.Linking.{Linking as WideLinking};
+ghost use Rattle.linked_components.specs.Passed.link_table-Linking.{Linking as WideLinking};
 ghost use Rattle.wit_component.specs.Linking.{Linking};
 ghost use Rattle.wit_component.specs.Table.{IsLinked};
 ghost use Rattle.wit_component.specs.Component.{component_of};
 ghost use Rattle.wit_component.specs.declared.fault.Fault.TheVariants.{TooLarge};
-ghost use Rattle.wit_resolution.specs.Graph.{IsGraph};
+ghost use Rattle.linked_components.specs.Passed.wit_graph-Graph.{IsGraph};
 ghost use Rattle.component_session.specs.Headline as headline;
 ghost use Rattle.component_session.specs.Refusals as refusals;
 ghost use Rattle.component_session.specs.Switches as switches;

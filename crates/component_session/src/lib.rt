@@ -18,8 +18,8 @@ pub use linked_types::TypeFault;
 pub use linking::audit;
 pub use options::Options;
 pub use session::{HandedModule, Session};
+pub use text_graphs::{Resolve, ResolveError, ResolveErrorKind};
 pub use wit_component::{
     Fault as LinkFault, FindingKind, Link, LinkKind, LinkSide, Owner, StringEncoding,
 };
-pub use wit_resolution::{Resolve, ResolveError, ResolveErrorKind};
 pub use wit_types::{Id, PackageId, WorldId};

@@ -11,12 +11,12 @@ ghost use Rattle.component_session.specs.Handed.{pairs_of};
 ghost use Rattle.wasm_format.specs.Grammar.{IsModule};
 ghost use Rattle.wasm_format.specs.Module.{ModuleValue};
 ghost use Rattle.wit_features.specs.Features.{with_name};
-ghost use Rattle.wit_resolution.specs.GroupView.{texts};
-ghost use Rattle.wit_resolve_errors.specs.Errors.{of_selection};
-ghost use Rattle.wit_resolution.specs.Pushes as pushes;
+ghost use Rattle.text_graphs.specs.Passed.wit_package-GroupView.{texts};
+ghost use Rattle.text_graphs.specs.Passed.wit_resolve_errors-Errors.{of_selection};
+ghost use Rattle.text_graphs.specs.Passed.wit_resolution-Pushes as pushes;
 ghost use Rattle.wit_order.specs.Order.{Has};
-ghost use Rattle.wit_resolution.specs.Groups.{UnresolvedPackageGroup};
-ghost use Rattle.wit_resolution.specs.Texts.{files_of, IsGroupOf};
+ghost use Rattle.text_graphs.specs.Passed.wit_resolution-Groups.{UnresolvedPackageGroup};
+ghost use Rattle.text_graphs.specs.Passed.wit_resolution-Texts.{files_of, IsGroupOf};
 ghost use Rattle.wit_selection.specs.Selection.{IsSelected, IsSelectCause};
 ghost use Rattle.wit_selection.specs.declared.selection.SelectFault.{SelectFault};
 
@@ -26,14 +26,12 @@ use std::alloc::{AllocError, Global};
 use std::collections::HashMap;
 use std::marker::Model;
 use text_graphs::{
-    law_equal_names_are_the_same, law_same_names_are_equal, law_text_graphs_mean_their_texts,
-    law_text_packages_are_there,
+    Resolve, ResolveError, UnresolvedPackageGroup, law_equal_names_are_the_same,
+    law_parsed_packages_are_well_formed, law_same_names_are_equal,
+    law_text_graphs_mean_their_texts, law_text_packages_are_there,
 };
 use wasm_format::read_module;
 use wit_component::StringEncoding;
-use wit_resolution::{
-    Resolve, ResolveError, UnresolvedPackageGroup, law_parsed_packages_are_well_formed,
-};
 use wit_types::{PackageId, PackageName, WorldId};
 
 /// A module that was handed in.
@@ -73,7 +71,7 @@ impl<'a> Model for Session<'a> {
     ghost use Rattle.component_session.specs.Handed.{module_input};
     ghost use Rattle.component_session.specs.Input.{Input};
     ghost use Rattle.component_session.specs.Kept.{WellKept};
-    ghost use Rattle.wit_resolution.specs.contracts.resolve.Resolve as all;
+    ghost use Rattle.text_graphs.specs.Passed.wit_resolution-contracts-resolve-Resolve as all;
 
     ghost Value = { Input };
 

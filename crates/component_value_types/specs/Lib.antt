@@ -3,3 +3,4 @@ pub mod Names
 pub mod Scope
 pub mod Values
 pub mod Types
+pub mod Passed

@@ -3,3 +3,4 @@ pub mod Meanings
 pub mod Found
 mod Marking
 mod Picking
+pub mod Passed

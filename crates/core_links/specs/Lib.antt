@@ -5,3 +5,4 @@ pub mod Exports
 pub mod View
 pub mod Needed
 pub mod Marks
+pub mod Passed

@@ -3,7 +3,7 @@
 ghost use Rattle.std.specs.Prelude.{◌≡◌, List, map, IfOk, IfErr};
 ghost use Rattle.std.specs.Cow.{cow_str_bytes};
 ghost use Rattle.wasm_types.specs.Entries.{ExportValue, export_value};
-ghost use Rattle.wit_names.specs.Names.{ArePackagesKnown};
+ghost use Rattle.wit_core_names.specs.Passed.wit_names-Names.{ArePackagesKnown};
 ghost use Rattle.wit_core_names.specs.Exports.{IsExportNamed, IsExportName};
 ghost use Rattle.wit_core_names.specs.Items.{export_of};
 ghost use Rattle.wit_core_items.specs.Growing.{Reads, name_eq};

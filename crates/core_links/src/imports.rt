@@ -2,7 +2,7 @@
 
 ghost use Rattle.std.specs.Prelude.{◌≡◌, ◌∷◌, ◌++◌, ◌⊎◌, ◌<◌, ℕ, List, [], map, length, slice_get, Some, true, false, IfOk, IfErr, OnOk};
 ghost use Rattle.wasm_types.specs.Entries.{ImportValue, import_value};
-ghost use Rattle.wit_names.specs.Names.{ArePackagesKnown};
+ghost use Rattle.wit_core_names.specs.Passed.wit_names-Names.{ArePackagesKnown};
 ghost use Rattle.wit_core_names.specs.Items.{import_of};
 ghost use Rattle.wit_core_items.specs.Readers.{IsReaderOfImports};
 ghost use Rattle.core_links.specs.declared.fault.LinkFault.TheVariants as faults;

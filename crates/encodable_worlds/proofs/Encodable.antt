@@ -12,19 +12,19 @@ use Rattle.wit_reach.specs.Ids.{function_ids}
 use Rattle.wit_reach.specs.Lists.{AreOwnersThere}
 use Rattle.wit_reach.specs.Paths.{AreEnds}
 use Rattle.wit_reach.proofs.Lists.{has_append, has_parts}
-use Rattle.type_sinks.specs.Root.{InterfaceNames}
-use Rattle.type_sinks.specs.Views.{root_names, interface_names}
-use Rattle.type_sinks.specs.declared.root.Root.{Root}
+use Rattle.component_imports.specs.Passed.type_sinks-Root.{InterfaceNames}
+use Rattle.component_imports.specs.Passed.type_sinks-Views.{root_names, interface_names}
+use Rattle.component_imports.specs.Passed.type_sinks-declared-root-Root.{Root}
 use Rattle.component_imports.specs.Interfaces.{ids_of, AreNeededImported}
 use Rattle.component_imports.specs.Order.{EarlierTypesAreApart}
 use Rattle.component_imports.specs.Ready.{IsInterfaceAsked, AreWritable}
-use Rattle.link_table.specs.Linking.{Linking, types_of, exported_functions}
-use Rattle.link_table.specs.Table.{Table, IsTable}
-use Rattle.right_components.specs.Outside.{AreKeyTexts}
-use Rattle.linked_imports.specs.Imports.{AreNeeded, own_types, AreListed, AreNamed, IsImportable}
+use Rattle.component_encoding.specs.Passed.link_table-Linking.{Linking, types_of, exported_functions}
+use Rattle.component_encoding.specs.Passed.link_table-Table.{Table, IsTable}
+use Rattle.linked_worlds.specs.Passed.right_components-Outside.{AreKeyTexts}
+use Rattle.component_encoding.specs.Passed.linked_imports-Imports.{AreNeeded, own_types, AreListed, AreNamed, IsImportable}
 use Rattle.wit_reach.specs.Holding.{AreTheirs, AreListed as AreTypesOfInterfacesListed, TypesUseEarlier}
-use Rattle.wit_graph.specs.Graph.{items_of, AreWhole, TypesOfItemsUseEarlier}
-use Rattle.wit_graph.specs.declared.tables.Tables.{Tables}
+use Rattle.linked_worlds.specs.Passed.wit_graph-Graph.{items_of, AreWhole, TypesOfItemsUseEarlier}
+use Rattle.linked_worlds.specs.Passed.wit_graph-declared-tables-Tables.{Tables}
 use Rattle.linked_worlds.specs.Asked.{AskedAreImported}
 use Rattle.linked_worlds.specs.Importable.{IsEmptyRoot, own_and_exported, WorldsAreWritable}
 use Rattle.linked_worlds.specs.Linked.{AreNamesOf, FunctionsAreThere}

@@ -11,12 +11,12 @@ use Rattle.wit_reach.proofs.Holding.{has_flat, flat_has}
 use Rattle.linked_types.specs.Reached.{MayBeLinked}
 use Rattle.core_links.specs.Imports.{StandsFor}
 use Rattle.core_links.specs.Needed.{IsNeeded}
-use Rattle.linked_interfaces.specs.Writable.{all_linked}
-use Rattle.link_table.specs.Linking.{Linking, types_of, exported_functions}
-use Rattle.link_table.specs.Table.{ImportEntry, IsImportEntry, Table, IsTable}
+use Rattle.linked_worlds.specs.Passed.linked_interfaces-Writable.{all_linked}
+use Rattle.component_encoding.specs.Passed.link_table-Linking.{Linking, types_of, exported_functions}
+use Rattle.component_encoding.specs.Passed.link_table-Table.{ImportEntry, IsImportEntry, Table, IsTable}
 use Rattle.wit_core_names.specs.Items.{CoreImport}
-use Rattle.linked_imports.specs.Imports.{AreNeeded}
-use Rattle.link_table.proofs.Pairwise.{placed}
+use Rattle.component_encoding.specs.Passed.linked_imports-Imports.{AreNeeded}
+use Rattle.component_encoding.proofs.Passed.link_table-Pairwise.{placed}
 use Rattle.component_encoding.proofs.Lists.{get_has, map_got, each_at}
 
 -- ---- lists

@@ -2,15 +2,15 @@
 use Rattle.std.specs.Prelude.{◌≡◌, ℕ, length}
 use Rattle.wit_reach.specs.Lists.{AreOwnersThere}
 use Rattle.wit_reach.specs.Types.{AreTypesBackward}
-use Rattle.type_sinks.specs.Root.{InterfaceNames}
+use Rattle.component_imports.specs.Passed.type_sinks-Root.{InterfaceNames}
 use Rattle.component_imports.specs.Interfaces.{EarlierAreApart}
-use Rattle.link_table.specs.Linking.{Linking, types_of, AreFunctionsThere}
-use Rattle.link_table.specs.Table.{Table, IsTable}
-use Rattle.right_components.specs.Outside.{AreKeyTexts}
-use Rattle.linked_imports.specs.Imports.{IsImportable}
+use Rattle.component_encoding.specs.Passed.link_table-Linking.{Linking, types_of, AreFunctionsThere}
+use Rattle.component_encoding.specs.Passed.link_table-Table.{Table, IsTable}
+use Rattle.linked_worlds.specs.Passed.right_components-Outside.{AreKeyTexts}
+use Rattle.component_encoding.specs.Passed.linked_imports-Imports.{IsImportable}
 use Rattle.component_encoding.specs.Component.{AreNeededListed}
-use Rattle.wit_graph.specs.Graph.{AreWhole}
-use Rattle.wit_graph.specs.declared.tables.Tables.{Tables}
+use Rattle.linked_worlds.specs.Passed.wit_graph-Graph.{AreWhole}
+use Rattle.linked_worlds.specs.Passed.wit_graph-declared-tables-Tables.{Tables}
 use Rattle.linked_worlds.specs.Linked.{AreNamesOf}
 use Rattle.linked_worlds.specs.Named.{AreItemsNamed}
 

@@ -3,12 +3,12 @@ use Rattle.std.proofs.Common.{◌≡◌, ℕ, List, [], ◌++◌, Option, Some, 
 use Rattle.std.proofs.lemmas.List.{append-nil}
 use Rattle.std.proofs.lemmas.List.Folds.{flat_map-map}
 use Rattle.std.specs.Prelude.{flat_map}
-use Rattle.wit_types.specs.declared.kind.«Type».{«Type» as Ref}
-use Rattle.wit_types.specs.declared.kind.TypeDefKind.{TypeDefKind}
-use Rattle.wit_types.specs.declared.kind.TypeDefKind.TheVariants as kinds
-use Rattle.wit_types.specs.declared.kind.Field.{Field}
-use Rattle.wit_types.specs.declared.kind.Case.{Case}
-use Rattle.wit_reach.specs.Ids.{ref_ids, part_ids, kind_ids}
+use Rattle.linked_types.specs.Passed.wit_types-declared-kind-Type.{«Type» as Ref}
+use Rattle.linked_types.specs.Passed.wit_types-declared-kind-TypeDefKind.{TypeDefKind}
+use Rattle.linked_types.specs.Passed.wit_types-declared-kind-TypeDefKind-TheVariants as kinds
+use Rattle.linked_types.specs.Passed.wit_types-declared-kind-Field.{Field}
+use Rattle.linked_types.specs.Passed.wit_types-declared-kind-Case.{Case}
+use Rattle.linked_types.specs.Passed.wit_reach-Ids.{ref_ids, part_ids, kind_ids}
 use Rattle.type_writing.specs.Unfolding.{FormOf, form_of}
 
 abbrev ids_in : Option FormOf → List ℕ

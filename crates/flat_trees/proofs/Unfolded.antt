@@ -8,29 +8,29 @@ use Rattle.std.specs.Prelude.{slice_get, flat_map, String, string_bytes}
 use Rattle.std.specs.declared.alloc.Global.{Global}
 use Rattle.wasm_types.specs.declared.types.ValType.{ValType}
 use Rattle.wasm_types.specs.declared.types.ValType.TheVariants.{I32}
-use Rattle.wit_types.specs.declared.kind.«Type».{«Type» as Ref}
-use Rattle.wit_types.specs.declared.kind.«Type».TheVariants as ref
-use Rattle.wit_types.specs.declared.kind.TypeDefKind.{TypeDefKind}
-use Rattle.wit_types.specs.declared.kind.TypeDefKind.TheVariants as kind
-use Rattle.wit_types.specs.declared.function.Param.{Param}
-use Rattle.wit_types.specs.declared.interface.TypeDef.{TypeDef}
-use Rattle.wit_types.specs.declared.interface.TypeOwner.{TypeOwner}
-use Rattle.wit_types.specs.declared.mangling.AbiVariant.{AbiVariant}
+use Rattle.linked_types.specs.Passed.wit_types-declared-kind-Type.{«Type» as Ref}
+use Rattle.linked_types.specs.Passed.wit_types-declared-kind-Type-TheVariants as ref
+use Rattle.linked_types.specs.Passed.wit_types-declared-kind-TypeDefKind.{TypeDefKind}
+use Rattle.linked_types.specs.Passed.wit_types-declared-kind-TypeDefKind-TheVariants as kind
+use Rattle.linked_types.specs.Passed.wit_types-declared-function-Param.{Param}
+use Rattle.linked_types.specs.Passed.wit_types-declared-interface-TypeDef.{TypeDef}
+use Rattle.linked_types.specs.Passed.wit_types-declared-interface-TypeOwner.{TypeOwner}
+use Rattle.linked_types.specs.Passed.wit_types-declared-mangling-AbiVariant.{AbiVariant}
 use Rattle.wit_order.specs.Order.{Has}
 use Rattle.wit_order.proofs.Lists.{has_was}
-use Rattle.wit_arena.proofs.Lists.{get_kept, get_last}
-use Rattle.wit_reach.specs.Ids.{ref_ids, part_ids, kind_ids}
-use Rattle.wit_reach.specs.Types.{AreTypesBackward}
-use Rattle.wit_reach.proofs.Lists.{has_append, has_parts}
+use Rattle.flat_types.proofs.Passed.wit_arena-Lists.{get_kept, get_last}
+use Rattle.linked_types.specs.Passed.wit_reach-Ids.{ref_ids, part_ids, kind_ids}
+use Rattle.linked_types.specs.Passed.wit_reach-Types.{AreTypesBackward}
+use Rattle.linked_types.proofs.Passed.wit_reach-Lists.{has_append, has_parts}
 use Rattle.flat_types.specs.Flat.{repeated}
 use Rattle.flat_types.specs.Signature.{SignatureValue, RequiredValue, signature_of, required_of}
 use Rattle.flat_types.specs.Flats.{cap, FlatValue, nothing, ref_flat, part_flat, in_order as known_in_order, in_place as known_in_place, one_holds_string, one_holds_list, of_fields, of_cases, kind_flat, flats_from, flats, params_flat, known_signature, known_required}
 use Rattle.flat_types.proofs.Capped.{Agree, cut_agrees, cons_agrees, appended_agree, joined_agree, repeated_to_cap}
 use Rattle.flat_types.proofs.Agreeing.{or_false, alike}
 use Rattle.flat_types.proofs.Signing.{params_agree, results_agree}
-use Rattle.type_meaning.specs.Tree.{Kind, Form, Tree, Parts, named, of, none, gap, part}
-use Rattle.type_meaning.specs.Tree as trees
-use Rattle.type_meaning.specs.Syntax.{plain, labelled}
+use Rattle.type_writing.specs.Passed.type_meaning-Tree.{Kind, Form, Tree, Parts, named, of, none, gap, part}
+use Rattle.type_writing.specs.Passed.type_meaning-Tree as trees
+use Rattle.type_writing.specs.Passed.type_meaning-Syntax.{plain, labelled}
 use Rattle.type_writing.specs.Unfolding.{OwnName, WitTree, FormOf, form_of, primitive_of, under_name, Unfolds, unfolds_primitive, unfolds_type, KindUnfolds, unfolds_form, unfolds_alias, PartsUnfold, no_parts, gap_unfolds, part_unfolds}
 use Rattle.type_writing.specs.Functions.{function_form, FunctionUnfolds}
 use Rattle.flat_trees.specs.Flat.{in_order, in_place, flat, flat_parts, signature}

@@ -3,25 +3,25 @@ use Rattle.std.proofs.Common.{◌≡◌, ℕ, zero, suc, ◌<◌, Bool, true, fa
 use Rattle.std.proofs.lemmas.List.Folds.{flat_map-map}
 use Rattle.std.specs.Prelude.{slice_get, flat_map, string_bytes, ◌==◌, if◌then◌else◌}
 use Rattle.std.specs.List.{list_any}
-use Rattle.wit_types.specs.declared.kind.«Type».{«Type» as Ref}
-use Rattle.wit_types.specs.declared.kind.«Type».TheVariants as ref
-use Rattle.wit_types.specs.declared.kind.Case.{Case}
-use Rattle.wit_types.specs.declared.kind.Field.{Field}
-use Rattle.wit_types.specs.declared.kind.TypeDefKind.{TypeDefKind}
-use Rattle.wit_types.specs.declared.kind.TypeDefKind.TheVariants as kind
-use Rattle.wit_types.specs.declared.function.Function.{Function}
-use Rattle.wit_types.specs.declared.function.Param.{Param}
-use Rattle.wit_types.specs.declared.interface.TypeDef.{TypeDef}
+use Rattle.linked_types.specs.Passed.wit_types-declared-kind-Type.{«Type» as Ref}
+use Rattle.linked_types.specs.Passed.wit_types-declared-kind-Type-TheVariants as ref
+use Rattle.linked_types.specs.Passed.wit_types-declared-kind-Case.{Case}
+use Rattle.linked_types.specs.Passed.wit_types-declared-kind-Field.{Field}
+use Rattle.linked_types.specs.Passed.wit_types-declared-kind-TypeDefKind.{TypeDefKind}
+use Rattle.linked_types.specs.Passed.wit_types-declared-kind-TypeDefKind-TheVariants as kind
+use Rattle.linked_types.specs.Passed.wit_types-declared-function-Function.{Function}
+use Rattle.linked_types.specs.Passed.wit_types-declared-function-Param.{Param}
+use Rattle.linked_types.specs.Passed.wit_types-declared-interface-TypeDef.{TypeDef}
 use Rattle.wit_order.specs.Order.{Has}
 use Rattle.wit_order.proofs.Lists.{has_was}
-use Rattle.wit_reach.specs.Ids.{ref_ids, part_ids, kind_ids, function_ids, resource_ids, signature_ids}
-use Rattle.wit_reach.specs.Paths.{Reaches}
-use Rattle.wit_reach.specs.Types.{IsMadeOf, AreTypesBackward}
-use Rattle.wit_reach.proofs.Lists.{has_append, has_parts}
+use Rattle.linked_types.specs.Passed.wit_reach-Ids.{ref_ids, part_ids, kind_ids, function_ids, resource_ids, signature_ids}
+use Rattle.linked_types.specs.Passed.wit_reach-Paths.{Reaches}
+use Rattle.linked_types.specs.Passed.wit_reach-Types.{IsMadeOf, AreTypesBackward}
+use Rattle.linked_types.proofs.Passed.wit_reach-Lists.{has_append, has_parts}
 use Rattle.flat_types.proofs.Signing.{any_of_map}
-use Rattle.type_meaning.specs.Tree.{Kind, Parts, of, none, gap, part}
-use Rattle.type_meaning.specs.Tree as trees
-use Rattle.type_meaning.specs.Syntax.{plain, labelled}
+use Rattle.type_writing.specs.Passed.type_meaning-Tree.{Kind, Parts, of, none, gap, part}
+use Rattle.type_writing.specs.Passed.type_meaning-Tree as trees
+use Rattle.type_writing.specs.Passed.type_meaning-Syntax.{plain, labelled}
 use Rattle.type_writing.specs.Unfolding.{OwnName, WitTree, FormOf, form_of, under_name, Unfolds, unfolds_primitive, unfolds_type, KindUnfolds, unfolds_form, unfolds_alias, PartsUnfold, no_parts, gap_unfolds, part_unfolds}
 use Rattle.type_writing.specs.Functions.{function_form}
 use Rattle.linked_types.specs.Kinds.{is_error_context, part_is, if_async, unless_empty, kind_fault}

@@ -3,15 +3,15 @@ use Rattle.std.proofs.Common.{◌≡◌, ℕ, Bool, true, false, ◌||◌, List,
 use Rattle.std.proofs.lemmas.List.Folds.{list_any-from_Any}
 use Rattle.std.specs.Prelude.{◌==◌, if◌then◌else◌}
 use Rattle.std.specs.List.{list_any}
-use Rattle.wit_types.specs.declared.function.Function.{Function}
-use Rattle.wit_types.specs.declared.function.Param.{Param}
-use Rattle.wit_types.specs.declared.interface.TypeDef.{TypeDef}
-use Rattle.wit_types.specs.declared.kind.«Type».{«Type» as Ref}
-use Rattle.wit_types.specs.declared.kind.«Type».TheVariants as ref
-use Rattle.wit_types.specs.declared.kind.Case.{Case}
-use Rattle.wit_types.specs.declared.kind.Field.{Field}
-use Rattle.wit_types.specs.declared.kind.TypeDefKind.{TypeDefKind}
-use Rattle.wit_types.specs.declared.kind.TypeDefKind.TheVariants as kind
+use Rattle.linked_types.specs.Passed.wit_types-declared-function-Function.{Function}
+use Rattle.linked_types.specs.Passed.wit_types-declared-function-Param.{Param}
+use Rattle.linked_types.specs.Passed.wit_types-declared-interface-TypeDef.{TypeDef}
+use Rattle.linked_types.specs.Passed.wit_types-declared-kind-Type.{«Type» as Ref}
+use Rattle.linked_types.specs.Passed.wit_types-declared-kind-Type-TheVariants as ref
+use Rattle.linked_types.specs.Passed.wit_types-declared-kind-Case.{Case}
+use Rattle.linked_types.specs.Passed.wit_types-declared-kind-Field.{Field}
+use Rattle.linked_types.specs.Passed.wit_types-declared-kind-TypeDefKind.{TypeDefKind}
+use Rattle.linked_types.specs.Passed.wit_types-declared-kind-TypeDefKind-TheVariants as kind
 use Rattle.flat_types.proofs.Signing.{any_of_map}
 use Rattle.linked_types.specs.Kinds.{is_error_context, part_is, if_async, unless_empty, kind_fault}
 use Rattle.linked_types.specs.Reached.{function_kind_fault, or_else, function_fault}

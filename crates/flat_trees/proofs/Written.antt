@@ -1,10 +1,10 @@
 -- The tree that is written for a type has its core type.
 use Rattle.std.proofs.Common.{◌≡◌, Bool, ◌||◌, ◌&&◌, List, [], ◌∷◌, refl, ap}
 use Rattle.wasm_types.specs.declared.types.ValType.{ValType}
-use Rattle.wit_types.specs.declared.mangling.AbiVariant.{AbiVariant}
+use Rattle.linked_types.specs.Passed.wit_types-declared-mangling-AbiVariant.{AbiVariant}
 use Rattle.flat_types.specs.Signature.{required_of}
-use Rattle.type_meaning.specs.Tree.{Kind, Parts, named, resource, of, none, gap, part}
-use Rattle.type_meaning.specs.Words.{Label}
+use Rattle.type_writing.specs.Passed.type_meaning-Tree.{Kind, Parts, named, resource, of, none, gap, part}
+use Rattle.type_writing.specs.Passed.type_meaning-Words.{Label}
 use Rattle.type_writing.specs.Unfolding.{OwnName, WitTree}
 use Rattle.type_writing.specs.Writing.{written, written_parts}
 use Rattle.flat_trees.specs.Flat.{flat_kind, flat, flat_parts, signature_by, signature}

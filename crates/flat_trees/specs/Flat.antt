@@ -3,10 +3,10 @@ use Rattle.std.specs.Prelude.{ℕ, List, [], ◌∷◌, ◌++◌}
 use Rattle.wasm_types.specs.declared.types.ValType.{ValType}
 use Rattle.wasm_types.specs.declared.types.ValType.TheVariants.{I32, I64, F32, F64}
 use Rattle.wasm_types.specs.Types.{FuncTypeValue}
-use Rattle.wit_types.specs.declared.mangling.AbiVariant.{AbiVariant}
+use Rattle.linked_types.specs.Passed.wit_types-declared-mangling-AbiVariant.{AbiVariant}
 use Rattle.flat_types.specs.Flat.{join_places, repeated}
 use Rattle.flat_types.specs.Signature.{SignatureValue, signature_of}
-use Rattle.type_meaning.specs.Tree.{Kind, bool, s8, u8, s16, u16, s32, u32, s64, u64, f32, f64, char, string, error_context, record_kind, variant_kind, enum_kind, flags_kind, tuple_kind, list_kind, fixed_length_list_kind, option_kind, result_kind, own_kind, borrow_kind, future_kind, stream_kind, function_kind, Tree, Parts, named, resource, of, none, gap, part}
+use Rattle.type_writing.specs.Passed.type_meaning-Tree.{Kind, bool, s8, u8, s16, u16, s32, u32, s64, u64, f32, f64, char, string, error_context, record_kind, variant_kind, enum_kind, flags_kind, tuple_kind, list_kind, fixed_length_list_kind, option_kind, result_kind, own_kind, borrow_kind, future_kind, stream_kind, function_kind, Tree, Parts, named, resource, of, none, gap, part}
 
 -- those of parts one after the other, and in the same places
 abbrev pub in_order : List (List ValType) → List ValType

@@ -1,9 +1,9 @@
 -- What values of types hold of which lies in memory, and what a function asks for so that its values can be passed, by the trees of types
 -- (Component Model, Canonical ABI, Storing, canon lift and canon lower).
 use Rattle.std.specs.Prelude.{Bool, true, false, ◌&&◌, ◌||◌}
-use Rattle.wit_types.specs.declared.mangling.AbiVariant.{AbiVariant}
+use Rattle.linked_types.specs.Passed.wit_types-declared-mangling-AbiVariant.{AbiVariant}
 use Rattle.flat_types.specs.Signature.{SignatureValue, RequiredValue, required_of}
-use Rattle.type_meaning.specs.Tree.{Kind, string, list_kind, own_kind, borrow_kind, future_kind, stream_kind, Tree, Parts, named, resource, of, none, gap, part}
+use Rattle.type_writing.specs.Passed.type_meaning-Tree.{Kind, string, list_kind, own_kind, borrow_kind, future_kind, stream_kind, Tree, Parts, named, resource, of, none, gap, part}
 use Rattle.flat_trees.specs.Flat.{signature}
 
 abbrev pub is_string : Kind → Bool

@@ -1,16 +1,16 @@
 -- Core types by trees are those that are known of the types of an arena one by one.
 use Rattle.std.specs.Prelude.{◌≡◌, List, take, Option}
-use Rattle.wit_types.specs.declared.kind.«Type».{«Type» as Ref}
-use Rattle.wit_types.specs.declared.function.Param.{Param}
-use Rattle.wit_types.specs.declared.interface.TypeDef.{TypeDef}
-use Rattle.wit_types.specs.declared.mangling.AbiVariant.{AbiVariant}
-use Rattle.wit_types.specs.declared.function.Function.{Function}
+use Rattle.linked_types.specs.Passed.wit_types-declared-kind-Type.{«Type» as Ref}
+use Rattle.linked_types.specs.Passed.wit_types-declared-function-Param.{Param}
+use Rattle.linked_types.specs.Passed.wit_types-declared-interface-TypeDef.{TypeDef}
+use Rattle.linked_types.specs.Passed.wit_types-declared-mangling-AbiVariant.{AbiVariant}
+use Rattle.linked_types.specs.Passed.wit_types-declared-function-Function.{Function}
 use Rattle.wit_order.specs.Order.{Has}
-use Rattle.wit_reach.specs.Types.{AreTypesBackward, AreTypesThere}
+use Rattle.linked_types.specs.Passed.wit_reach-Types.{AreTypesBackward, AreTypesThere}
 use Rattle.linked_types.specs.Reached.{ids_of, MayBeLinked}
 use Rattle.flat_types.specs.Flats.{cap, FlatValue, ref_flat, flats, known_signature, known_required}
-use Rattle.type_meaning.specs.Tree.{Tree}
-use Rattle.type_meaning.specs.Words.{Label}
+use Rattle.type_writing.specs.Passed.type_meaning-Tree.{Tree}
+use Rattle.type_writing.specs.Passed.type_meaning-Words.{Label}
 use Rattle.type_writing.specs.Unfolding.{OwnName, WitTree, Unfolds}
 use Rattle.type_writing.specs.Writing.{written}
 use Rattle.type_writing.specs.Functions.{FunctionUnfolds}

@@ -1,3 +1,4 @@
 pub mod Flat
 pub mod Held
 pub mod Law
+pub mod Passed

@@ -4,3 +4,4 @@ pub mod Signature
 pub mod Flats
 pub mod Gathered
 pub mod View
+pub mod Passed

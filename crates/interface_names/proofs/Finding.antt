@@ -35,8 +35,8 @@ use Rattle.core_links.specs.Names.{Names}
 use Rattle.core_links.specs.Imports.{StandsFor, StandsAt}
 use Rattle.core_links.specs.Needed.{IsKeyOf}
 use Rattle.linked_types.proofs.Walks.{has_one_more, has_at}
-use Rattle.type_sinks.proofs.Names.{has_before, has_last}
-use Rattle.right_components.specs.Outside.{IsTextOf, IsImportedUnder}
+use Rattle.linked_worlds.proofs.Passed.type_sinks-Names.{has_before, has_last}
+use Rattle.linked_worlds.specs.Passed.right_components-Outside.{IsTextOf, IsImportedUnder}
 use Rattle.interface_names.specs.Names.{IsNeededUnder, HasTwoNames, AreNamesById}
 use Rattle.interface_names.specs.Found.{Texts, text_at, AreNone, Puts, first, again, another, PutsKey, its_text, no_text, PutsEntry, PutsPlace, AreFound, IsFilledAt, AreFilled, text_or_empty, or_empty}
 

@@ -17,10 +17,10 @@ use Rattle.wit_elaborated.specs.Staying.{ElaboratedWorldsAreThere}
 use Rattle.wit_elaborated.specs.Worlds.{IsKeyOfItem, AreKeysOfItems}
 use Rattle.wit_core_items.specs.Places.{Entry}
 use Rattle.core_links.specs.Names.{Names}
-use Rattle.wit_graph_worlds.specs.Sound.{IsElaborationOf}
-use Rattle.wit_graph.specs.Graph.{AreWhole}
-use Rattle.wit_graph.specs.declared.tables.Tables.{Tables}
-use Rattle.wit_graph.proofs.Depending.{world_there}
+use Rattle.linked_worlds.specs.Passed.wit_graph_worlds-Sound.{IsElaborationOf}
+use Rattle.linked_worlds.specs.Passed.wit_graph-Graph.{AreWhole}
+use Rattle.linked_worlds.specs.Passed.wit_graph-declared-tables-Tables.{Tables}
+use Rattle.linked_worlds.proofs.Passed.wit_graph-Depending.{world_there}
 use Rattle.linked_worlds.specs.Linked.{AreNamesOf}
 use Rattle.linked_worlds.proofs.Listing.{found_keys}
 use Rattle.interface_names.specs.Names.{ArePackagesThere}

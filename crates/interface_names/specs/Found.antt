@@ -9,8 +9,8 @@ use Rattle.wit_core_items.specs.Places.{Entry}
 use Rattle.wit_core_items.specs.declared.import_places.ImportPlace.{ImportPlace}
 use Rattle.wit_core_items.specs.declared.import_places.ImportPlace.TheVariants.{OwnFunction, InterfaceFunction, OwnDrop, InterfaceDrop, ExportedIntrinsic}
 use Rattle.core_links.specs.Names.{Names}
-use Rattle.type_sinks.specs.Root.{InterfaceNames}
-use Rattle.right_components.specs.Outside.{IsTextOf, IsImportedUnder}
+use Rattle.linked_worlds.specs.Passed.type_sinks-Root.{InterfaceNames}
+use Rattle.linked_worlds.specs.Passed.right_components-Outside.{IsTextOf, IsImportedUnder}
 use Rattle.interface_names.specs.Names.{IsNeededUnder}
 
 -- a text at each place, or none

@@ -2,10 +2,10 @@
 use Rattle.std.specs.Prelude.{ℕ, List}
 use Rattle.wasm_types.specs.Entries.{ImportValue}
 use Rattle.core_links.specs.Names.{Names}
-use Rattle.type_sinks.specs.Root.{InterfaceNames}
-use Rattle.right_components.specs.Outside.{AreInterfaceNames}
-use Rattle.wit_graph.specs.Graph.{AreWhole}
-use Rattle.wit_graph.specs.declared.tables.Tables.{Tables}
+use Rattle.linked_worlds.specs.Passed.type_sinks-Root.{InterfaceNames}
+use Rattle.linked_worlds.specs.Passed.right_components-Outside.{AreInterfaceNames}
+use Rattle.linked_worlds.specs.Passed.wit_graph-Graph.{AreWhole}
+use Rattle.linked_worlds.specs.Passed.wit_graph-declared-tables-Tables.{Tables}
 use Rattle.linked_worlds.specs.Linked.{AreNamesOf}
 use Rattle.interface_names.specs.Names.{AreImportsThere, HasTwoNames}
 

@@ -11,8 +11,8 @@ use Rattle.wit_types.specs.declared.world_key.WorldKey.{WorldKey}
 use Rattle.wit_names.specs.Names.{ArePackagesKnown, IsKeyThere}
 use Rattle.core_links.specs.Names.{Names}
 use Rattle.core_links.specs.Needed.{IsKeyOf, IsNeeded}
-use Rattle.type_sinks.specs.Root.{InterfaceNames}
-use Rattle.right_components.specs.Outside.{IsTextOf, IsImportedUnder, AreInterfaceNames}
+use Rattle.linked_worlds.specs.Passed.type_sinks-Root.{InterfaceNames}
+use Rattle.linked_worlds.specs.Passed.right_components-Outside.{IsTextOf, IsImportedUnder, AreInterfaceNames}
 
 -- ---- what the world imports is there
 

@@ -20,7 +20,7 @@ use Rattle.component_definitions.specs.Sorts.{sort, sort_form_of, component_sort
 use Rattle.component_instances.specs.Instances.{core_instance, instance_form_of, core_item, core_argument}
 use Rattle.component_instances.specs.TypeDefinitions as definitions
 use Rattle.wasm_types.specs.Types.{kind_of}
-use Rattle.component_entries.specs.Entries.{DefinedValue}
+use Rattle.component_sections.specs.Passed.component_entries-Entries.{DefinedValue}
 use Rattle.component_sections.specs.Component.{Follows}
 use Rattle.plain_worlds.specs.declared.world.PrimitiveType.{PrimitiveType}
 use Rattle.plain_worlds.specs.declared.world.PrimitiveType.TheVariants as primitives

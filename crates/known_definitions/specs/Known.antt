@@ -21,7 +21,7 @@ use Rattle.component_definitions.specs.Canonical.{CanonicalValue, lift, lower}
 use Rattle.component_instances.specs.declared.instances.CoreItem.{CoreItem}
 use Rattle.component_instances.specs.Instances.{CoreInstanceValue, core_instantiate, core_inline}
 use Rattle.component_instances.specs.TypeDefinitions.{TypeDefinitionValue, defined}
-use Rattle.component_entries.specs.Entries.{EntryValue, an_alias, a_type, an_import, an_export}
+use Rattle.component_sections.specs.Passed.component_entries-Entries.{EntryValue, an_alias, a_type, an_import, an_export}
 use Rattle.component_sections.specs.Component as whole
 use Rattle.component_sections.specs.Component.{a_core_module, a_core_instance, a_canonical, an_entry}
 use Rattle.plain_worlds.specs.declared.world.PrimitiveType.{PrimitiveType}

@@ -9,11 +9,11 @@ ghost use Rattle.component_definitions.specs.Canonical.{canonical_value};
 ghost use Rattle.component_definitions.specs.Externs.{import_value, export_value};
 ghost use Rattle.component_instances.specs.Instances.{core_argument_value, core_instance_value};
 ghost use Rattle.component_instances.specs.TypeDefinitions.{type_definition_value};
-ghost use Rattle.component_entries.specs.Entries.{entry_value};
+ghost use Rattle.component_sections.specs.Passed.component_entries-Entries.{entry_value};
 ghost use Rattle.component_sections.specs.Component as whole;
 ghost use Rattle.plain_worlds.specs.World.{each_of};
 ghost use Rattle.known_definitions.specs.Definition.{parameter_value, function_type_value, argument_value, inline_export_value, kind_value, definition_values, AreWithin};
-ghost use Rattle.component_entries.specs.Entries as entries;
+ghost use Rattle.component_sections.specs.Passed.component_entries-Entries as entries;
 ghost use Rattle.known_definitions.specs.Definition as known;
 ghost use Rattle.known_definitions.specs.Known as spec;
 

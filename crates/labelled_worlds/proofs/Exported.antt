@@ -14,12 +14,12 @@ use Rattle.wit_types.specs.declared.world.WorldItem.TheVariants as item
 use Rattle.wit_types.specs.declared.world_key.WorldKey.{WorldKey}
 use Rattle.wit_types.specs.declared.world_key.WorldKey.TheVariants as key
 use Rattle.wit_reach.proofs.Holding.{has_mapped}
-use Rattle.wit_labels.specs.Named.{IsSidePlain}
-use Rattle.wit_labels.specs.Plain.{ArePlainApart}
-use Rattle.wit_labels.proofs.Every.{each_at}
+use Rattle.wit_labelled_graphs.specs.Passed.wit_labels-Named.{IsSidePlain}
+use Rattle.wit_labelled_graphs.specs.Passed.wit_labels-Plain.{ArePlainApart}
+use Rattle.wit_labelled_graphs.proofs.Passed.wit_labels-Every.{each_at}
 use Rattle.wit_labelled_graphs.specs.Named.{AreFunctionsUnderNames, IsNamedApart}
-use Rattle.component_imports.specs.Functions.{function_names}
-use Rattle.link_table.specs.Linking.{functions_at, exported_functions}
+use Rattle.linked_imports.specs.Passed.component_imports-Functions.{function_names}
+use Rattle.linked_imports.specs.Passed.link_table-Linking.{functions_at, exported_functions}
 use Rattle.labelled_worlds.specs.Apart.{ExportedFunctionsAreApart}
 
 -- ---- names that are new behind others

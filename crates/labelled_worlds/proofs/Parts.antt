@@ -12,15 +12,15 @@ use Rattle.wit_types.specs.declared.world.WorldItem.{WorldItem}
 use Rattle.wit_types.specs.declared.world.WorldItem.TheVariants as item
 use Rattle.wit_types.specs.declared.world_key.WorldKey.{WorldKey}
 use Rattle.wit_reach.proofs.Holding.{got}
-use Rattle.wit_labels.specs.Labels as labels
-use Rattle.wit_labels.specs.Labels.{IsSideApart, IsInterfaceApart, IsWorldApart}
-use Rattle.wit_labels.proofs.Every.{each_at, each_of}
-use Rattle.wit_graph.specs.declared.tables.Tables.{Tables}
+use Rattle.wit_labelled_graphs.specs.Passed.wit_labels-Labels as labels
+use Rattle.wit_labelled_graphs.specs.Passed.wit_labels-Labels.{IsSideApart, IsInterfaceApart, IsWorldApart}
+use Rattle.wit_labelled_graphs.proofs.Passed.wit_labels-Every.{each_at, each_of}
+use Rattle.linked_worlds.specs.Passed.wit_graph-declared-tables-Tables.{Tables}
 use Rattle.wit_labelled_graphs.specs.Labelled.{IsLabelled}
 use Rattle.type_writing.specs.Placing as writing
-use Rattle.component_imports.specs.Functions.{HaveParametersApart}
+use Rattle.linked_imports.specs.Passed.component_imports-Functions.{HaveParametersApart}
 use Rattle.core_links.specs.Needed.{IsPartOf, empty, with_it, without, own_functions, functions_of}
-use Rattle.link_table.specs.Linking.{Linking, functions_at}
+use Rattle.linked_imports.specs.Passed.link_table-Linking.{Linking, functions_at}
 use Rattle.linked_imports.specs.Imports.{AreNeeded, ArePartsApart}
 use Rattle.linked_worlds.specs.Linked.{AreNamesOf}
 use Rattle.labelled_worlds.specs.Apart.{WorldsHavePartsApart}

@@ -1,11 +1,11 @@
 -- Names within what is linked of a world of a graph differ, and so do those of the functions that it exports (WIT, Items, Types, Item: `world`).
 use Rattle.std.specs.Prelude.{◌≡◌, ℕ, [], true}
 use Rattle.distinct_names.specs.Names.{all_new}
-use Rattle.wit_graph.specs.declared.tables.Tables.{Tables}
+use Rattle.linked_worlds.specs.Passed.wit_graph-declared-tables-Tables.{Tables}
 use Rattle.wit_labelled_graphs.specs.Labelled.{IsLabelled}
 use Rattle.wit_labelled_graphs.specs.Named.{AreWorldsNamed}
-use Rattle.component_imports.specs.Functions.{function_names}
-use Rattle.link_table.specs.Linking.{Linking, exported_functions}
+use Rattle.linked_imports.specs.Passed.component_imports-Functions.{function_names}
+use Rattle.linked_imports.specs.Passed.link_table-Linking.{Linking, exported_functions}
 use Rattle.linked_imports.specs.Imports.{ArePartsApart}
 use Rattle.linked_worlds.specs.Linked.{AreNamesOf}
 

@@ -7,7 +7,7 @@ use Rattle.wit_types.specs.declared.function.Function.{Function}
 use Rattle.wit_types.specs.declared.mangling.AbiVariant.{AbiVariant}
 use Rattle.wit_types.specs.declared.mangling.AbiVariant.TheVariants.{GuestImport, GuestExport}
 use Rattle.wit_types.specs.declared.world_key.WorldKey.{WorldKey}
-use Rattle.flat_types.specs.Signature.{RequiredValue}
+use Rattle.canonical_options.specs.Passed.flat_types-Signature.{RequiredValue}
 use Rattle.linked_types.specs.Reached.{IsCause as IsReachedCause}
 use Rattle.linked_types.specs.declared.fault.TypeFault.{TypeFault}
 use Rattle.linked_types.specs.declared.fault.TypeFault.TheVariants as type_faults

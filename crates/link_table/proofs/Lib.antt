@@ -11,3 +11,4 @@ pub mod There
 mod Typed
 pub mod Walks
 mod Whole
+pub mod Passed

@@ -16,9 +16,9 @@ use Rattle.wit_types.specs.declared.interface.TypeDef.{TypeDef}
 use Rattle.wit_types.specs.declared.mangling.AbiVariant.{AbiVariant}
 use Rattle.wit_types.specs.declared.mangling.AbiVariant.TheVariants.{GuestImport, GuestExport}
 use Rattle.wit_types.specs.declared.world_key.WorldKey.{WorldKey}
-use Rattle.wit_core_items.specs.World.{ImportStandsFor}
+use Rattle.core_links.specs.Passed.wit_core_items-World.{ImportStandsFor}
 use Rattle.wit_core_names.specs.Items.{CoreImport}
-use Rattle.flat_types.specs.Signature.{RequiredValue}
+use Rattle.canonical_options.specs.Passed.flat_types-Signature.{RequiredValue}
 use Rattle.flat_trees.specs.Flat.{core_type}
 use Rattle.flat_trees.specs.Law.{UnfoldedFunctionsAreFlat}
 use Rattle.linked_types.proofs.Walks.{has_at}

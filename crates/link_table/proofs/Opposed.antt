@@ -6,7 +6,7 @@ use Rattle.wasm_types.specs.Entries.{ExportValue}
 use Rattle.wasm_types.specs.declared.types.ExportKind.TheVariants as kinds
 use Rattle.wasm_format.specs.Module.{exported_type}
 use Rattle.wit_types.specs.declared.mangling.AbiVariant.{AbiVariant}
-use Rattle.flat_types.specs.Signature.{RequiredValue}
+use Rattle.canonical_options.specs.Passed.flat_types-Signature.{RequiredValue}
 use Rattle.link_lines.specs.declared.encoding.StringEncoding.{StringEncoding}
 use Rattle.core_links.specs.Exports.{MeansTwo, IsUnclear}
 use Rattle.link_table.specs.Linking.{Linking}

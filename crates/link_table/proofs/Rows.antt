@@ -12,9 +12,9 @@ use Rattle.wit_types.specs.declared.mangling.Mangling.TheVariants.{Standard32, L
 use Rattle.wit_types.specs.declared.world.WorldItem.{WorldItem}
 use Rattle.wit_types.specs.declared.world_key.WorldKey.{WorldKey}
 use Rattle.wit_names.specs.Names.{IsKeyText}
-use Rattle.wit_core_items.specs.World.{IsImportedAs}
-use Rattle.wit_core_items.specs.Named.{is_import_named, IsImportOnSide}
-use Rattle.wit_core_items.proofs.Naming.{import_has_name, import_has_none}
+use Rattle.core_links.specs.Passed.wit_core_items-World.{IsImportedAs}
+use Rattle.core_links.specs.Passed.wit_core_items-Named.{is_import_named, IsImportOnSide}
+use Rattle.core_links.proofs.Passed.wit_core_items-Naming.{import_has_name, import_has_none}
 use Rattle.wit_core_names.specs.Imports.{IsImportName, IsImportNamed}
 use Rattle.wit_core_names.specs.Items.{CoreImport}
 use Rattle.link_lines.specs.Line.{LinkValue}

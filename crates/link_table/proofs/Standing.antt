@@ -5,7 +5,7 @@ use Rattle.std.specs.Prelude.{slice_get}
 use Rattle.wasm_types.specs.Entries.{ImportValue}
 use Rattle.wit_types.specs.declared.function.Function.{Function}
 use Rattle.wit_types.specs.declared.world_key.WorldKey.{WorldKey}
-use Rattle.wit_core_items.specs.World.{core_imports}
+use Rattle.core_links.specs.Passed.wit_core_items-World.{core_imports}
 use Rattle.wit_core_names.specs.Items.{CoreImport}
 use Rattle.wit_core_names.specs.declared.items.ResourceIntrinsic.{ResourceIntrinsic}
 use Rattle.core_links.specs.Names.{Names}

@@ -3,7 +3,7 @@ use Rattle.std.proofs.Common.{◌<◌, List, Option, inl, inr, subst, length}
 use Rattle.wasm_types.specs.Entries.{ImportValue}
 use Rattle.wit_order.specs.Order.{Has}
 use Rattle.linked_types.proofs.Walks.{has_at}
-use Rattle.wit_core_items.specs.World.{core_imports}
+use Rattle.core_links.specs.Passed.wit_core_items-World.{core_imports}
 use Rattle.wit_core_names.specs.Items.{CoreImport}
 use Rattle.wit_reach.specs.Ids.{function_ids}
 use Rattle.wit_reach.specs.Types.{AreTypesThere}

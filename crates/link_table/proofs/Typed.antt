@@ -5,9 +5,9 @@ use Rattle.wit_reach.specs.Types.{AreTypesBackward}
 use Rattle.wit_types.specs.declared.function.Function.{Function}
 use Rattle.wit_types.specs.declared.interface.TypeDef.{TypeDef}
 use Rattle.wit_types.specs.declared.mangling.AbiVariant.{AbiVariant}
-use Rattle.type_writing.specs.Unfolding.{WitTree}
-use Rattle.flat_types.specs.Flats.{FlatValue, flats, known_signature, known_required}
-use Rattle.flat_types.specs.Signature.{SignatureValue, RequiredValue}
+use Rattle.flat_trees.specs.Passed.type_writing-Unfolding.{WitTree}
+use Rattle.canonical_options.specs.Passed.flat_types-Flats.{FlatValue, flats, known_signature, known_required}
+use Rattle.canonical_options.specs.Passed.flat_types-Signature.{SignatureValue, RequiredValue}
 use Rattle.flat_trees.specs.Flat.{signature, core_type}
 use Rattle.flat_trees.specs.Law.{UnfoldedFunctionsAreFlat}
 use Rattle.link_table.specs.Types.{HasTree, HasCoreType, Requires, IsOfType, IsMistyped}

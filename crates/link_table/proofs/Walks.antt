@@ -7,13 +7,13 @@ use Rattle.std.specs.Prelude.{slice_get, get_or, option_map, option_and_then, op
 use Rattle.wasm_types.specs.declared.entries.Import.{Import}
 use Rattle.wasm_types.specs.Entries.{ImportValue, import_value}
 use Rattle.wasm_format.specs.Module.{imported_type}
-use Rattle.flat_types.specs.Signature.{RequiredValue}
+use Rattle.canonical_options.specs.Passed.flat_types-Signature.{RequiredValue}
 use Rattle.wit_types.specs.declared.mangling.AbiVariant.TheVariants.{GuestImport}
 use Rattle.wit_order.specs.Order.{Has}
 use Rattle.wit_types.specs.declared.function.Function.{Function}
 use Rattle.wit_types.specs.declared.world.WorldItem.{WorldItem}
 use Rattle.wit_types.specs.declared.world_key.WorldKey.{WorldKey}
-use Rattle.wit_core_items.proofs.Growing.{below_or_at}
+use Rattle.core_links.proofs.Passed.wit_core_items-Growing.{below_or_at}
 use Rattle.linked_types.proofs.Walks.{has_at, has_one_more}
 use Rattle.core_links.proofs.Paired.{taken, of_taken, import_at}
 use Rattle.link_table.specs.Apart.{HaveNoPostReturns, PostReturnNames}

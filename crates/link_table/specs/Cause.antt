@@ -9,7 +9,7 @@ use Rattle.wit_types.specs.declared.mangling.AbiVariant.TheVariants.{GuestImport
 use Rattle.wit_types.specs.declared.world_key.WorldKey.{WorldKey}
 use Rattle.wit_core_names.specs.Items.{CoreExport}
 use Rattle.wit_core_names.specs.declared.items.WasmExportKind.TheVariants.{Normal}
-use Rattle.flat_types.specs.Signature.{RequiredValue}
+use Rattle.canonical_options.specs.Passed.flat_types-Signature.{RequiredValue}
 use Rattle.linked_types.specs.Reached.{IsCause as IsReachedCause}
 use Rattle.linked_types.specs.declared.fault.TypeFault.{TypeFault}
 use Rattle.linked_types.specs.declared.fault.TypeFault.TheVariants as type_faults

@@ -10,7 +10,7 @@ use Rattle.wit_types.specs.declared.world_key.WorldKey.{WorldKey}
 use Rattle.wit_core_names.specs.Items.{CoreImport, CoreExport}
 use Rattle.wit_core_names.specs.declared.items.ResourceIntrinsic.{ResourceIntrinsic}
 use Rattle.wit_core_names.specs.declared.items.WasmExportKind.TheVariants.{PostReturn}
-use Rattle.flat_types.specs.Signature.{RequiredValue}
+use Rattle.canonical_options.specs.Passed.flat_types-Signature.{RequiredValue}
 use Rattle.core_links.specs.Imports.{is_outer_memory, StandsFor}
 use Rattle.link_table.specs.Linking.{Linking, types_of, StandsForFunction, function_at, exported_functions}
 use Rattle.link_table.specs.Options.{Naming, NamesOf, asks, Options, AreOptions}

@@ -8,7 +8,7 @@ use Rattle.wit_types.specs.declared.mangling.AbiVariant.TheVariants.{GuestExport
 use Rattle.wit_types.specs.declared.world.World.{World}
 use Rattle.wit_types.specs.declared.world.WorldItem.{WorldItem}
 use Rattle.wit_types.specs.declared.world_key.WorldKey.{WorldKey}
-use Rattle.flat_types.specs.Signature.{RequiredValue}
+use Rattle.canonical_options.specs.Passed.flat_types-Signature.{RequiredValue}
 use Rattle.core_links.specs.declared.fault.LinkFault.TheVariants as link_faults
 use Rattle.link_table.specs.Linking.{Linking, types_of, function_at}
 use Rattle.link_table.specs.Types.{Requires, IsOfType, IsMistyped}

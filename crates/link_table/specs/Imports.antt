@@ -8,7 +8,7 @@ use Rattle.wit_types.specs.declared.mangling.AbiVariant.TheVariants.{GuestImport
 use Rattle.wit_types.specs.declared.world_key.WorldKey.{WorldKey}
 use Rattle.wit_core_names.specs.Items.{CoreImport}
 use Rattle.wit_core_names.specs.declared.items.ResourceIntrinsic.{ResourceIntrinsic}
-use Rattle.flat_types.specs.Signature.{RequiredValue}
+use Rattle.canonical_options.specs.Passed.flat_types-Signature.{RequiredValue}
 use Rattle.core_links.specs.Imports.{StandsFor}
 use Rattle.link_table.specs.Linking.{Linking, types_of}
 use Rattle.link_table.specs.Types.{Requires, IsMistyped}

@@ -13,3 +13,4 @@ pub mod Walks
 pub mod Lookups
 pub mod Lines
 pub mod Law
+pub mod Passed

@@ -11,7 +11,7 @@ use Rattle.wit_types.specs.declared.world.World.{World}
 use Rattle.wit_types.specs.declared.world.WorldItem.{WorldItem}
 use Rattle.wit_types.specs.declared.world.WorldItem.TheVariants as item
 use Rattle.wit_types.specs.declared.world_key.WorldKey.{WorldKey}
-use Rattle.wit_core_items.specs.World.{core_imports}
+use Rattle.core_links.specs.Passed.wit_core_items-World.{core_imports}
 use Rattle.wit_core_names.specs.Items.{CoreImport}
 use Rattle.wit_core_names.specs.declared.items.ResourceIntrinsic.{ResourceIntrinsic}
 use Rattle.link_lines.specs.declared.encoding.StringEncoding.{StringEncoding}

@@ -3,7 +3,7 @@ use Rattle.std.specs.Prelude.{◌≡◌, map}
 use Rattle.wasm_types.specs.Entries.{export_value}
 use Rattle.wit_names.specs.Names.{ArePackagesKnown}
 use Rattle.wit_reach.specs.Types.{AreTypesBackward}
-use Rattle.flat_types.specs.Flats.{flats}
+use Rattle.canonical_options.specs.Passed.flat_types-Flats.{flats}
 use Rattle.core_links.specs.Names.{names_in}
 use Rattle.core_links.specs.View.{AreNamesOf}
 use Rattle.link_table.specs.declared.lookup.Lookup.{Lookup}

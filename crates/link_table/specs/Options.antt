@@ -9,9 +9,9 @@ use Rattle.wasm_format.specs.Module.{exported_type}
 use Rattle.wit_types.specs.declared.function.Function.{Function}
 use Rattle.wit_types.specs.declared.mangling.AbiVariant.{AbiVariant}
 use Rattle.wit_types.specs.declared.mangling.AbiVariant.TheVariants.{GuestImport, GuestExport}
-use Rattle.wit_core_items.specs.World.{IsExportedAs}
+use Rattle.core_links.specs.Passed.wit_core_items-World.{IsExportedAs}
 use Rattle.wit_core_names.specs.Items.{CoreExport}
-use Rattle.flat_types.specs.Signature.{RequiredValue}
+use Rattle.canonical_options.specs.Passed.flat_types-Signature.{RequiredValue}
 use Rattle.canonical_options.specs.Options.{where_asked}
 use Rattle.link_lines.specs.declared.encoding.StringEncoding.{StringEncoding}
 use Rattle.core_links.specs.Names.{Names, counts_legacy}

@@ -6,9 +6,9 @@ use Rattle.wit_order.specs.Order.{Has}
 use Rattle.wit_types.specs.declared.function.Function.{Function}
 use Rattle.wit_types.specs.declared.interface.TypeDef.{TypeDef}
 use Rattle.wit_types.specs.declared.mangling.AbiVariant.{AbiVariant}
-use Rattle.type_writing.specs.Unfolding.{WitTree}
-use Rattle.type_writing.specs.Functions.{FunctionUnfolds}
-use Rattle.flat_types.specs.Signature.{RequiredValue}
+use Rattle.flat_trees.specs.Passed.type_writing-Unfolding.{WitTree}
+use Rattle.flat_trees.specs.Passed.type_writing-Functions.{FunctionUnfolds}
+use Rattle.canonical_options.specs.Passed.flat_types-Signature.{RequiredValue}
 use Rattle.flat_trees.specs.Flat.{signature, core_type}
 use Rattle.flat_trees.specs.Held.{required}
 

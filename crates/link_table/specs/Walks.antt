@@ -5,7 +5,7 @@ use Rattle.wasm_format.specs.Module.{imported_type}
 use Rattle.wit_order.specs.Order.{Has}
 use Rattle.wit_types.specs.declared.function.Function.{Function}
 use Rattle.wit_types.specs.declared.mangling.AbiVariant.TheVariants.{GuestImport}
-use Rattle.flat_types.specs.Signature.{RequiredValue}
+use Rattle.canonical_options.specs.Passed.flat_types-Signature.{RequiredValue}
 use Rattle.link_table.specs.Apart.{AreNoneApart}
 use Rattle.link_table.specs.Exports.{ExportsOther, IsExportCause}
 use Rattle.link_table.specs.Imports.{HasIntrinsic, IsImportCause}

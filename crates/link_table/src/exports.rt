@@ -2,7 +2,7 @@
 
 ghost use Rattle.std.specs.Prelude.{◌≡◌, ◌<◌, ◌++◌, length, slice_get, Some, None, map, option_map, option_and_then, IfOk, IfErr, OnOk};
 ghost use Rattle.wit_core_names.specs.Items.{CoreExport, export_of};
-ghost use Rattle.type_writing.specs.Unfolding.{WitTree};
+ghost use Rattle.flat_trees.specs.Passed.type_writing-Unfolding.{WitTree};
 ghost use Rattle.link_table.specs.Exports as spec;
 ghost use Rattle.link_table.specs.Lookups.{IsLookup};
 ghost use Rattle.link_table.specs.Linking.{linking_value, types_of, function_at, functions_at, AreFunctions};

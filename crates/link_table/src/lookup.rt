@@ -7,10 +7,10 @@ ghost use Rattle.wit_names.specs.Names.{ArePackagesKnown};
 ghost use Rattle.wit_reach.specs.Types.{AreTypesBackward};
 ghost use Rattle.wit_core_names.specs.Exports.{IsExportNamed};
 ghost use Rattle.wit_core_names.specs.Items.{export_of};
-ghost use Rattle.type_writing.specs.Unfolding.{WitTree};
-ghost use Rattle.flat_types.specs.Flats.{flats};
-ghost use Rattle.flat_types.specs.Signature.{RequiredValue};
-ghost use Rattle.flat_types.specs.View.{signature_value, required_value};
+ghost use Rattle.flat_trees.specs.Passed.type_writing-Unfolding.{WitTree};
+ghost use Rattle.canonical_options.specs.Passed.flat_types-Flats.{flats};
+ghost use Rattle.canonical_options.specs.Passed.flat_types-Signature.{RequiredValue};
+ghost use Rattle.canonical_options.specs.Passed.flat_types-View.{signature_value, required_value};
 ghost use Rattle.flat_trees.specs.Flat.{core_type};
 ghost use Rattle.core_links.specs.Names.{names_in};
 ghost use Rattle.core_links.specs.Exports.{IsExportOf, IsExportCause};
@@ -22,9 +22,9 @@ ghost use Rattle.link_table.specs.Types.{HasTree, Requires, IsOfType, IsMistyped
 
 use crate::fault::TableFault;
 use crate::linking::Linking;
+use canonical_options::{FlatTypes, Required, WasmSignature};
 use core_links::{ExportNames, LinkFault};
 use flat_trees::law_unfolded_functions_are_flat;
-use flat_types::{FlatTypes, Required, WasmSignature};
 use std::alloc::{AllocError, Global};
 use wasm_types::{FuncType, ValType};
 use wit_core_names::WasmExport;

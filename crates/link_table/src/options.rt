@@ -2,7 +2,7 @@
 
 ghost use Rattle.std.specs.Prelude.{◌≡◌, ◌⊎◌, true, false, length, slice_get, Some, Bool, option_map, IfOk, IfErr, OnOk};
 ghost use Rattle.wasm_types.specs.Types.{func_type_value};
-ghost use Rattle.flat_types.specs.View.{required_value};
+ghost use Rattle.canonical_options.specs.Passed.flat_types-View.{required_value};
 ghost use Rattle.link_table.specs.Lookups.{IsLookup};
 ghost use Rattle.link_table.specs.Linking.{linking_value};
 ghost use Rattle.core_links.specs.Exports.{IsFoundAs, IsUnclearCause};
@@ -11,8 +11,8 @@ ghost use Rattle.link_table.specs.View.{options_value};
 
 use crate::fault::TableFault;
 use crate::lookup::{Lookup, same_values};
+use canonical_options::Required;
 use core_links::LinkFault;
-use flat_types::Required;
 use link_lines::StringEncoding;
 use wasm_types::{ExportKind, FuncType, ValType};
 use wit_core_names::WasmExport;

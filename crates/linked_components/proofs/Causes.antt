@@ -3,8 +3,8 @@ use Rattle.std.proofs.Common.{◌≡◌, Ok, Err, Result, IfErr, IsErrAnd, inl, 
 use Rattle.type_writing.specs.Refusals.{IsCause}
 use Rattle.type_writing.specs.declared.fault.Fault.{Fault as WritingFault}
 use Rattle.type_writing.specs.declared.fault.Fault.TheVariants as writing
-use Rattle.link_table.specs.Linking.{Linking}
-use Rattle.link_table.specs.Table.{Table, IsTable}
+use Rattle.encodable_worlds.specs.Passed.link_table-Linking.{Linking}
+use Rattle.encodable_worlds.specs.Passed.link_table-Table.{Table, IsTable}
 use Rattle.linked_components.specs.Build.{IsComponentCause}
 use Rattle.linked_components.specs.Faults.{of_writing}
 

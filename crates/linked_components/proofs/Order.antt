@@ -10,9 +10,9 @@ use Rattle.wit_reach.specs.Needed.{BelongsTo}
 use Rattle.wit_reach.specs.Paths.{AreRising, Reaches}
 use Rattle.wit_reach.specs.Types.{IsMadeOf}
 use Rattle.wit_reach.proofs.Ends.{reaches_then}
-use Rattle.wit_graph.specs.Graph.{items_of, TypesOfItemsUseEarlier}
-use Rattle.link_table.specs.Linking.{Linking, types_of}
-use Rattle.right_components.specs.Needed.{IsTypeNeeded}
+use Rattle.encodable_worlds.specs.Passed.wit_graph-Graph.{items_of, TypesOfItemsUseEarlier}
+use Rattle.encodable_worlds.specs.Passed.link_table-Linking.{Linking, types_of}
+use Rattle.encodable_worlds.specs.Passed.right_components-Needed.{IsTypeNeeded}
 use Rattle.linked_components.specs.Order.{StandsBefore, UsedStandBefore}
 
 -- ---- rising lists

@@ -2,22 +2,22 @@
 -- Definitions).
 use Rattle.std.specs.Prelude.{◌≡◌, ◌⊎◌, ℕ, List, [], true}
 use Rattle.distinct_names.specs.Names.{all_new}
-use Rattle.component_imports.specs.Functions.{function_names}
+use Rattle.encodable_worlds.specs.Passed.component_imports-Functions.{function_names}
 use Rattle.core_links.specs.Names.{Names}
 use Rattle.link_lines.specs.Line.{LinkValue}
-use Rattle.link_table.specs.Cause.{IsTableCause}
-use Rattle.link_table.specs.Lines.{AreLines}
-use Rattle.link_table.specs.Linking.{Linking, exported_functions}
-use Rattle.link_table.specs.Table.{Table, IsTable}
-use Rattle.link_table.specs.declared.fault.TableFault.{TableFault}
-use Rattle.link_table.specs.declared.fault.TableFault.TheVariants.{NotYet, OutOfMemory}
+use Rattle.encodable_worlds.specs.Passed.link_table-Cause.{IsTableCause}
+use Rattle.encodable_worlds.specs.Passed.link_table-Lines.{AreLines}
+use Rattle.encodable_worlds.specs.Passed.link_table-Linking.{Linking, exported_functions}
+use Rattle.encodable_worlds.specs.Passed.link_table-Table.{Table, IsTable}
+use Rattle.encodable_worlds.specs.Passed.link_table-declared-fault-TableFault.{TableFault}
+use Rattle.encodable_worlds.specs.Passed.link_table-declared-fault-TableFault-TheVariants.{NotYet, OutOfMemory}
 pub use Rattle.interface_names.specs.Names.{HasTwoNames}
-use Rattle.linked_imports.specs.Imports.{ArePartsApart}
-pub use Rattle.component_encoding.specs.Component.{IsEncoding}
-use Rattle.wit_graph.specs.Graph.{AreWhole}
-use Rattle.wit_graph.specs.declared.tables.Tables.{Tables}
-pub use Rattle.linked_worlds.specs.Linked.{AreNamesOf}
-use Rattle.linked_worlds.specs.Named.{AreItemsNamed}
+use Rattle.encodable_worlds.specs.Passed.linked_imports-Imports.{ArePartsApart}
+pub use Rattle.encodable_worlds.specs.Passed.component_encoding-Component.{IsEncoding}
+use Rattle.encodable_worlds.specs.Passed.wit_graph-Graph.{AreWhole}
+use Rattle.encodable_worlds.specs.Passed.wit_graph-declared-tables-Tables.{Tables}
+pub use Rattle.encodable_worlds.specs.Passed.linked_worlds-Linked.{AreNamesOf}
+use Rattle.encodable_worlds.specs.Passed.linked_worlds-Named.{AreItemsNamed}
 use Rattle.linked_components.specs.declared.fault.ComponentFault.{ComponentFault}
 use Rattle.linked_components.specs.declared.fault.ComponentFault.TheVariants as faults
 

@@ -1,7 +1,7 @@
 -- What a fault of the layers below is here.
 use Rattle.type_writing.specs.declared.fault.Fault.{Fault as WritingFault}
 use Rattle.type_writing.specs.declared.fault.Fault.TheVariants as writing
-use Rattle.link_table.specs.declared.fault.TableFault.TheVariants.{NotYet, OutOfMemory}
+use Rattle.encodable_worlds.specs.Passed.link_table-declared-fault-TableFault-TheVariants.{NotYet, OutOfMemory}
 use Rattle.linked_components.specs.declared.fault.ComponentFault.{ComponentFault}
 use Rattle.linked_components.specs.declared.fault.ComponentFault.TheVariants as faults
 

@@ -4,11 +4,11 @@ use Rattle.wit_reach.specs.Needed.{BelongsTo}
 use Rattle.wit_reach.specs.Paths.{Reaches}
 use Rattle.wit_reach.specs.Types.{IsMadeOf}
 use Rattle.type_meaning.specs.Items.{Entry}
-use Rattle.component_meaning.specs.Spaces.{meaning}
+use Rattle.encodable_worlds.specs.Passed.component_meaning-Spaces.{meaning}
 use Rattle.component_sections.specs.Component.{DefinitionValue}
-use Rattle.link_table.specs.Linking.{Linking, types_of}
-use Rattle.right_components.specs.Main.{main_of}
-use Rattle.right_components.specs.Needed.{IsTypeNeeded}
+use Rattle.encodable_worlds.specs.Passed.link_table-Linking.{Linking, types_of}
+use Rattle.encodable_worlds.specs.Passed.right_components-Main.{main_of}
+use Rattle.encodable_worlds.specs.Passed.right_components-Needed.{IsTypeNeeded}
 use Rattle.linked_components.specs.Build.{IsOfNamedGraph, IsComponentOf}
 
 -- the names of what definitions import

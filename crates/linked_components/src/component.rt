@@ -3,18 +3,18 @@
 ghost use Rattle.std.specs.Prelude.{map, string_bytes, IfOk, IfErr};
 ghost use Rattle.interface_names.specs.Names.{AreNamesById};
 ghost use Rattle.link_lines.specs.Line.{link_value};
-ghost use Rattle.link_table.specs.Cause.{IsTableCause};
-ghost use Rattle.link_table.specs.Linking.{linking_value};
-ghost use Rattle.link_table.specs.View.{IsTableOf};
+ghost use Rattle.encodable_worlds.specs.Passed.link_table-Cause.{IsTableCause};
+ghost use Rattle.encodable_worlds.specs.Passed.link_table-Linking.{linking_value};
+ghost use Rattle.encodable_worlds.specs.Passed.link_table-View.{IsTableOf};
 ghost use Rattle.linked_components.specs.Build as spec;
 
 use crate::fault::ComponentFault;
-use component_encoding::encode;
-use encodable_worlds::law_worlds_are_encodable;
+use encodable_worlds::{
+    LinkTable, Linking, TableFault, encode, law_functions_are_there, law_worlds_are_encodable,
+    table_of,
+};
 use interface_names::{interface_names, law_imports_are_there};
 use link_lines::Link;
-use link_table::{LinkTable, Linking, TableFault, table_of};
-use linked_worlds::law_functions_are_there;
 use std::alloc::Global;
 use wit_types::WorldId;
 

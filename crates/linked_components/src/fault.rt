@@ -2,7 +2,7 @@
 
 ghost use Rattle.std.specs.Prelude.{◌≡◌};
 
-use link_table::TableFault;
+use encodable_worlds::TableFault;
 use std::alloc::{AllocError, AllocFailed};
 use thiserror::Error;
 use type_writing::Fault as WritingFault;

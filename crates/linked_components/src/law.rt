@@ -3,9 +3,7 @@
 ghost use Rattle.linked_components.specs.Build.{LinkedHaveNoCause};
 ghost use Rattle.linked_components.specs.Order.{UsedStandBefore};
 
-use link_table::law_tables_are_one;
-use linked_worlds::law_functions_are_there;
-use wit_graph::law_types_use_earlier;
+use encodable_worlds::{law_functions_are_there, law_tables_are_one, law_types_use_earlier};
 
 /// Where a world of a graph has a link table with a module, no cause holds that one is refused for, want of memory aside.
 pub fn law_linked_has_no_cause()

@@ -7,6 +7,7 @@ mod law;
 mod tracks;
 
 pub use component::{build, links};
+pub use encodable_worlds::{Linking, TableFault};
 pub use fault::ComponentFault;
 pub use law::{law_linked_has_no_cause, law_used_stand_before};
 pub use tracks::{names_change, tracks_are_apart};

@@ -11,14 +11,14 @@ use Rattle.wit_core_items.specs.declared.import_places.ImportPlace.{ImportPlace}
 use Rattle.wit_core_names.specs.Items.{CoreImport}
 use Rattle.core_links.specs.Imports.{StandsAt}
 use Rattle.core_links.specs.Needed.{IsNeeded}
-use Rattle.link_table.specs.Linking.{Linking, types_of, StandsForFunction}
-use Rattle.link_table.specs.Pairwise.{Pairwise}
-use Rattle.link_table.specs.Table.{ImportEntry, IsImportEntry, Table, IsTable}
-use Rattle.link_table.proofs.Pairwise.{next_pair}
-use Rattle.link_table.proofs.Rows.{each_at, entry_import}
-use Rattle.link_table.proofs.Standing.{stands_for_one}
-use Rattle.link_table.proofs.Walks.{take_step}
-use Rattle.type_sinks.specs.declared.root.Root.{Root}
+use Rattle.right_components.specs.Passed.link_table-Linking.{Linking, types_of, StandsForFunction}
+use Rattle.right_components.specs.Passed.link_table-Pairwise.{Pairwise}
+use Rattle.right_components.specs.Passed.link_table-Table.{ImportEntry, IsImportEntry, Table, IsTable}
+use Rattle.right_components.proofs.Passed.link_table-Pairwise.{next_pair}
+use Rattle.right_components.proofs.Passed.link_table-Rows.{each_at, entry_import}
+use Rattle.right_components.proofs.Passed.link_table-Standing.{stands_for_one}
+use Rattle.right_components.proofs.Passed.link_table-Walks.{take_step}
+use Rattle.component_imports.specs.Passed.type_sinks-declared-root-Root.{Root}
 use Rattle.linked_imports.specs.Roots.{IsFound, Keeps, StaysBeside, IsThere, AreThere, IsIndexOf, IsIndexOfEntry}
 use Rattle.linked_imports.specs.declared.imports.Found.{Found}
 use Rattle.linked_imports.specs.declared.imports.Imported.{Imported}

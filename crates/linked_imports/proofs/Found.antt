@@ -23,8 +23,8 @@ use Rattle.wit_core_items.specs.Places.{function_of}
 use Rattle.wit_core_names.specs.Items.{CoreImport}
 use Rattle.core_links.specs.Names.{Names}
 use Rattle.core_links.specs.Needed.{IsKeyOf}
-use Rattle.link_table.specs.Linking.{function_at, functions_at}
-use Rattle.link_table.proofs.Walks.{take_step}
+use Rattle.right_components.specs.Passed.link_table-Linking.{function_at, functions_at}
+use Rattle.right_components.proofs.Passed.link_table-Walks.{take_step}
 use Rattle.linked_imports.specs.Roots.{IsInterfaceOf}
 
 abbrev Entry : Type 0

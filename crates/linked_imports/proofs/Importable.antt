@@ -9,14 +9,14 @@ use Rattle.wit_reach.specs.Ids.{function_ids, signature_ids, resource_ids}
 use Rattle.wit_reach.proofs.Holding.{flat_has}
 use Rattle.wit_reach.proofs.Lists.{has_append}
 use Rattle.linked_types.specs.Reached.{MayBeLinked}
-use Rattle.flat_trees.proofs.Unready.{function_written}
+use Rattle.right_components.proofs.Passed.flat_trees-Unready.{function_written}
 use Rattle.type_writing.specs.Writing.{IsRemembered}
-use Rattle.type_sinks.specs.Root.{InterfaceNames}
+use Rattle.component_imports.specs.Passed.type_sinks-Root.{InterfaceNames}
 use Rattle.component_imports.specs.Interfaces.{ids_of}
 use Rattle.component_imports.specs.World.{HasUnwrittenType}
 use Rattle.component_imports.proofs.Readied.{signature_id}
 use Rattle.core_links.specs.Needed.{AreOwnNeeded, AreLinkedNeeded}
-use Rattle.link_table.specs.Linking.{Linking, types_of, exported_functions}
+use Rattle.right_components.specs.Passed.link_table-Linking.{Linking, types_of, exported_functions}
 use Rattle.linked_imports.specs.Imports.{AreNeeded, IsImportable}
 use Rattle.linked_imports.specs.Roots.{CanImport}
 

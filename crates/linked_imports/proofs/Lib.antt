@@ -7,3 +7,4 @@ mod Importable
 mod Names
 mod Order
 mod Listed
+pub mod Passed

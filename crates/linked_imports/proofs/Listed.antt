@@ -26,20 +26,20 @@ use Rattle.wit_reach.specs.Paths.{AreEnds}
 use Rattle.wit_reach.proofs.Holding.{got, mapped_has}
 use Rattle.wit_reach.proofs.Lists.{has_append, has_parts}
 use Rattle.wit_core_items.specs.Places.{own_function}
-use Rattle.type_meaning.specs.Tree.{named}
-use Rattle.type_meaning.specs.Words.{root_import, imported, Label, BinaryTree}
-use Rattle.type_meaning.specs.Items.{from_import, Item, Items, a_type, a_function, an_instance, item_named, Entry}
-use Rattle.type_meaning.specs.Scope.{import_label}
+use Rattle.type_writing.specs.Passed.type_meaning-Tree.{named}
+use Rattle.type_writing.specs.Passed.type_meaning-Words.{root_import, imported, Label, BinaryTree}
+use Rattle.type_writing.specs.Passed.type_meaning-Items.{from_import, Item, Items, a_type, a_function, an_instance, item_named, Entry}
+use Rattle.type_writing.specs.Passed.type_meaning-Scope.{import_label}
 use Rattle.type_writing.specs.Unfolding.{OwnName, WitTree, under_name, Unfolds, unfolds_primitive, unfolds_type, primitive_of}
 use Rattle.type_writing.specs.Writing.{written, HasItsName, names_of_types}
 use Rattle.type_writing.proofs.Standing.{stands_keeps, value_inside}
-use Rattle.type_sinks.specs.Imports.{entries_of}
-use Rattle.type_sinks.specs.Inside.{is_of}
-use Rattle.type_sinks.specs.Root.{InterfaceNames, site_of, root_label, is_of_world, IsHome}
-use Rattle.type_sinks.specs.Views.{entry_values, root_scope, root_names, root_setting, setting_over, interface_names, InstanceHasFunction}
-use Rattle.type_sinks.specs.declared.root.Root.{Root}
-use Rattle.type_sinks.proofs.Names.{entries_apart, items_found}
-use Rattle.type_sinks.proofs.RootImports.{imports_named}
+use Rattle.component_imports.specs.Passed.type_sinks-Imports.{entries_of}
+use Rattle.component_imports.specs.Passed.type_sinks-Inside.{is_of}
+use Rattle.component_imports.specs.Passed.type_sinks-Root.{InterfaceNames, site_of, root_label, is_of_world, IsHome}
+use Rattle.component_imports.specs.Passed.type_sinks-Views.{entry_values, root_scope, root_names, root_setting, setting_over, interface_names, InstanceHasFunction}
+use Rattle.component_imports.specs.Passed.type_sinks-declared-root-Root.{Root}
+use Rattle.component_imports.proofs.Passed.type_sinks-Names.{entries_apart, items_found}
+use Rattle.component_imports.proofs.Passed.type_sinks-RootImports.{imports_named}
 use Rattle.component_imports.specs.Functions.{function_names}
 use Rattle.component_imports.specs.Interface.{interface_name}
 use Rattle.component_imports.specs.Interfaces.{ids_of, is_needed, names_from, owned_names, HasInterface}
@@ -47,8 +47,8 @@ use Rattle.component_imports.specs.Ready.{IsInterfaceAsked}
 use Rattle.component_imports.proofs.Needing.{some_needed}
 use Rattle.component_imports.proofs.Worldly.{functions_at_stay}
 use Rattle.core_links.specs.Needed.{own_functions, functions_of}
-use Rattle.link_table.specs.Linking.{Linking, types_of, exported_functions}
-use Rattle.link_table.proofs.Pairwise.{placed}
+use Rattle.right_components.specs.Passed.link_table-Linking.{Linking, types_of, exported_functions}
+use Rattle.right_components.proofs.Passed.link_table-Pairwise.{placed}
 use Rattle.right_components.specs.Needed.{IsFunctionNeeded, IsTypeNeeded}
 use Rattle.right_components.specs.Outside.{AreKeyTexts, IsFunction, IsType, IsOfInterface, its_function as function_inside, its_type as type_inside, IsListed, an_interface, its_function, its_type, AreTypesHeld}
 use Rattle.linked_imports.specs.Imports.{AreNeeded, own_types, AreListed, AreNamed, AreImportsListed}

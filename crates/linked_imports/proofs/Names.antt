@@ -9,10 +9,10 @@ use Rattle.wit_types.specs.declared.function.Function.{Function}
 use Rattle.wit_types.specs.declared.interface.TypeDef.{TypeDef}
 use Rattle.wit_types.specs.declared.interface.TypeOwner.{TypeOwner}
 use Rattle.wit_types.specs.declared.interface.TypeOwner.TheVariants as belongs
-use Rattle.type_meaning.specs.Items.{Items, no_items, and_item, Entry}
+use Rattle.type_writing.specs.Passed.type_meaning-Items.{Items, no_items, and_item, Entry}
 use Rattle.type_writing.specs.Writing.{Setting, name_given, name_of, names_of_types}
-use Rattle.type_sinks.specs.Imports.{names_in, entries_of}
-use Rattle.type_sinks.specs.Inside.{is_of}
+use Rattle.component_imports.specs.Passed.type_sinks-Imports.{names_in, entries_of}
+use Rattle.component_imports.specs.Passed.type_sinks-Inside.{is_of}
 use Rattle.component_imports.specs.Interfaces.{owned_name, owned_names}
 use Rattle.core_links.specs.Needed.{IsPartOf, empty, with_it, without}
 

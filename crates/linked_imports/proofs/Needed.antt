@@ -20,21 +20,21 @@ use Rattle.wit_reach.proofs.Lists.{has_append, has_parts}
 use Rattle.linked_types.proofs.Walks.{has_at}
 use Rattle.wit_core_items.specs.World.{core_imports}
 use Rattle.wit_core_names.specs.Items.{CoreImport}
-use Rattle.type_meaning.specs.Words.{imported}
-use Rattle.type_meaning.specs.Items.{an_instance, item_at}
+use Rattle.type_writing.specs.Passed.type_meaning-Words.{imported}
+use Rattle.type_writing.specs.Passed.type_meaning-Items.{an_instance, item_at}
 use Rattle.type_writing.specs.Writing.{HasItsName, name_of, names_of_types, IsRemembered}
-use Rattle.type_sinks.specs.Kept.{index_of}
-use Rattle.type_sinks.specs.Root.{InterfaceNames, imported_names, IsHome}
-use Rattle.type_sinks.specs.Views.{entry_values, root_scope, root_names, root_setting, setting_over, interface_names, InstanceHasFunction}
-use Rattle.type_sinks.specs.declared.root.Root.{Root}
-use Rattle.type_sinks.proofs.Keeping.{each_keeps}
+use Rattle.component_imports.specs.Passed.type_sinks-Kept.{index_of}
+use Rattle.component_imports.specs.Passed.type_sinks-Root.{InterfaceNames, imported_names, IsHome}
+use Rattle.component_imports.specs.Passed.type_sinks-Views.{entry_values, root_scope, root_names, root_setting, setting_over, interface_names, InstanceHasFunction}
+use Rattle.component_imports.specs.Passed.type_sinks-declared-root-Root.{Root}
+use Rattle.component_imports.proofs.Passed.type_sinks-Keeping.{each_keeps}
 use Rattle.component_imports.specs.Functions.{function_names}
 use Rattle.component_imports.specs.Interface.{interface_name}
 use Rattle.component_imports.specs.Interfaces.{ids_of, linked_of, asked, is_needed, names_from, HasInterfaceAt, AreNeededImported}
 use Rattle.component_imports.specs.World.{AreFunctionsAt, AreWorldItemsImported}
 use Rattle.core_links.specs.Needed.{IsNeeded, AreLinkedNeeded}
-use Rattle.link_table.specs.Linking.{Linking, types_of, exported_functions, AreFunctionsThere}
-use Rattle.link_table.proofs.Pairwise.{placed}
+use Rattle.right_components.specs.Passed.link_table-Linking.{Linking, types_of, exported_functions, AreFunctionsThere}
+use Rattle.right_components.proofs.Passed.link_table-Pairwise.{placed}
 use Rattle.linked_imports.specs.Imports.{AreNeeded, own_types}
 use Rattle.linked_imports.specs.Roots.{HasImports, HoldsImports, IsThere, AreThere}
 use Rattle.linked_imports.specs.declared.imports.Imported.{Imported}

@@ -20,8 +20,8 @@ use Rattle.wit_reach.proofs.Seen.{path_over}
 use Rattle.component_imports.specs.Interfaces.{ids_of, asked, is_needed, name_if, names_from}
 use Rattle.component_imports.proofs.Needing.{functions_asked, got_below, some_needed}
 use Rattle.core_links.specs.Needed.{IsKeyOf, IsNeeded}
-use Rattle.link_table.specs.Linking.{Linking, types_of, exported_functions, IsLinked, imported, exported}
-use Rattle.link_table.proofs.Pairwise.{placed}
+use Rattle.right_components.specs.Passed.link_table-Linking.{Linking, types_of, exported_functions, IsLinked, imported, exported}
+use Rattle.right_components.proofs.Passed.link_table-Pairwise.{placed}
 use Rattle.right_components.specs.Needed.{IsTypeNeeded, IsInterfaceNeeded, by_type, by_function}
 use Rattle.linked_imports.specs.Imports.{AreNeeded, own_types}
 use Rattle.linked_imports.proofs.Names.{has_mapped}

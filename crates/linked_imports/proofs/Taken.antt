@@ -12,22 +12,22 @@ use Rattle.name_places.specs.FirstPlaces.{place_of}
 use Rattle.wit_order.specs.Order.{Has}
 use Rattle.wit_types.specs.declared.function.Function.{Function}
 use Rattle.wit_types.specs.declared.interface.TypeDef.{TypeDef}
-use Rattle.type_meaning.specs.Words.{Site, imported, Label, BinaryTree}
-use Rattle.type_meaning.specs.Items.{Origin, from_import, Item, Items, a_function, an_instance, or_nothing, item_at, Entry}
-use Rattle.type_meaning.specs.Scope.{import_label, meaning, of_sort, exported}
+use Rattle.type_writing.specs.Passed.type_meaning-Words.{Site, imported, Label, BinaryTree}
+use Rattle.type_writing.specs.Passed.type_meaning-Items.{Origin, from_import, Item, Items, a_function, an_instance, or_nothing, item_at, Entry}
+use Rattle.type_writing.specs.Passed.type_meaning-Scope.{import_label, meaning, of_sort, exported}
 use Rattle.type_writing.specs.declared.fault.Fault.{Fault}
 use Rattle.type_writing.specs.Writing.{written, Begins}
 use Rattle.type_writing.proofs.Standing.{get_begin, new_item, begins_here, begins_on, begins_same}
-use Rattle.type_sinks.specs.Root.{InterfaceNames, root_label, imported_names}
-use Rattle.type_sinks.specs.Views.{root_scope, root_names, interface_names, RootIsGood, IsSameRoot, IsAdded, IsFunctionAt, InstanceHasFunction}
-use Rattle.type_sinks.specs.declared.root.Root.{Root}
-use Rattle.type_sinks.proofs.Names.{entries_apart}
-use Rattle.type_sinks.proofs.Rooted.{types_added, functions_added, instances_same, names_added}
+use Rattle.component_imports.specs.Passed.type_sinks-Root.{InterfaceNames, root_label, imported_names}
+use Rattle.component_imports.specs.Passed.type_sinks-Views.{root_scope, root_names, interface_names, RootIsGood, IsSameRoot, IsAdded, IsFunctionAt, InstanceHasFunction}
+use Rattle.component_imports.specs.Passed.type_sinks-declared-root-Root.{Root}
+use Rattle.component_imports.proofs.Passed.type_sinks-Names.{entries_apart}
+use Rattle.component_imports.proofs.Passed.type_sinks-Rooted.{types_added, functions_added, instances_same, names_added}
 use Rattle.component_imports.specs.Functions.{function_names}
 use Rattle.component_imports.specs.Interface.{interface_name}
 use Rattle.component_imports.specs.World.{AreFunctionsAt}
 use Rattle.component_imports.proofs.Worldly.{functions_at_stay}
-use Rattle.link_table.proofs.Pairwise.{placed}
+use Rattle.right_components.proofs.Passed.link_table-Pairwise.{placed}
 use Rattle.linked_imports.specs.Roots.{Keeps, StaysBeside, IsThere, label_of, ComesFrom, of_root, of_instance, IsIndexOf}
 use Rattle.linked_imports.specs.declared.imports.Imported.{Imported}
 

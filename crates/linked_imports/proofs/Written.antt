@@ -19,20 +19,20 @@ use Rattle.wit_names.specs.Names.{IsKeyText, text_of, named_in, text_at}
 use Rattle.wit_core_names.specs.Items.{CoreImport}
 use Rattle.wit_core_names.specs.Texts.{interface_text_in}
 use Rattle.wit_core_items.specs.World.{IsImportedAs}
-use Rattle.type_meaning.specs.Words.{imported, Label, BinaryTree}
-use Rattle.type_meaning.specs.Items.{from_import, Item, a_function, an_instance, item_at}
-use Rattle.type_meaning.specs.Scope.{import_label}
+use Rattle.type_writing.specs.Passed.type_meaning-Words.{imported, Label, BinaryTree}
+use Rattle.type_writing.specs.Passed.type_meaning-Items.{from_import, Item, a_function, an_instance, item_at}
+use Rattle.type_writing.specs.Passed.type_meaning-Scope.{import_label}
 use Rattle.type_writing.specs.Writing.{written}
 use Rattle.type_writing.proofs.Standing.{begins_same}
-use Rattle.type_sinks.specs.Root.{InterfaceNames, root_label}
-use Rattle.type_sinks.specs.Views.{root_scope, interface_names, RootIsGood}
-use Rattle.type_sinks.specs.declared.root.Root.{Root}
+use Rattle.component_imports.specs.Passed.type_sinks-Root.{InterfaceNames, root_label}
+use Rattle.component_imports.specs.Passed.type_sinks-Views.{root_scope, interface_names, RootIsGood}
+use Rattle.component_imports.specs.Passed.type_sinks-declared-root-Root.{Root}
 use Rattle.component_imports.specs.World.{AreTypesOf, AreTypesWritten}
 use Rattle.core_links.specs.Names.{Names, counts_legacy}
-use Rattle.link_table.specs.Linking.{Linking, types_of, StandsForFunction, exported_functions}
-use Rattle.link_table.specs.Pairwise.{Pairwise}
-use Rattle.link_table.specs.Table.{ImportEntry, IsImportEntry, Table, IsTable}
-use Rattle.link_table.proofs.Rows.{each_at}
+use Rattle.right_components.specs.Passed.link_table-Linking.{Linking, types_of, StandsForFunction, exported_functions}
+use Rattle.right_components.specs.Passed.link_table-Pairwise.{Pairwise}
+use Rattle.right_components.specs.Passed.link_table-Table.{ImportEntry, IsImportEntry, Table, IsTable}
+use Rattle.right_components.proofs.Passed.link_table-Rows.{each_at}
 use Rattle.right_components.specs.Ends.{IsImportOf, its_own, of_interface}
 use Rattle.right_components.specs.Outside.{AreInterfaceNames, IsTextOf}
 use Rattle.linked_imports.specs.Imports.{HasImport, IsLowered, IsTypeAt, AreImportsWritten}

@@ -14,26 +14,26 @@ use Rattle.wit_core_names.specs.Texts.{IsNameOf}
 use Rattle.wit_reach.specs.Holding.{AreTheirs, AreListed as AreTypesOfInterfacesListed}
 use Rattle.wit_reach.specs.Made.{IsMadeOfWithin}
 use Rattle.wit_reach.specs.Paths.{AreEnds}
-use Rattle.type_meaning.specs.Words.{root_import, Label}
-use Rattle.type_meaning.specs.Items.{from_import, Item, a_function, an_instance, Items, item_at, item_named, Entry}
-use Rattle.type_meaning.specs.Scope.{Scope}
+use Rattle.type_writing.specs.Passed.type_meaning-Words.{root_import, Label}
+use Rattle.type_writing.specs.Passed.type_meaning-Items.{from_import, Item, a_function, an_instance, Items, item_at, item_named, Entry}
+use Rattle.type_writing.specs.Passed.type_meaning-Scope.{Scope}
 use Rattle.type_writing.specs.Functions.{FunctionStands}
 use Rattle.type_writing.specs.Unfolding.{WitTree}
 use Rattle.type_writing.specs.Writing.{written}
 use Rattle.type_writing.specs.Placing.{AreLabelsApart}
-use Rattle.type_sinks.specs.Root.{InterfaceNames, root_label}
-use Rattle.type_sinks.specs.Views.{root_names, interface_names}
-use Rattle.type_sinks.specs.declared.root.Root.{Root}
+use Rattle.component_imports.specs.Passed.type_sinks-Root.{InterfaceNames, root_label}
+use Rattle.component_imports.specs.Passed.type_sinks-Views.{root_names, interface_names}
+use Rattle.component_imports.specs.Passed.type_sinks-declared-root-Root.{Root}
 use Rattle.component_imports.specs.Functions.{HaveParametersApart}
 use Rattle.component_imports.specs.Interfaces.{ids_of, AreNeededImported}
 use Rattle.component_imports.specs.World.{IsWorldUnready}
 use Rattle.component_imports.specs.Ready.{IsInterfaceAsked, AreWritable}
 use Rattle.core_links.specs.Names.{Names}
 use Rattle.core_links.specs.Needed.{IsKeyOf, AreOwnNeeded, AreLinkedNeeded}
-use Rattle.link_table.specs.Linking.{Linking, types_of, exported_functions}
-use Rattle.link_table.specs.Pairwise.{Pairwise}
-use Rattle.link_table.specs.Table.{ImportEntry, Table}
-use Rattle.link_table.specs.Types.{HasTree}
+use Rattle.right_components.specs.Passed.link_table-Linking.{Linking, types_of, exported_functions}
+use Rattle.right_components.specs.Passed.link_table-Pairwise.{Pairwise}
+use Rattle.right_components.specs.Passed.link_table-Table.{ImportEntry, Table}
+use Rattle.right_components.specs.Passed.link_table-Types.{HasTree}
 use Rattle.right_components.specs.Needed.{AreInOrder}
 use Rattle.right_components.specs.Outside.{IsTextOf, IsListed, AreTypesHeld}
 use Rattle.right_components.specs.Ends.{IsImportOf}

@@ -11,15 +11,15 @@ use Rattle.wit_types.specs.declared.world_key.WorldKey.{WorldKey}
 use Rattle.wit_reach.specs.Made.{IsMadeOfWithin}
 use Rattle.wit_reach.specs.Needed.{AreNeeded as AreNeededTypes}
 use Rattle.wit_reach.specs.Paths.{AreEnds}
-use Rattle.type_meaning.specs.Words.{root_import, imported, Label}
-use Rattle.type_meaning.specs.Items.{from_import, Item, a_function, an_instance, Items, item_at, item_named}
-use Rattle.type_meaning.specs.Scope.{import_label}
+use Rattle.type_writing.specs.Passed.type_meaning-Words.{root_import, imported, Label}
+use Rattle.type_writing.specs.Passed.type_meaning-Items.{from_import, Item, a_function, an_instance, Items, item_at, item_named}
+use Rattle.type_writing.specs.Passed.type_meaning-Scope.{import_label}
 use Rattle.type_writing.specs.Unfolding.{WitTree}
 use Rattle.type_writing.specs.Writing.{written, Stands, Begins, names_of_types, IsRemembered}
-use Rattle.type_sinks.specs.Root.{InterfaceNames, root_label}
-use Rattle.type_sinks.specs.Kept.{index_of}
-use Rattle.type_sinks.specs.Views.{root_scope, root_names, root_setting, interface_names, RootIsGood, InstanceHasFunction}
-use Rattle.type_sinks.specs.declared.root.Root.{Root}
+use Rattle.component_imports.specs.Passed.type_sinks-Root.{InterfaceNames, root_label}
+use Rattle.component_imports.specs.Passed.type_sinks-Kept.{index_of}
+use Rattle.component_imports.specs.Passed.type_sinks-Views.{root_scope, root_names, root_setting, interface_names, RootIsGood, InstanceHasFunction}
+use Rattle.component_imports.specs.Passed.type_sinks-declared-root-Root.{Root}
 use Rattle.component_imports.specs.Functions.{function_names}
 use Rattle.component_imports.specs.Interface.{interface_name}
 use Rattle.component_imports.specs.Interfaces.{ids_of, asked, is_needed, names_from, HasInterfaceAt, AreNeededImported}
@@ -27,9 +27,9 @@ use Rattle.component_imports.specs.Ready.{AreWritable}
 use Rattle.component_imports.specs.World.{AreFunctionsAt, IsWorldUnready}
 use Rattle.core_links.specs.Names.{Names}
 use Rattle.core_links.specs.Needed.{IsKeyOf, IsNeeded}
-use Rattle.link_table.specs.Linking.{Linking, types_of}
-use Rattle.link_table.specs.Table.{ImportEntry}
-use Rattle.link_table.specs.Types.{HasTree}
+use Rattle.right_components.specs.Passed.link_table-Linking.{Linking, types_of}
+use Rattle.right_components.specs.Passed.link_table-Table.{ImportEntry}
+use Rattle.right_components.specs.Passed.link_table-Types.{HasTree}
 use Rattle.linked_imports.specs.declared.imports.Found.{Found}
 use Rattle.linked_imports.specs.declared.imports.Imported.{Imported}
 

@@ -6,14 +6,14 @@ ghost use Rattle.component_imports.specs.Functions.{functions_of, function_names
 ghost use Rattle.component_imports.specs.Interfaces.{ids_of, linked_of, asked, EarlierAreApart};
 ghost use Rattle.core_links.specs.Names.{Names, names_in};
 ghost use Rattle.core_links.specs.View.{AreLinksOf};
-ghost use Rattle.link_table.specs.Linking.{linking_value, types_of, exported_functions as functions_exported, AreFunctionsThere};
-ghost use Rattle.link_table.specs.Pairwise.{Pairwise};
-ghost use Rattle.link_table.specs.Table.{ImportEntry, Table, IsTable};
-ghost use Rattle.link_table.specs.View.{IsTableOf};
+ghost use Rattle.right_components.specs.Passed.link_table-Linking.{linking_value, types_of, exported_functions as functions_exported, AreFunctionsThere};
+ghost use Rattle.right_components.specs.Passed.link_table-Pairwise.{Pairwise};
+ghost use Rattle.right_components.specs.Passed.link_table-Table.{ImportEntry, Table, IsTable};
+ghost use Rattle.right_components.specs.Passed.link_table-View.{IsTableOf};
 ghost use Rattle.name_places.specs.FirstPlaces.{place_of};
 ghost use Rattle.right_components.specs.Outside.{AreInterfaceNames};
-ghost use Rattle.type_meaning.specs.Scope.{meaning};
-ghost use Rattle.type_sinks.specs.Views.{RootIsGood, RootIsPlaced};
+ghost use Rattle.type_writing.specs.Passed.type_meaning-Scope.{meaning};
+ghost use Rattle.component_imports.specs.Passed.type_sinks-Views.{RootIsGood, RootIsPlaced};
 ghost use Rattle.type_writing.specs.Refusals.{IsCause};
 ghost use Rattle.wit_core_items.specs.ImportPlaces.{import_at};
 ghost use Rattle.wit_core_items.specs.declared.import_places.ImportPlace.TheVariants as place;
@@ -25,20 +25,19 @@ ghost use Rattle.wit_types.specs.declared.interface.TypeDef.{TypeDef as Def};
 ghost use Rattle.wit_types.specs.declared.world_key.WorldKey.{WorldKey as Key};
 ghost use Rattle.std.specs.List.{AllByRecursion as Each};
 ghost use Rattle.component_imports.specs.Functions.{HaveParametersApart};
-ghost use Rattle.type_sinks.specs.Placing.{ArePlaced};
+ghost use Rattle.component_imports.specs.Passed.type_sinks-Placing.{ArePlaced};
 ghost use Rattle.type_writing.specs.Placing.{AreLabelsApart};
 ghost use Rattle.linked_imports.specs.Imports as spec;
 ghost use Rattle.linked_imports.specs.Roots as roots;
 
 use component_entries::Entry;
 use component_imports::{
-    ImportedInterfaces, add_functions, import_functions, import_interfaces, write_functions,
+    ImportedInterfaces, Root, add_functions, import_functions, import_interfaces, write_functions,
 };
 use core_links::{CoreNames, ImportLinks, NeededFunctions};
-use link_table::{LinkTable, Linking, exported_function};
 use name_places::FirstPlaces;
+use right_components::{LinkTable, Linking, exported_function};
 use std::alloc::{AllocError, Global};
-use type_sinks::Root;
 use type_writing::Fault;
 use wit_core_items::ImportPlace;
 use wit_types::{Arena, Function, InterfaceId, TypeDef, TypeId, World, WorldId, WorldItem};

@@ -1,2 +1,3 @@
 mod Linked
 pub mod Writable
+pub mod Passed

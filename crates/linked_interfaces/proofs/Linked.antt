@@ -17,7 +17,7 @@ use Rattle.wit_reach.specs.Lists.{AreOwnersThere}
 use Rattle.wit_reach.proofs.Holding.{got, has_mapped, has_flat, flat_has}
 use Rattle.wit_placed.specs.Naming.{HaveNamesApart, AreNamesApart as AreEntriesApart}
 use Rattle.wit_placed.proofs.Members.{has_at, has_get}
-use Rattle.type_sinks.specs.Inside.{is_of}
+use Rattle.component_imports.specs.Passed.type_sinks-Inside.{is_of}
 use Rattle.component_imports.specs.Distinct.{IsNamedIn}
 use Rattle.linked_interfaces.specs.Linked.{functions_of, AreLinkedOf, LinkedNamesAreApart, LinkedFunctionsAreUpTo}
 

@@ -10,8 +10,8 @@ use Rattle.wit_reach.specs.Lists.{AreOwnersThere}
 use Rattle.wit_placed.specs.Naming.{HaveNamesApart}
 use Rattle.wit_placed.specs.Order.{AreNamelessFree}
 use Rattle.linked_types.specs.Reached.{ids_of, MayBeLinked}
-use Rattle.type_sinks.specs.declared.root.Root.{Root}
-use Rattle.type_sinks.specs.Views.{root_names, interface_names}
+use Rattle.component_imports.specs.Passed.type_sinks-declared-root-Root.{Root}
+use Rattle.component_imports.specs.Passed.type_sinks-Views.{root_names, interface_names}
 use Rattle.component_imports.specs.Interface.{interface_name}
 use Rattle.component_imports.specs.Ready.{IsInterfaceAsked, AreWritable}
 use Rattle.linked_interfaces.specs.Linked.{AreLinkedOf}

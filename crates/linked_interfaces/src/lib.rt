@@ -3,6 +3,7 @@
 
 mod law;
 
+pub use component_imports::law_ready_functions_are_imported;
 pub use law::{
     law_linked_functions_are_up_to, law_linked_interfaces_are_writable, law_linked_names_are_apart,
 };

@@ -6,7 +6,7 @@ use Rattle.std.proofs.lemmas.Option.{same_Some, slice_get-get_or, slice_get-map}
 use Rattle.std.specs.Prelude.{slice_get, option_map, OnOk, IfErr}
 use Rattle.wit_types.specs.declared.function.Function.{Function}
 use Rattle.wit_types.specs.declared.interface.TypeDef.{TypeDef}
-use Rattle.wit_order.specs.Order.{Has}
+use Rattle.wit_types.specs.Passed.wit_order-Order.{Has}
 use Rattle.wit_reach.specs.Ids.{function_ids}
 use Rattle.wit_reach.specs.Paths.{AreEnds}
 use Rattle.wit_reach.specs.Types.{IsMadeOf, AreTypesBackward, AreTypesThere}

@@ -27,21 +27,21 @@ use Rattle.wit_reach.specs.Types.{IsMadeOf, IsOfItem}
 use Rattle.wit_reach.proofs.Holding.{has_mapped, mapped_has, has_flat, flat_has}
 use Rattle.wit_reach.proofs.Lists.{has_parts}
 use Rattle.wit_core_items.specs.Places.{own_function}
-use Rattle.wit_graph_parts.specs.Interfaces.{AreRows, no_rows, rows_and}
-use Rattle.wit_graph_worlds.specs.Sound.{IsElaborationOf}
-use Rattle.wit_placed.proofs.Members.{has_at}
-use Rattle.core_links.specs.Names.{Names}
-use Rattle.core_links.specs.Needed.{own_functions, IsKeyOf, AreOwnNeeded, AreLinkedNeeded}
-use Rattle.link_table.specs.Linking.{function_at, exported_functions}
+use Rattle.wit_graph.specs.Passed.wit_graph_parts-Interfaces.{AreRows, no_rows, rows_and}
+use Rattle.wit_item_names.specs.Passed.wit_graph_worlds-Sound.{IsElaborationOf}
+use Rattle.linked_interfaces.proofs.Passed.wit_placed-Members.{has_at}
+use Rattle.right_components.specs.Passed.core_links-Names.{Names}
+use Rattle.right_components.specs.Passed.core_links-Needed.{own_functions, IsKeyOf, AreOwnNeeded, AreLinkedNeeded}
+use Rattle.right_components.specs.Passed.link_table-Linking.{function_at, exported_functions}
 use Rattle.linked_types.specs.Reached.{ids_of}
-use Rattle.component_imports.specs.Ready.{IsInterfaceAsked}
+use Rattle.linked_interfaces.specs.Passed.component_imports-Ready.{IsInterfaceAsked}
 use Rattle.wit_graph.specs.Graph.{AreWhole}
 use Rattle.wit_graph.specs.declared.tables.Tables.{Tables}
-use Rattle.wit_uses.specs.Uses.{TakesByUse, SeesByUse, IsOfInterface, TakeByUse}
-use Rattle.wit_uses.proofs.Using.{sees}
+use Rattle.wit_item_names.specs.Passed.wit_uses-Uses.{TakesByUse, SeesByUse, IsOfInterface, TakeByUse}
+use Rattle.wit_item_names.proofs.Passed.wit_uses-Using.{sees}
 use Rattle.linked_worlds.specs.Asked.{AskedAreImported}
 use Rattle.linked_worlds.specs.Linked.{AreNamesOf}
-use Rattle.wit_graph_worlds.proofs.Alike.{items_alike, item_alike, type_alike}
+use Rattle.wit_item_names.proofs.Passed.wit_graph_worlds-Alike.{items_alike, item_alike, type_alike}
 use Rattle.linked_worlds.proofs.Linked.{all_parts, all_flat}
 use Rattle.linked_worlds.proofs.Listing as listing
 use Rattle.linked_worlds.proofs.Needed.{part_has, needed_are_linked}

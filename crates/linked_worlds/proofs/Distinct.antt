@@ -15,11 +15,11 @@ use Rattle.wit_types.specs.declared.world_key.WorldKey.TheVariants as key
 use Rattle.wit_reach.specs.Paths.{AreRising}
 use Rattle.wit_reach.proofs.Holding.{has_mapped, mapped_has}
 use Rattle.wit_elaborated.specs.Worlds.{AreKeysOfItems}
-use Rattle.core_links.specs.Needed.{IsPartOf, empty, with_it, without, own_functions}
-use Rattle.component_imports.specs.Functions.{function_names}
-use Rattle.component_imports.specs.Interfaces.{is_needed, name_if, names_from}
-use Rattle.component_imports.specs.Ready.{AreDistinct}
-use Rattle.wit_labels.specs.Plain.{ArePlainApart}
+use Rattle.right_components.specs.Passed.core_links-Needed.{IsPartOf, empty, with_it, without, own_functions}
+use Rattle.linked_interfaces.specs.Passed.component_imports-Functions.{function_names}
+use Rattle.linked_interfaces.specs.Passed.component_imports-Interfaces.{is_needed, name_if, names_from}
+use Rattle.linked_interfaces.specs.Passed.component_imports-Ready.{AreDistinct}
+use Rattle.wit_item_names.specs.Passed.wit_labels-Plain.{ArePlainApart}
 use Rattle.linked_worlds.proofs.Needed.{part_has}
 
 -- ---- names of which each is none of those behind it

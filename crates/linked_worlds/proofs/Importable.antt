@@ -9,12 +9,12 @@ use Rattle.wit_types.specs.declared.function.Function.{Function}
 use Rattle.wit_types.specs.declared.interface.TypeDef.{TypeDef}
 use Rattle.wit_types.specs.declared.world_key.WorldKey.{WorldKey}
 use Rattle.wit_types.specs.declared.world.WorldItem.TheVariants as item
-use Rattle.core_links.specs.Names.{Names}
-use Rattle.core_links.specs.Needed.{IsKeyOf, AreOwnNeeded, AreLinkedNeeded}
+use Rattle.right_components.specs.Passed.core_links-Names.{Names}
+use Rattle.right_components.specs.Passed.core_links-Needed.{IsKeyOf, AreOwnNeeded, AreLinkedNeeded}
 use Rattle.linked_types.specs.Reached.{ids_of, MayBeLinked}
-use Rattle.type_sinks.specs.declared.root.Root.{Root}
-use Rattle.component_imports.specs.Interface.{interface_name}
-use Rattle.component_imports.specs.Ready.{IsInterfaceAsked, AreWritable}
+use Rattle.right_components.specs.Passed.type_sinks-declared-root-Root.{Root}
+use Rattle.linked_interfaces.specs.Passed.component_imports-Interface.{interface_name}
+use Rattle.linked_interfaces.specs.Passed.component_imports-Ready.{IsInterfaceAsked, AreWritable}
 use Rattle.linked_interfaces.specs.Writable.{all_linked, AreImportable, LinkedInterfacesAreWritable}
 use Rattle.wit_graph.specs.Graph.{AreWhole}
 use Rattle.wit_graph.specs.declared.tables.Tables.{Tables}

@@ -10,3 +10,4 @@ mod Distinct
 mod Own
 mod Ready
 mod Taken
+pub mod Passed

@@ -21,10 +21,10 @@ use Rattle.wit_core_names.specs.Texts.{Known}
 use Rattle.wit_core_names.specs.declared.items.ResourceIntrinsic.TheVariants.{ImportedDrop}
 use Rattle.wit_core_items.specs.World.{resources, functions_of, drops_of, of_imported_interface, of_import, intrinsics_of, of_exported_interface, of_exported, core_imports, is_resource}
 use Rattle.wit_elaborated.specs.Staying.{ElaboratedWorldsAreThere}
-use Rattle.wit_placed.specs.There.{IsInterfaceThere}
-use Rattle.core_links.specs.Names.{Names}
+use Rattle.linked_interfaces.specs.Passed.wit_placed-There.{IsInterfaceThere}
+use Rattle.right_components.specs.Passed.core_links-Names.{Names}
 use Rattle.linked_types.proofs.Walks.{has_at}
-use Rattle.link_table.specs.Linking.{exported_functions, function_at}
+use Rattle.right_components.specs.Passed.link_table-Linking.{exported_functions, function_at}
 use Rattle.wit_graph.specs.Graph.{AreWhole}
 use Rattle.wit_graph.specs.declared.tables.Tables.{Tables}
 use Rattle.wit_graph.proofs.Depending.{world_there}

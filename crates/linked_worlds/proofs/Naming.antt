@@ -18,22 +18,22 @@ use Rattle.wit_reach.specs.Reach.{Uses, IsStart}
 use Rattle.wit_reach.proofs.Ends.{closed_ends}
 use Rattle.wit_elaborated.specs.Elaborated.{Entry, plain_entries}
 use Rattle.wit_elaborated.specs.Worlds.{AreKeysOfItems}
-use Rattle.wit_copies.specs.Same as same
-use Rattle.wit_graph_worlds.specs.Copies.{AreSameEntries}
-use Rattle.wit_graph_worlds.specs.Sound.{IsElaborationOf}
+use Rattle.wit_item_names.specs.Passed.wit_copies-Same as same
+use Rattle.wit_item_names.specs.Passed.wit_graph_worlds-Copies.{AreSameEntries}
+use Rattle.wit_item_names.specs.Passed.wit_graph_worlds-Sound.{IsElaborationOf}
 use Rattle.wit_core_names.specs.Texts.{IsNameOf}
-use Rattle.core_links.specs.Names.{Names}
+use Rattle.right_components.specs.Passed.core_links-Names.{Names}
 use Rattle.wit_graph.specs.Graph.{AreWhole}
 use Rattle.wit_graph.specs.declared.tables.Tables.{Tables}
 use Rattle.linked_worlds.specs.Linked.{AreNamesOf}
 use Rattle.wit_item_names.specs.Used.{IsNamed}
 use Rattle.linked_worlds.specs.Named.{AreItemsNamed, WorldsHaveTextsApart}
-use Rattle.wit_plain_texts.specs.Plain.{IsPlain}
+use Rattle.wit_item_names.specs.Passed.wit_plain_texts-Plain.{IsPlain}
 use Rattle.wit_item_names.specs.Apart.{AreNamedApart}
-use Rattle.wit_labels.specs.Plain.{ArePlainApart}
+use Rattle.wit_item_names.specs.Passed.wit_labels-Plain.{ArePlainApart}
 use Rattle.wit_item_names.specs.Plain.{ArePlainlyNamed}
 use Rattle.linked_worlds.specs.Texts.{HaveTexts, AreTextsApart}
-use Rattle.wit_graph_worlds.proofs.Alike.{interface_alike}
+use Rattle.wit_item_names.proofs.Passed.wit_graph_worlds-Alike.{interface_alike}
 use Rattle.linked_worlds.proofs.Asked as asked
 use Rattle.linked_worlds.proofs.Listing as listing
 use Rattle.linked_worlds.proofs.Told.{text_of_key, texts_apart}

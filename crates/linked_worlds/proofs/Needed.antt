@@ -7,8 +7,8 @@ use Rattle.wit_order.specs.Order.{Has}
 use Rattle.wit_types.specs.declared.function.Function.{Function}
 use Rattle.wit_types.specs.declared.interface.Interface.{Interface}
 use Rattle.linked_types.proofs.Walks.{has_at}
-use Rattle.core_links.specs.Needed.{IsPartOf, empty, with_it, without, functions_of}
-use Rattle.wit_placed.specs.Naming.{HasNamesApart}
+use Rattle.right_components.specs.Passed.core_links-Needed.{IsPartOf, empty, with_it, without, functions_of}
+use Rattle.linked_interfaces.specs.Passed.wit_placed-Naming.{HasNamesApart}
 use Rattle.linked_worlds.specs.Needed.{NeededAreLinked}
 
 -- ---- parts of a list

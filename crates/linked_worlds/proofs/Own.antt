@@ -23,12 +23,12 @@ use Rattle.wit_reach.specs.Types.{IsOfItem}
 use Rattle.wit_reach.proofs.Holding.{has_flat, flat_has}
 use Rattle.wit_reach.proofs.Lists.{has_parts}
 use Rattle.wit_core_names.specs.Texts.{IsNameOf}
-use Rattle.core_links.specs.Names.{Names}
-use Rattle.core_links.specs.Needed.{AreOwnNeeded}
-use Rattle.link_table.specs.Linking.{exported_functions}
+use Rattle.right_components.specs.Passed.core_links-Names.{Names}
+use Rattle.right_components.specs.Passed.core_links-Needed.{AreOwnNeeded}
+use Rattle.right_components.specs.Passed.link_table-Linking.{exported_functions}
 use Rattle.linked_types.specs.Reached.{ids_of}
 use Rattle.linked_interfaces.proofs.Writable.{among_first, among_second}
-use Rattle.wit_uses.specs.Uses.{IsTaken}
+use Rattle.wit_item_names.specs.Passed.wit_uses-Uses.{IsTaken}
 use Rattle.wit_graph.specs.Graph.{AreWhole}
 use Rattle.wit_graph.specs.declared.tables.Tables.{Tables}
 use Rattle.linked_worlds.specs.Importable.{own_and_exported}

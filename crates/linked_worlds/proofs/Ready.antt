@@ -24,23 +24,23 @@ use Rattle.wit_reach.proofs.Ends.{reaches_more}
 use Rattle.wit_reach.proofs.Holding.{has_mapped, flat_has}
 use Rattle.wit_reach.proofs.Lists.{has_append}
 use Rattle.wit_reach.proofs.Seen.{path_over}
-use Rattle.core_links.specs.Names.{Names}
-use Rattle.core_links.specs.Needed.{own_functions, AreOwnNeeded, AreLinkedNeeded}
-use Rattle.link_table.specs.Linking.{exported_functions}
+use Rattle.right_components.specs.Passed.core_links-Names.{Names}
+use Rattle.right_components.specs.Passed.core_links-Needed.{own_functions, AreOwnNeeded, AreLinkedNeeded}
+use Rattle.right_components.specs.Passed.link_table-Linking.{exported_functions}
 use Rattle.linked_types.specs.Reached.{ids_of, MayBeLinked}
-use Rattle.type_writing.specs.Writing.{name_of, name_given, names_of_types, IsRemembered}
-use Rattle.type_sinks.specs.declared.root.Root.{Root}
-use Rattle.type_sinks.specs.Root.{is_of_world}
-use Rattle.type_sinks.specs.Views.{root_names, root_setting}
-use Rattle.component_imports.specs.Functions.{function_names}
-use Rattle.component_imports.specs.Interface.{interface_name}
-use Rattle.component_imports.specs.Interfaces.{asked, is_needed, names_from, AreNeededImported}
-use Rattle.component_imports.specs.Ready.{IsWrittenHere, IsNeverWritten, AreReady, IsAsked, IsInterfaceAsked, ReadyFunctionsAreImported}
-use Rattle.component_imports.specs.World.{AreWorldItemsUnready}
+use Rattle.right_components.specs.Passed.type_writing-Writing.{name_of, name_given, names_of_types, IsRemembered}
+use Rattle.right_components.specs.Passed.type_sinks-declared-root-Root.{Root}
+use Rattle.right_components.specs.Passed.type_sinks-Root.{is_of_world}
+use Rattle.right_components.specs.Passed.type_sinks-Views.{root_names, root_setting}
+use Rattle.linked_interfaces.specs.Passed.component_imports-Functions.{function_names}
+use Rattle.linked_interfaces.specs.Passed.component_imports-Interface.{interface_name}
+use Rattle.linked_interfaces.specs.Passed.component_imports-Interfaces.{asked, is_needed, names_from, AreNeededImported}
+use Rattle.linked_interfaces.specs.Passed.component_imports-Ready.{IsWrittenHere, IsNeverWritten, AreReady, IsAsked, IsInterfaceAsked, ReadyFunctionsAreImported}
+use Rattle.linked_interfaces.specs.Passed.component_imports-World.{AreWorldItemsUnready}
 use Rattle.linked_interfaces.specs.Writable.{all_linked}
-use Rattle.flat_trees.proofs.Unready.{type_written, function_written}
+use Rattle.linked_interfaces.proofs.Passed.flat_trees-Unready.{type_written, function_written}
 use Rattle.linked_interfaces.proofs.Writable.{among_first, among_second, asked_reached}
-use Rattle.wit_uses.specs.Uses.{IsTaken}
+use Rattle.wit_item_names.specs.Passed.wit_uses-Uses.{IsTaken}
 use Rattle.wit_graph.specs.Graph.{AreWhole}
 use Rattle.wit_graph.specs.declared.tables.Tables.{Tables}
 use Rattle.linked_worlds.specs.Importable.{IsEmptyRoot, own_and_exported}

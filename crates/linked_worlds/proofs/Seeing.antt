@@ -17,7 +17,7 @@ use Rattle.wit_reach.specs.Paths.{Reaches}
 use Rattle.wit_reach.specs.Types.{IsMadeOf}
 use Rattle.wit_reach.proofs.Ends.{closed_ends, reaches_more}
 use Rattle.wit_reach.proofs.Holding.{got}
-use Rattle.wit_uses.specs.Uses.{IsTaken, SeesByUse, IsOfInterface}
+use Rattle.wit_item_names.specs.Passed.wit_uses-Uses.{IsTaken, SeesByUse, IsOfInterface}
 
 -- ---- owners
 

@@ -17,7 +17,7 @@ use Rattle.wit_reach.specs.Lists.{item_interface}
 use Rattle.wit_elaborated.specs.Worlds.{IsKeyOfItem, AreKeysOfItems}
 use Rattle.wit_item_names.proofs.Told.{one_interface, not_plain}
 use Rattle.wit_item_names.specs.Apart.{AreNamedApart}
-use Rattle.wit_labels.specs.Plain.{ArePlainApart}
+use Rattle.wit_item_names.specs.Passed.wit_labels-Plain.{ArePlainApart}
 use Rattle.wit_item_names.specs.Plain.{ArePlainlyNamed}
 use Rattle.wit_item_names.specs.Used.{HasText}
 use Rattle.linked_worlds.specs.Texts.{AreTextsApart}

@@ -3,12 +3,12 @@ use Rattle.std.specs.Prelude.{ℕ, List, ◌++◌}
 use Rattle.wasm_types.specs.Entries.{ImportValue}
 use Rattle.wit_types.specs.declared.function.Function.{Function}
 use Rattle.wit_types.specs.declared.world_key.WorldKey.{WorldKey}
-use Rattle.core_links.specs.Names.{Names}
-use Rattle.core_links.specs.Needed.{IsKeyOf, AreOwnNeeded, AreLinkedNeeded}
-use Rattle.link_table.specs.Linking.{exported_functions}
+use Rattle.right_components.specs.Passed.core_links-Names.{Names}
+use Rattle.right_components.specs.Passed.core_links-Needed.{IsKeyOf, AreOwnNeeded, AreLinkedNeeded}
+use Rattle.right_components.specs.Passed.link_table-Linking.{exported_functions}
 use Rattle.linked_types.specs.Reached.{ids_of}
-use Rattle.component_imports.specs.Ready.{IsInterfaceAsked}
-use Rattle.wit_uses.specs.Uses.{TakeByUse}
+use Rattle.linked_interfaces.specs.Passed.component_imports-Ready.{IsInterfaceAsked}
+use Rattle.wit_item_names.specs.Passed.wit_uses-Uses.{TakeByUse}
 use Rattle.wit_graph.specs.Graph.{AreWhole}
 use Rattle.wit_graph.specs.declared.tables.Tables.{Tables}
 use Rattle.linked_worlds.specs.Linked.{AreNamesOf}

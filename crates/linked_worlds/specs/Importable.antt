@@ -3,14 +3,14 @@
 use Rattle.std.specs.Prelude.{◌≡◌, ℕ, List, [], ◌++◌, length}
 use Rattle.wasm_types.specs.Entries.{ImportValue}
 use Rattle.wit_types.specs.declared.function.Function.{Function}
-use Rattle.core_links.specs.Names.{Names}
-use Rattle.core_links.specs.Needed.{AreOwnNeeded, AreLinkedNeeded}
-use Rattle.link_table.specs.Linking.{exported_functions}
+use Rattle.right_components.specs.Passed.core_links-Names.{Names}
+use Rattle.right_components.specs.Passed.core_links-Needed.{AreOwnNeeded, AreLinkedNeeded}
+use Rattle.right_components.specs.Passed.link_table-Linking.{exported_functions}
 use Rattle.linked_types.specs.Reached.{ids_of, MayBeLinked}
-use Rattle.type_sinks.specs.declared.root.Root.{Root}
-use Rattle.type_sinks.specs.Views.{root_names, interface_names}
+use Rattle.right_components.specs.Passed.type_sinks-declared-root-Root.{Root}
+use Rattle.right_components.specs.Passed.type_sinks-Views.{root_names, interface_names}
 use Rattle.right_components.specs.Outside.{AreKeyTexts}
-use Rattle.component_imports.specs.Ready.{AreWritable}
+use Rattle.linked_interfaces.specs.Passed.component_imports-Ready.{AreWritable}
 use Rattle.linked_interfaces.specs.Writable.{all_linked, AreImportable}
 use Rattle.wit_graph.specs.Graph.{AreWhole}
 use Rattle.wit_graph.specs.declared.tables.Tables.{Tables}

@@ -5,3 +5,4 @@ pub mod Texts
 pub mod Named
 pub mod Importable
 pub mod Ready
+pub mod Passed

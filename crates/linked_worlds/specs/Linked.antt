@@ -2,8 +2,8 @@
 use Rattle.std.specs.Prelude.{◌≡◌, ℕ, Some, slice_get}
 use Rattle.wit_names.specs.Names.{ArePackagesKnown}
 use Rattle.wit_reach.specs.Types.{AreTypesBackward}
-use Rattle.core_links.specs.Names.{Names}
-use Rattle.link_table.specs.Linking.{AreFunctionsThere}
+use Rattle.right_components.specs.Passed.core_links-Names.{Names}
+use Rattle.right_components.specs.Passed.link_table-Linking.{AreFunctionsThere}
 use Rattle.wit_graph.specs.Graph.{AreWhole}
 use Rattle.wit_graph.specs.declared.tables.Tables.{Tables}
 

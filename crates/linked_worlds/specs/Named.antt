@@ -1,7 +1,7 @@
 -- How the items of a graph are named, and what they take of others (WIT, Use, Package Names, Item: `world`).
 use Rattle.std.specs.Prelude.{ℕ}
 use Rattle.wit_types.specs.declared.«package».Package.{Package}
-use Rattle.core_links.specs.Names.{Names}
+use Rattle.right_components.specs.Passed.core_links-Names.{Names}
 use Rattle.wit_graph.specs.Graph.{AreWhole}
 use Rattle.wit_graph.specs.declared.tables.Tables.{Tables}
 use Rattle.wit_item_names.specs.Items as items

@@ -3,8 +3,8 @@
 use Rattle.std.specs.Prelude.{ℕ, List}
 use Rattle.wasm_types.specs.Entries.{ImportValue}
 use Rattle.wit_types.specs.declared.function.Function.{Function}
-use Rattle.core_links.specs.Names.{Names}
-use Rattle.core_links.specs.Needed.{AreLinkedNeeded}
+use Rattle.right_components.specs.Passed.core_links-Names.{Names}
+use Rattle.right_components.specs.Passed.core_links-Needed.{AreLinkedNeeded}
 use Rattle.linked_interfaces.specs.Linked.{AreLinkedOf}
 use Rattle.wit_graph.specs.Graph.{AreWhole}
 use Rattle.wit_graph.specs.declared.tables.Tables.{Tables}

@@ -15,16 +15,16 @@ use Rattle.wit_reach.specs.Lists.{AreOwnersThere}
 use Rattle.wit_reach.specs.Needed.{BelongsTo, AreNeeded}
 use Rattle.wit_reach.specs.Paths.{AreEnds}
 use Rattle.wit_core_names.specs.Texts.{IsNameOf}
-use Rattle.type_writing.specs.Writing.{IsRemembered}
-use Rattle.type_sinks.specs.declared.root.Root.{Root}
-use Rattle.type_sinks.specs.Kept.{index_of}
-use Rattle.core_links.specs.Names.{Names}
-use Rattle.core_links.specs.Needed.{AreOwnNeeded, AreLinkedNeeded}
-use Rattle.link_table.specs.Linking.{exported_functions}
+use Rattle.right_components.specs.Passed.type_writing-Writing.{IsRemembered}
+use Rattle.right_components.specs.Passed.type_sinks-declared-root-Root.{Root}
+use Rattle.right_components.specs.Passed.type_sinks-Kept.{index_of}
+use Rattle.right_components.specs.Passed.core_links-Names.{Names}
+use Rattle.right_components.specs.Passed.core_links-Needed.{AreOwnNeeded, AreLinkedNeeded}
+use Rattle.right_components.specs.Passed.link_table-Linking.{exported_functions}
 use Rattle.linked_types.specs.Reached.{ids_of, MayBeLinked}
-use Rattle.component_imports.specs.Interfaces.{asked, AreNeededImported}
-use Rattle.component_imports.specs.Ready.{IsAsked}
-use Rattle.component_imports.specs.World.{IsWorldUnready}
+use Rattle.linked_interfaces.specs.Passed.component_imports-Interfaces.{asked, AreNeededImported}
+use Rattle.linked_interfaces.specs.Passed.component_imports-Ready.{IsAsked}
+use Rattle.linked_interfaces.specs.Passed.component_imports-World.{IsWorldUnready}
 use Rattle.linked_interfaces.specs.Writable.{all_linked}
 use Rattle.wit_graph.specs.Graph.{AreWhole}
 use Rattle.wit_graph.specs.declared.tables.Tables.{Tables}

@@ -7,8 +7,7 @@ ghost use Rattle.linked_worlds.specs.Named.{WorldsHaveTextsApart};
 ghost use Rattle.linked_worlds.specs.Importable.{WorldsAreImportable, WorldsAreWritable};
 ghost use Rattle.linked_worlds.specs.Ready.{OwnAreImported, OwnTypesAreListed, RememberedMayBeTaken};
 
-use component_imports::law_ready_functions_are_imported;
-use linked_interfaces::law_linked_interfaces_are_writable;
+use linked_interfaces::{law_linked_interfaces_are_writable, law_ready_functions_are_imported};
 use wit_elaborated::law_elaborated_worlds_are_there;
 
 /// Where names are those of a graph, and of one of its worlds with all that this imports in the end, all is there that `table_of` asks for:

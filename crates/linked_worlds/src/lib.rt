@@ -8,3 +8,4 @@ pub use law::{
     law_own_types_are_listed, law_remembered_may_be_taken, law_worlds_are_importable,
     law_worlds_are_writable, law_worlds_have_texts_apart,
 };
+pub use wit_graph::law_types_use_earlier;

@@ -11,13 +11,13 @@ use Rattle.wit_types.specs.declared.mangling.AbiVariant.TheVariants.{GuestExport
 use Rattle.wit_types.specs.declared.world_key.WorldKey.{WorldKey}
 use Rattle.component_definitions.specs.declared.canonical.CanonicalOption.{CanonicalOption}
 use Rattle.component_definitions.specs.declared.canonical.CanonicalOption.TheVariants as options
-use Rattle.canonical_options.specs.Options.{encoding_option}
+use Rattle.link_table.specs.Passed.canonical_options-Options.{encoding_option}
 use Rattle.link_lines.specs.declared.encoding.StringEncoding.{StringEncoding}
-use Rattle.type_meaning.specs.Words.{root_import, imported, Label, BinaryTree}
-use Rattle.type_meaning.specs.Items.{Origin, from_import, from_lift, a_function, item_at}
+use Rattle.link_table.specs.Passed.type_meaning-Words.{root_import, imported, Label, BinaryTree}
+use Rattle.link_table.specs.Passed.type_meaning-Items.{Origin, from_import, from_lift, a_function, item_at}
 use Rattle.component_meaning.specs.Core.{of_function, of_export, of_lower, CoreItem}
 use Rattle.component_meaning.specs.Spaces.{Spaces, core_at}
-use Rattle.core_links.specs.Names.{Names}
+use Rattle.link_table.specs.Passed.core_links-Names.{Names}
 use Rattle.link_table.specs.Linking.{Linking, types_of}
 use Rattle.link_table.specs.Types.{HasCoreType}
 use Rattle.link_table.specs.Table.{ImportEntry, ExportEntry}

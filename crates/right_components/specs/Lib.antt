@@ -3,3 +3,4 @@ pub mod Needed
 pub mod Outside
 pub mod Ends
 pub mod Right
+pub mod Passed

@@ -6,7 +6,7 @@ use Rattle.wasm_types.specs.declared.types.EntityType.{EntityType}
 use Rattle.wasm_types.specs.declared.types.EntityType.TheVariants as entities
 use Rattle.wasm_types.specs.declared.types.ExportKind.{ExportKind}
 use Rattle.wasm_types.specs.declared.types.ExportKind.TheVariants as kinds
-use Rattle.wasm_format.specs.Module.{ModuleValue, imported_type, exported_type}
+use Rattle.link_table.specs.Passed.wasm_format-Module.{ModuleValue, imported_type, exported_type}
 use Rattle.component_meaning.specs.Core.{CoreType, of_function, of_kind, CoreImport, CoreExport, MainModule}
 
 abbrev pub kind_of : EntityType → ExportKind

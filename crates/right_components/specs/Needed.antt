@@ -8,9 +8,9 @@ use Rattle.wit_reach.specs.Paths.{AreRising, Reaches}
 use Rattle.wit_reach.specs.Types.{IsMadeOf}
 use Rattle.wit_types.specs.declared.function.Function.{Function}
 use Rattle.wit_types.specs.declared.world_key.WorldKey.{WorldKey}
-use Rattle.type_meaning.specs.Items.{Entry}
+use Rattle.link_table.specs.Passed.type_meaning-Items.{Entry}
 use Rattle.type_sinks.specs.Root.{InterfaceNames}
-use Rattle.core_links.specs.Needed.{IsKeyOf, IsNeeded}
+use Rattle.link_table.specs.Passed.core_links-Needed.{IsKeyOf, IsNeeded}
 use Rattle.link_table.specs.Linking.{Linking, types_of, IsLinked}
 
 -- ---- functions and types

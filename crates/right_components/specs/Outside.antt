@@ -16,15 +16,15 @@ use Rattle.wit_types.specs.declared.world.WorldItem.TheVariants as item
 use Rattle.wit_types.specs.declared.world_key.WorldKey.{WorldKey}
 use Rattle.wit_names.specs.Names.{IsKeyText}
 use Rattle.wit_core_names.specs.Texts.{IsNameOf}
-use Rattle.type_meaning.specs.Words.{Site, imported, Label, Resource, defined_at, imported_as, its_own, itself, BinaryTree, seen}
-use Rattle.type_meaning.specs.Items.{Origin, from_import, Item, Items, a_type, a_function, an_instance, item_named, Entry}
-use Rattle.type_meaning.specs.Scope.{import_label}
-use Rattle.type_writing.specs.Unfolding.{WitTree, Unfolds}
-use Rattle.type_writing.specs.Writing.{written}
+use Rattle.link_table.specs.Passed.type_meaning-Words.{Site, imported, Label, Resource, defined_at, imported_as, its_own, itself, BinaryTree, seen}
+use Rattle.link_table.specs.Passed.type_meaning-Items.{Origin, from_import, Item, Items, a_type, a_function, an_instance, item_named, Entry}
+use Rattle.link_table.specs.Passed.type_meaning-Scope.{import_label}
+use Rattle.type_sinks.specs.Passed.type_writing-Unfolding.{WitTree, Unfolds}
+use Rattle.type_sinks.specs.Passed.type_writing-Writing.{written}
 use Rattle.type_sinks.specs.Root.{InterfaceNames, root_label}
 use Rattle.type_sinks.specs.Imports.{entries_of}
-use Rattle.core_links.specs.Names.{Names}
-use Rattle.core_links.specs.Needed.{IsKeyOf, IsNeeded}
+use Rattle.link_table.specs.Passed.core_links-Names.{Names}
+use Rattle.link_table.specs.Passed.core_links-Needed.{IsKeyOf, IsNeeded}
 use Rattle.link_table.specs.Linking.{Linking, types_of}
 use Rattle.link_table.specs.Types.{HasTree}
 use Rattle.right_components.specs.Needed.{IsFunctionNeeded, IsOwnNeeded, IsTypeNeeded, IsInterfaceNeeded}

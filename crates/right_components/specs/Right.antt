@@ -4,8 +4,8 @@ use Rattle.std.specs.Prelude.{◌≡◌, ℕ, List, [], ◌∷◌, length, map, 
 use Rattle.std.specs.List.{AllByRecursion as Each}
 use Rattle.wit_order.specs.Order.{Has}
 use Rattle.wit_types.specs.declared.function.Function.{Function}
-use Rattle.type_meaning.specs.Words.{root_import, Label, BinaryTree}
-use Rattle.type_meaning.specs.Items.{Origin, from_import, Item, a_function, an_instance, Items, item_named, Entry}
+use Rattle.link_table.specs.Passed.type_meaning-Words.{root_import, Label, BinaryTree}
+use Rattle.link_table.specs.Passed.type_meaning-Items.{Origin, from_import, Item, a_function, an_instance, Items, item_named, Entry}
 use Rattle.type_sinks.specs.Root.{InterfaceNames}
 use Rattle.component_meaning.specs.Core.{Source, of_main, of_unknown, of_items, CoreInstance, CoreItem}
 use Rattle.component_meaning.specs.Spaces.{Spaces, all_given}

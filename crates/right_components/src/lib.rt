@@ -4,3 +4,7 @@
 mod law;
 
 pub use law::law_given_are_as_many;
+pub use link_table::{
+    ExportLink, LinkOptions, LinkTable, Linking, TableFault, exported_function, law_tables_are_one,
+    table_of,
+};

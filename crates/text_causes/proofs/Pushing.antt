@@ -3,9 +3,9 @@ use Rattle.std.proofs.Common.{ℕ, List, [], ◌∷◌, ◌++◌, inl, inr, All,
 use Rattle.wit_words.specs.declared.source_map.Span.{Span}
 use Rattle.wit_words.specs.Sources.{SourceText, total}
 use Rattle.wit_types.specs.declared.«package».UnresolvedPackage.{UnresolvedPackage}
-use Rattle.wit_package.specs.declared.group.UnresolvedPackageGroup.{UnresolvedPackageGroup}
+use Rattle.wit_push_causes.specs.Passed.wit_package-declared-group-UnresolvedPackageGroup.{UnresolvedPackageGroup}
 use Rattle.wit_offsets.specs.Offsets.{SpanFits, Fits, Passes, package_spans, package_at}
-use Rattle.wit_resolve_errors.specs.Errors.{of_push, of_group}
+use Rattle.wit_resolution.specs.Passed.wit_resolve_errors-Errors.{of_push, of_group}
 use Rattle.wit_push_causes.proofs.Asking.{moved_for_one}
 use Rattle.wit_push_causes.proofs.Together.{none_here, none_together}
 use Rattle.wit_resolution.specs.Groups.{packages_behind, Pass, Fit, AllFit, SomePass}

@@ -15,10 +15,10 @@ use Rattle.wit_rules.specs.declared.fault.PackageRule.{PackageRule}
 use Rattle.wit_rules.specs.declared.fault.PackageFault.{PackageFault}
 use Rattle.wit_rules.specs.declared.fault.PackageFault.TheVariants.{OutOfMemory, Syntax, Broken}
 use Rattle.wit_nested.specs.Nested.{nested_files}
-use Rattle.wit_package.specs.Group.{AreRead, OneTextBreaks, AreResolved, AreResolvedTo, OneIsRefused, no_memory, by_file, AreRefused, by_main, by_nested, AreParsed, IsTextsFault}
-use Rattle.wit_resolve_errors.specs.Errors.{IsOfTexts}
-use Rattle.wit_resolve_errors.specs.declared.error.ResolveErrorKind.{ResolveErrorKind}
-use Rattle.wit_resolve_errors.specs.declared.error.ResolveErrorKind.TheVariants as kinds
+use Rattle.wit_push_causes.specs.Passed.wit_package-Group.{AreRead, OneTextBreaks, AreResolved, AreResolvedTo, OneIsRefused, no_memory, by_file, AreRefused, by_main, by_nested, AreParsed, IsTextsFault}
+use Rattle.wit_resolution.specs.Passed.wit_resolve_errors-Errors.{IsOfTexts}
+use Rattle.wit_resolution.specs.Passed.wit_resolve_errors-declared-error-ResolveErrorKind.{ResolveErrorKind}
+use Rattle.wit_resolution.specs.Passed.wit_resolve_errors-declared-error-ResolveErrorKind-TheVariants as kinds
 
 -- ---- trees
 

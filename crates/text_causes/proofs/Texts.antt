@@ -4,8 +4,8 @@ use Rattle.std.specs.List.{AllZip}
 use Rattle.wit_words.specs.Sources.{SourceText, total}
 use Rattle.wit_order.specs.Order.{Has}
 use Rattle.wit_types.specs.declared.«package».UnresolvedPackage.{UnresolvedPackage}
-use Rattle.wit_package.specs.declared.group.UnresolvedPackageGroup.{UnresolvedPackageGroup}
-use Rattle.wit_package.specs.Group.{AreParsed}
+use Rattle.wit_push_causes.specs.Passed.wit_package-declared-group-UnresolvedPackageGroup.{UnresolvedPackageGroup}
+use Rattle.wit_push_causes.specs.Passed.wit_package-Group.{AreParsed}
 use Rattle.wit_offsets.specs.Offsets.{package_at}
 use Rattle.wit_push_causes.specs.Asked.{AsksForOne}
 use Rattle.wit_push_causes.specs.Causes.{AskForOne}

@@ -5,11 +5,11 @@ use Rattle.wit_order.specs.Order.{Has}
 use Rattle.wit_types.specs.declared.«package».PackageName.{PackageName}
 use Rattle.wit_types.specs.declared.«package».UnresolvedPackage.{UnresolvedPackage}
 use Rattle.wit_rules.specs.declared.fault.PackageFault.{PackageFault}
-use Rattle.wit_package.specs.declared.group.UnresolvedPackageGroup.{UnresolvedPackageGroup}
-use Rattle.wit_package.specs.Group.{IsTextsFault, IsBeginning}
-use Rattle.wit_resolve_errors.specs.Errors.{IsOfTexts}
-use Rattle.wit_resolve_errors.specs.declared.error.ResolveErrorKind.{ResolveErrorKind}
-use Rattle.wit_resolve_errors.specs.declared.error.ResolveErrorKind.TheVariants.{TooLarge, OutOfMemory}
+use Rattle.wit_push_causes.specs.Passed.wit_package-declared-group-UnresolvedPackageGroup.{UnresolvedPackageGroup}
+use Rattle.wit_push_causes.specs.Passed.wit_package-Group.{IsTextsFault, IsBeginning}
+use Rattle.wit_resolution.specs.Passed.wit_resolve_errors-Errors.{IsOfTexts}
+use Rattle.wit_resolution.specs.Passed.wit_resolve_errors-declared-error-ResolveErrorKind.{ResolveErrorKind}
+use Rattle.wit_resolution.specs.Passed.wit_resolve_errors-declared-error-ResolveErrorKind-TheVariants.{TooLarge, OutOfMemory}
 use Rattle.wit_push_causes.specs.Asked.{AsksForOne}
 use Rattle.wit_push_causes.specs.Causes.{AskForOne}
 use Rattle.wit_resolution.specs.Groups.{packages_behind}

@@ -8,13 +8,13 @@ use Rattle.wit_types.specs.declared.«package».PackageName.{PackageName}
 use Rattle.wit_types.specs.declared.«package».UnresolvedPackage.{UnresolvedPackage}
 use Rattle.wit_features.specs.Features.{FeatureSet}
 use Rattle.wit_offsets.specs.Offsets.{package_at}
-use Rattle.wit_package.specs.declared.group.UnresolvedPackageGroup.{UnresolvedPackageGroup}
-use Rattle.wit_package.specs.Group.{AreParsed}
-use Rattle.wit_graph.specs.Graph as graph
-use Rattle.wit_graph.specs.Graph.{Graph, IsGraph}
-use Rattle.wit_graph.specs.Push.{IsPushed}
-use Rattle.wit_graph.proofs.Finishing.{nothing_is_graph}
-use Rattle.wit_groups.specs.Pushed.{ArePushed}
+use Rattle.wit_resolution.specs.Passed.wit_package-declared-group-UnresolvedPackageGroup.{UnresolvedPackageGroup}
+use Rattle.wit_resolution.specs.Passed.wit_package-Group.{AreParsed}
+use Rattle.wit_pushed_trees.specs.Passed.wit_graph-Graph as graph
+use Rattle.wit_pushed_trees.specs.Passed.wit_graph-Graph.{Graph, IsGraph}
+use Rattle.wit_pushed_trees.specs.Passed.wit_graph-Push.{IsPushed}
+use Rattle.wit_pushed_trees.proofs.Passed.wit_graph-Finishing.{nothing_is_graph}
+use Rattle.wit_resolution.specs.Passed.wit_groups-Pushed.{ArePushed}
 use Rattle.wit_package_order.specs.Packages.{AreAt}
 use Rattle.wit_package_order.proofs.Rows.{has_there}
 use Rattle.wit_resolution.specs.Groups.{packages_of, packages_behind}

@@ -17,15 +17,15 @@ use Rattle.wit_arena.specs.Tree.{PackageText}
 use Rattle.wit_arena.specs.Meaning.{Has}
 use Rattle.wit_arena.proofs.Lists.{has_none, get_more}
 use Rattle.wit_arena.proofs.Unfolding.{whole_none}
-use Rattle.wit_item_names.specs.Placed.{IsNewName}
+use Rattle.wit_named_packages.specs.Passed.wit_item_names-Placed.{IsNewName}
 use Rattle.wit_nested.specs.Nested.{own_files, nested_files}
-use Rattle.wit_package.specs.Group.{AreRead}
-use Rattle.wit_package.specs.Steps.{Resolves}
+use Rattle.wit_resolution.specs.Passed.wit_package-Group.{AreRead}
+use Rattle.wit_resolution.specs.Passed.wit_package-Steps.{Resolves}
 use Rattle.wit_labelled_packages.specs.Names.{ParsedNamesReadBack, MovedNamesReadBack}
-use Rattle.wit_new_names.specs.Names.{IsReadName, SeesSameNames}
-use Rattle.wit_new_names.specs.Graphs.{IsKnownGraph, EmptyGraphsAreKnown, PushedGraphsAreKnown}
-use Rattle.wit_graph.specs.Graph as graph
-use Rattle.wit_graph.specs.Graph.{Graph}
+use Rattle.wit_labelled_packages.specs.Passed.wit_new_names-Names.{IsReadName, SeesSameNames}
+use Rattle.wit_labelled_packages.specs.Passed.wit_new_names-Graphs.{IsKnownGraph, EmptyGraphsAreKnown, PushedGraphsAreKnown}
+use Rattle.wit_pushed_trees.specs.Passed.wit_graph-Graph as graph
+use Rattle.wit_pushed_trees.specs.Passed.wit_graph-Graph.{Graph}
 use Rattle.wit_pushed_trees.specs.Apart.{AreWorldsNamedApart, ResolvedWorldsAreNamedApart, MovedWorldsAreNamedApart, IsNewText}
 use Rattle.wit_pushed_trees.specs.Asked.{text_of}
 use Rattle.wit_pushed_trees.specs.Found.{TellsNamesApart, EmptyNamesStand, PushedNamesStand}

@@ -2,14 +2,14 @@
 use Rattle.std.proofs.Common.{Bool, []}
 use Rattle.wit_types.specs.declared.«package».PackageName.{PackageName}
 use Rattle.wit_types.specs.declared.«package».UnresolvedPackage.{UnresolvedPackage}
-use Rattle.wit_labels.specs.Labels.{AreNamesWithinApart}
-use Rattle.wit_graph_parts.specs.Own.{IsWellFormed}
-use Rattle.wit_graph.specs.Graph as graph
-use Rattle.wit_graph.specs.Graph.{Graph, IsGraph}
+use Rattle.wit_resolution.specs.Passed.wit_labels-Labels.{AreNamesWithinApart}
+use Rattle.wit_resolution.specs.Passed.wit_graph_parts-Own.{IsWellFormed}
+use Rattle.wit_pushed_trees.specs.Passed.wit_graph-Graph as graph
+use Rattle.wit_pushed_trees.specs.Passed.wit_graph-Graph.{Graph, IsGraph}
 use Rattle.wit_named_packages.specs.Pushed.{IsNamedGraph, IsNamedPackage, PushedGraphsAreNamed}
 use Rattle.wit_named_packages.specs.Named.{ParsedPackagesAreNamed, MovedPackagesAreNamed}
-use Rattle.wit_new_names.specs.Names.{IsReadName, SeesSameNames}
-use Rattle.wit_new_names.specs.Graphs.{IsKnownGraph, EmptyGraphsAreKnown, PushedGraphsAreKnown}
+use Rattle.wit_labelled_packages.specs.Passed.wit_new_names-Names.{IsReadName, SeesSameNames}
+use Rattle.wit_labelled_packages.specs.Passed.wit_new_names-Graphs.{IsKnownGraph, EmptyGraphsAreKnown, PushedGraphsAreKnown}
 use Rattle.wit_labelled_packages.specs.Names.{ParsedNamesReadBack, MovedNamesReadBack}
 use Rattle.wit_labelled_packages.specs.Labelled.{IsLabelled, EmptyGraphsAreLabelled, PushedGraphsAreLabelled}
 use Rattle.wit_labelled_packages.specs.Named.{AreWorldsNamed, HasNamedWorlds, EmptyGraphsHaveNamedWorlds, PushedGraphsHaveNamedWorlds}

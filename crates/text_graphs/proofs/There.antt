@@ -16,14 +16,14 @@ use Rattle.wit_arena.specs.Meaning.{Has}
 use Rattle.wit_arena.proofs.Lists.{has_left, has_right}
 use Rattle.wit_offsets.specs.Offsets.{package_at}
 use Rattle.wit_nested.specs.Nested.{own_files, nested_files}
-use Rattle.wit_package.specs.declared.group.UnresolvedPackageGroup.{UnresolvedPackageGroup}
-use Rattle.wit_package.specs.Steps.{Resolves}
+use Rattle.wit_resolution.specs.Passed.wit_package-declared-group-UnresolvedPackageGroup.{UnresolvedPackageGroup}
+use Rattle.wit_resolution.specs.Passed.wit_package-Steps.{Resolves}
 use Rattle.wit_package_order.specs.Packages.{AreAt}
-use Rattle.wit_graph.specs.Graph.{Graph}
-use Rattle.wit_graph.specs.Push.{IsPushed}
-use Rattle.wit_graph.specs.declared.tables.Tables.{Tables}
+use Rattle.wit_pushed_trees.specs.Passed.wit_graph-Graph.{Graph}
+use Rattle.wit_pushed_trees.specs.Passed.wit_graph-Push.{IsPushed}
+use Rattle.wit_pushed_trees.specs.Passed.wit_graph-declared-tables-Tables.{Tables}
 use Rattle.wit_reach.proofs.Growing.{get_same}
-use Rattle.wit_groups.specs.Pushed.{ArePushed}
+use Rattle.wit_resolution.specs.Passed.wit_groups-Pushed.{ArePushed}
 use Rattle.wit_resolution.specs.Groups.{packages_of, packages_behind}
 use Rattle.wit_resolution.specs.Texts.{IsGroupOf}
 use Rattle.wit_resolution.specs.Pushes.{Resolved, AreTextsPushed}

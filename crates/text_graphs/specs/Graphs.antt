@@ -2,11 +2,11 @@
 use Rattle.std.specs.Prelude.{◌≡◌, ℕ, Bool, List, Some}
 use Rattle.wit_types.specs.Package.{interface_text}
 use Rattle.wit_types.specs.declared.«package».PackageName.{PackageName}
-use Rattle.wit_graph.specs.Graph.{Graph, IsGraph}
+use Rattle.wit_pushed_trees.specs.Passed.wit_graph-Graph.{Graph, IsGraph}
 use Rattle.wit_names.specs.Names.{IsTextOf}
 use Rattle.wit_named_packages.specs.Pushed.{IsNamedGraph}
-use Rattle.wit_new_names.specs.Names.{SeesSameNames}
-use Rattle.wit_new_names.specs.Graphs.{IsKnownGraph}
+use Rattle.wit_labelled_packages.specs.Passed.wit_new_names-Names.{SeesSameNames}
+use Rattle.wit_labelled_packages.specs.Passed.wit_new_names-Graphs.{IsKnownGraph}
 use Rattle.wit_labelled_packages.specs.Labelled.{IsLabelled}
 use Rattle.wit_labelled_packages.specs.Named.{AreWorldsNamed}
 use Rattle.wit_resolution.specs.Pushes.{Resolved}

@@ -3,3 +3,4 @@ pub mod Graphs
 pub mod Owned
 pub mod Meant
 pub mod There
+pub mod Passed

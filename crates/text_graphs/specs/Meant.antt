@@ -8,10 +8,10 @@ use Rattle.wit_types.specs.declared.«package».UnresolvedPackage.{UnresolvedPac
 use Rattle.wit_features.specs.Features.{FeatureSet}
 use Rattle.wit_arena.specs.Meaning.{Has}
 use Rattle.wit_nested.specs.Nested.{own_files, nested_files}
-use Rattle.wit_package.specs.Group.{AreRead}
-use Rattle.wit_package.specs.Steps.{Resolves}
-use Rattle.wit_new_names.specs.Names.{SeesSameNames}
-use Rattle.wit_graph.specs.Graph.{Graph}
+use Rattle.wit_resolution.specs.Passed.wit_package-Group.{AreRead}
+use Rattle.wit_resolution.specs.Passed.wit_package-Steps.{Resolves}
+use Rattle.wit_labelled_packages.specs.Passed.wit_new_names-Names.{SeesSameNames}
+use Rattle.wit_pushed_trees.specs.Passed.wit_graph-Graph.{Graph}
 use Rattle.wit_resolution.specs.Pushes.{Resolved}
 use Rattle.wit_pushed_trees.specs.Found.{TellsNamesApart}
 use Rattle.wit_pushed_trees.specs.Giving.{Gives}

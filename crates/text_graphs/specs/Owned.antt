@@ -2,9 +2,9 @@
 use Rattle.std.specs.Prelude.{Bool}
 use Rattle.wit_types.specs.declared.«package».PackageName.{PackageName}
 use Rattle.wit_arena.specs.Unfold.{Owners}
-use Rattle.wit_graph.specs.Graph.{Graph}
+use Rattle.wit_pushed_trees.specs.Passed.wit_graph-Graph.{Graph}
 use Rattle.wit_resolution.specs.Pushes.{Resolved}
-use Rattle.wit_new_names.specs.Names.{SeesSameNames}
+use Rattle.wit_labelled_packages.specs.Passed.wit_new_names-Names.{SeesSameNames}
 use Rattle.wit_pushed_trees.specs.Found.{TellsNamesApart, NamesOfGraphStand}
 use Rattle.wit_pushed_trees.specs.Known.{AreTypesKnown}
 use Rattle.wit_pushed_trees.specs.Owned.{AreOwned}

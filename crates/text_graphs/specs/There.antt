@@ -8,9 +8,9 @@ use Rattle.wit_types.specs.declared.«package».PackageName.{PackageName}
 use Rattle.wit_types.specs.declared.«package».UnresolvedPackage.{UnresolvedPackage}
 use Rattle.wit_features.specs.Features.{FeatureSet}
 use Rattle.wit_arena.specs.Meaning.{Has}
-use Rattle.wit_graph.specs.declared.tables.Tables.{Tables}
-use Rattle.wit_package.specs.Group.{AreRead}
-use Rattle.wit_package.specs.Steps.{Resolves}
+use Rattle.wit_pushed_trees.specs.Passed.wit_graph-declared-tables-Tables.{Tables}
+use Rattle.wit_resolution.specs.Passed.wit_package-Group.{AreRead}
+use Rattle.wit_resolution.specs.Passed.wit_package-Steps.{Resolves}
 use Rattle.wit_resolution.specs.Pushes.{Resolved}
 use Rattle.wit_pushed_trees.specs.Asked.{text_of}
 use Rattle.wit_pushed_trees.specs.Found.{TellsNamesApart}

@@ -5,19 +5,19 @@ ghost use Rattle.text_graphs.specs.Meant.{TextGraphsMeanTheirTexts};
 ghost use Rattle.text_graphs.specs.Owned.{TextGraphsHaveOwners};
 ghost use Rattle.text_graphs.specs.There.{TextPackagesAreThere};
 
-use wit_item_names::law_names_tell_interfaces_apart;
 use wit_labelled_packages::{
-    law_empty_graphs_are_labelled, law_empty_graphs_have_named_worlds, law_moved_names_read_back,
-    law_moved_packages_have_named_worlds, law_parsed_names_read_back,
+    law_empty_graphs_are_known, law_empty_graphs_are_labelled, law_empty_graphs_have_named_worlds,
+    law_moved_names_read_back, law_moved_packages_have_named_worlds, law_parsed_names_read_back,
     law_parsed_packages_have_named_worlds, law_parsed_packages_have_names_apart,
-    law_pushed_graphs_are_labelled, law_pushed_graphs_have_named_worlds,
+    law_pushed_graphs_are_known, law_pushed_graphs_are_labelled,
+    law_pushed_graphs_have_named_worlds,
 };
 use wit_named_packages::{
     law_moved_packages_are_named, law_moved_packages_are_well_formed,
-    law_moved_packages_have_names_apart, law_parsed_packages_are_named,
-    law_parsed_packages_are_well_formed, law_pushed_graphs_are_named,
+    law_moved_packages_have_names_apart, law_names_tell_interfaces_apart,
+    law_parsed_packages_are_named, law_parsed_packages_are_well_formed,
+    law_pushed_graphs_are_named,
 };
-use wit_new_names::{law_empty_graphs_are_known, law_pushed_graphs_are_known};
 use wit_pushed_trees::{
     law_empty_graphs_are_meant, law_empty_graphs_are_owned, law_empty_graphs_have_names_stand,
     law_empty_graphs_have_types_known, law_empty_worlds_are_meant, law_empty_worlds_are_said,

@@ -1,3 +1,4 @@
 pub mod TreeLaws
 pub mod Labels
 pub mod Used
+pub mod Passed

@@ -5,14 +5,14 @@
 --     interface i { use t.{x}; f: func(v: x); }
 use Rattle.std.proofs.Common.{◌≡◌, ℕ, List, [], ◌∷◌, None, refl}
 use Rattle.std.specs.Prelude.{codes}
-use Rattle.component_value_types.specs.declared.values.PrimitiveValueType.TheVariants.{U32}
-use Rattle.component_value_types.specs.declared.values.ValueType.TheVariants as values
-use Rattle.component_value_types.specs.Types as typed
-use Rattle.component_definitions.specs.declared.sorts.ComponentSort.TheVariants as sorts
-use Rattle.component_definitions.specs.declared.externs.Description.TheVariants as descriptions
-use Rattle.component_definitions.specs.Aliases.{instance_export, outer}
-use Rattle.component_instances.specs.Declarators.{declared_type, declared_alias, declared_export}
-use Rattle.component_instances.specs.TypeDefinitions.{of_instance}
+use Rattle.component_entries.specs.Passed.component_value_types-declared-values-PrimitiveValueType-TheVariants.{U32}
+use Rattle.component_entries.specs.Passed.component_value_types-declared-values-ValueType-TheVariants as values
+use Rattle.component_entries.specs.Passed.component_value_types-Types as typed
+use Rattle.component_entries.specs.Passed.component_definitions-declared-sorts-ComponentSort-TheVariants as sorts
+use Rattle.component_entries.specs.Passed.component_definitions-declared-externs-Description-TheVariants as descriptions
+use Rattle.component_entries.specs.Passed.component_definitions-Aliases.{instance_export, outer}
+use Rattle.component_entries.specs.Passed.component_instances-Declarators.{declared_type, declared_alias, declared_export}
+use Rattle.component_entries.specs.Passed.component_instances-TypeDefinitions.{of_instance}
 use Rattle.component_entries.specs.Entries.{EntryValue, an_alias, a_type, an_import}
 use Rattle.wit_arena.specs.Tree as wit
 use Rattle.wit_arena.specs.Tree.{PackageText, in_interface, Owner}

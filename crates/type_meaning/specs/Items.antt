@@ -1,13 +1,13 @@
 -- What types, instance types and instances in a component's bytes stand for (Component Model, Explainer, Index Spaces, Type Definitions).
 use Rattle.std.specs.Prelude.{ℕ, List, [], ◌∷◌, ◌++◌, fold, slice_get, Option, Some, None, option_map, Bool, true, false, not, if◌then◌else◌, bytes_eq}
-use Rattle.component_value_types.specs.declared.values.ValueType.{ValueType}
-use Rattle.component_value_types.specs.declared.values.ValueType.TheVariants as values
-use Rattle.component_value_types.specs.Types.{DefinedTypeValue}
-use Rattle.component_definitions.specs.declared.canonical.CanonicalOption.{CanonicalOption}
-use Rattle.component_definitions.specs.declared.externs.Description.{Description}
-use Rattle.component_definitions.specs.declared.externs.Description.TheVariants as descriptions
-use Rattle.component_definitions.specs.Aliases.{AliasValue, core_instance_export, instance_export, outer}
-use Rattle.component_instances.specs.Declarators.{DeclaratorValue, declared_type, declared_alias, declared_export}
+use Rattle.component_entries.specs.Passed.component_value_types-declared-values-ValueType.{ValueType}
+use Rattle.component_entries.specs.Passed.component_value_types-declared-values-ValueType-TheVariants as values
+use Rattle.component_entries.specs.Passed.component_value_types-Types.{DefinedTypeValue}
+use Rattle.component_entries.specs.Passed.component_definitions-declared-canonical-CanonicalOption.{CanonicalOption}
+use Rattle.component_entries.specs.Passed.component_definitions-declared-externs-Description.{Description}
+use Rattle.component_entries.specs.Passed.component_definitions-declared-externs-Description-TheVariants as descriptions
+use Rattle.component_entries.specs.Passed.component_definitions-Aliases.{AliasValue, core_instance_export, instance_export, outer}
+use Rattle.component_entries.specs.Passed.component_instances-Declarators.{DeclaratorValue, declared_type, declared_alias, declared_export}
 use Rattle.type_meaning.specs.Tree.{Kind, own_kind, borrow_kind, function_kind, Parts, named, resource, of, none, gap, part, put, is_resource, kind_is}
 use Rattle.type_meaning.specs.Words.{Site, itself, imported, Label, Resource, imported_as, its_own, BinaryTree, moved}
 use Rattle.type_meaning.specs.Syntax.{syntax_of, plain, primitive_kind}

@@ -4,3 +4,4 @@ pub mod Syntax
 pub mod Items
 pub mod Scope
 pub mod Wit
+pub mod Passed

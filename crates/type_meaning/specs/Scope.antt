@@ -1,15 +1,15 @@
 -- What the indices of a component's types, functions and instances stand for, and what it imports and exports (Component Model, Explainer,
 -- Index Spaces, Import and Export Definitions).
 use Rattle.std.specs.Prelude.{ℕ, List, [], ◌∷◌, ◌++◌, length, fold, Option, Some, None, Bool, true, false, if◌then◌else◌}
-use Rattle.component_definitions.specs.declared.sorts.ComponentSort.{ComponentSort}
-use Rattle.component_definitions.specs.declared.sorts.ComponentSort.TheVariants as sorts
-use Rattle.component_definitions.specs.declared.sorts.Sort.{Sort}
-use Rattle.component_definitions.specs.declared.sorts.Sort.TheVariants.{Component, Core}
-use Rattle.component_definitions.specs.declared.externs.Description.{Description}
-use Rattle.component_definitions.specs.declared.externs.Description.TheVariants as descriptions
-use Rattle.component_definitions.specs.Aliases.{AliasValue, core_instance_export, instance_export, outer}
-use Rattle.component_instances.specs.TypeDefinitions.{TypeDefinitionValue, defined, of_instance}
-use Rattle.component_instances.specs.TypeDefinitions as definitions
+use Rattle.component_entries.specs.Passed.component_definitions-declared-sorts-ComponentSort.{ComponentSort}
+use Rattle.component_entries.specs.Passed.component_definitions-declared-sorts-ComponentSort-TheVariants as sorts
+use Rattle.component_entries.specs.Passed.component_definitions-declared-sorts-Sort.{Sort}
+use Rattle.component_entries.specs.Passed.component_definitions-declared-sorts-Sort-TheVariants.{Component, Core}
+use Rattle.component_entries.specs.Passed.component_definitions-declared-externs-Description.{Description}
+use Rattle.component_entries.specs.Passed.component_definitions-declared-externs-Description-TheVariants as descriptions
+use Rattle.component_entries.specs.Passed.component_definitions-Aliases.{AliasValue, core_instance_export, instance_export, outer}
+use Rattle.component_entries.specs.Passed.component_instances-TypeDefinitions.{TypeDefinitionValue, defined, of_instance}
+use Rattle.component_entries.specs.Passed.component_instances-TypeDefinitions as definitions
 use Rattle.component_entries.specs.Entries.{EntryValue, an_alias, an_import, an_export}
 use Rattle.component_entries.specs.Entries as entries
 use Rattle.type_meaning.specs.Tree.{named, resource, same_tree, is_resource}

@@ -1,13 +1,13 @@
 -- Types as bytes define them: a form, and its parts, of which each is a primitive type or has an index (Component Model Binary, Type
 -- Definitions).
 use Rattle.std.specs.Prelude.{ℕ, List, [], ◌∷◌, map, Option, Some}
-use Rattle.component_value_types.specs.declared.values.PrimitiveValueType.{PrimitiveValueType}
-use Rattle.component_value_types.specs.declared.values.PrimitiveValueType.TheVariants as primitives
-use Rattle.component_value_types.specs.declared.values.ValueType.{ValueType}
-use Rattle.component_value_types.specs.declared.values.ValueType.TheVariants as values
-use Rattle.component_value_types.specs.Combinators.{NamedValue}
-use Rattle.component_value_types.specs.Types as typed
-use Rattle.component_value_types.specs.Types.{DefinedTypeValue, NamedTypeValue, CaseValue}
+use Rattle.component_entries.specs.Passed.component_value_types-declared-values-PrimitiveValueType.{PrimitiveValueType}
+use Rattle.component_entries.specs.Passed.component_value_types-declared-values-PrimitiveValueType-TheVariants as primitives
+use Rattle.component_entries.specs.Passed.component_value_types-declared-values-ValueType.{ValueType}
+use Rattle.component_entries.specs.Passed.component_value_types-declared-values-ValueType-TheVariants as values
+use Rattle.component_entries.specs.Passed.component_value_types-Combinators.{NamedValue}
+use Rattle.component_entries.specs.Passed.component_value_types-Types as typed
+use Rattle.component_entries.specs.Passed.component_value_types-Types.{DefinedTypeValue, NamedTypeValue, CaseValue}
 use Rattle.type_meaning.specs.Tree.{Kind, Form}
 use Rattle.type_meaning.specs.Tree as trees
 

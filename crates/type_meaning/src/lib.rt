@@ -3,4 +3,7 @@
 
 mod law;
 
+pub use component_entries::{
+    CaseType, DefinedType, FunctionType, Label, Named, PrimitiveValueType, ValueType,
+};
 pub use law::law_equal_trees_are_told;

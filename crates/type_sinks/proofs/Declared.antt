@@ -10,16 +10,16 @@ use Rattle.component_value_types.specs.declared.values.ValueType.TheVariants.{In
 use Rattle.component_value_types.specs.Types.{DefinedTypeValue}
 use Rattle.component_definitions.specs.declared.externs.Description.TheVariants as descriptions
 use Rattle.component_definitions.specs.Aliases.{outer}
-use Rattle.component_instances.specs.Declarators.{DeclaratorValue, declared_type, declared_alias, declared_export}
+use Rattle.component_sections.specs.Passed.component_instances-Declarators.{DeclaratorValue, declared_type, declared_alias, declared_export}
 use Rattle.wit_types.specs.declared.kind.«Type».{«Type» as Ref}
 use Rattle.wit_types.specs.declared.kind.«Type».TheVariants.{Id}
 use Rattle.wit_types.specs.declared.function.Param.{Param}
 use Rattle.wit_types.specs.declared.interface.TypeDef.{TypeDef}
 use Rattle.wit_types.specs.declared.interface.TypeOwner.{TypeOwner}
-use Rattle.type_meaning.specs.Words.{Label, BinaryTree}
-use Rattle.type_meaning.specs.Tree.{Form, of, function_kind}
-use Rattle.type_meaning.specs.Syntax.{syntax_of}
-use Rattle.type_meaning.specs.Items.{Item, Entry, a_type, from_import, a_function, own_label, item_at, item_named, items_of, is_function, type_if, parts_in, type_or_nothing, function_import, type_item, named_item, Inside as TheInside, inside_of, declared, declared_item}
+use Rattle.type_writing.specs.Passed.type_meaning-Words.{Label, BinaryTree}
+use Rattle.type_writing.specs.Passed.type_meaning-Tree.{Form, of, function_kind}
+use Rattle.type_writing.specs.Passed.type_meaning-Syntax.{syntax_of}
+use Rattle.type_writing.specs.Passed.type_meaning-Items.{Item, Entry, a_type, from_import, a_function, own_label, item_at, item_named, items_of, is_function, type_if, parts_in, type_or_nothing, function_import, type_item, named_item, Inside as TheInside, inside_of, declared, declared_item}
 use Rattle.type_sinks.specs.declared.root.Root.{Root}
 use Rattle.type_sinks.specs.declared.inside.InterfaceTypes.{InterfaceTypes}
 use Rattle.type_writing.specs.Unfolding.{OwnName, WitTree}

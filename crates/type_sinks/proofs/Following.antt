@@ -23,10 +23,10 @@ use Rattle.component_definitions.specs.Aliases.{alias, instance_export, outer, i
 use Rattle.component_definitions.specs.Counting.{inside}
 use Rattle.component_definitions.specs.Externs.{description, description_form_of, bound_form_of}
 use Rattle.component_definitions.specs.Sorts.{sort, sort_form_of, component_sort_of}
-use Rattle.component_instances.specs.Declarators.{DeclaratorValue, DeclaredValue, declared_type, declared_alias, declared_export, declarator, declarator_form_of, declared_with, instance_type}
-use Rattle.component_instances.specs.TypeDefinitions as definitions
-use Rattle.component_instances.specs.TypeDefinitions.{TypeDefinitionForm, another, defined, of_instance}
-use Rattle.component_entries.specs.Entries.{DefinedValue, an_alias, a_type, an_import}
+use Rattle.component_sections.specs.Passed.component_instances-Declarators.{DeclaratorValue, DeclaredValue, declared_type, declared_alias, declared_export, declarator, declarator_form_of, declared_with, instance_type}
+use Rattle.component_sections.specs.Passed.component_instances-TypeDefinitions as definitions
+use Rattle.component_sections.specs.Passed.component_instances-TypeDefinitions.{TypeDefinitionForm, another, defined, of_instance}
+use Rattle.component_sections.specs.Passed.component_entries-Entries.{DefinedValue, an_alias, a_type, an_import}
 use Rattle.component_sections.specs.Component.{an_entry, Follows}
 use Rattle.type_writing.specs.Placing.{IsBelow, MayBeDefined}
 

@@ -9,10 +9,10 @@ use Rattle.std.specs.List.{flat_map}
 use Rattle.std.proofs.lemmas.Bool.{cases_Bool, eqb-true}
 use Rattle.distinct_names.specs.Names.{is_new}
 use Rattle.component_definitions.specs.declared.externs.Description.TheVariants as descriptions
-use Rattle.component_instances.specs.Declarators.{DeclaratorValue}
-use Rattle.component_instances.specs.TypeDefinitions.{of_instance}
-use Rattle.component_entries.specs.Entries.{EntryValue, an_import}
-use Rattle.component_entries.specs.Entries as entries
+use Rattle.component_sections.specs.Passed.component_instances-Declarators.{DeclaratorValue}
+use Rattle.component_sections.specs.Passed.component_instances-TypeDefinitions.{of_instance}
+use Rattle.component_sections.specs.Passed.component_entries-Entries.{EntryValue, an_import}
+use Rattle.component_sections.specs.Passed.component_entries-Entries as entries
 use Rattle.wit_types.specs.declared.kind.«Type».{«Type» as Ref}
 use Rattle.wit_types.specs.declared.kind.«Type».TheVariants.{Id}
 use Rattle.wit_types.specs.declared.kind.TypeDefKind.{TypeDefKind}
@@ -20,10 +20,10 @@ use Rattle.wit_types.specs.declared.function.Param.{Param}
 use Rattle.wit_types.specs.declared.interface.TypeDef.{TypeDef}
 use Rattle.wit_types.specs.declared.interface.TypeOwner.{TypeOwner}
 use Rattle.wit_types.specs.declared.interface.TypeOwner.TheVariants as belongs
-use Rattle.type_meaning.specs.Tree.{Parts, named, resource, of, none, gap, part, put, put_parts}
-use Rattle.type_meaning.specs.Words.{Site, itself, imported, Label, moved}
-use Rattle.type_meaning.specs.Items.{Item, a_type, from_import, a_function, an_instance_type, item_at, items_of, is_value, put_item, put_items, new_resource, instance_import, instance_type, Inside as TheInside, inside_of}
-use Rattle.type_meaning.specs.Scope.{Scope, no_scope, after, meaning}
+use Rattle.type_writing.specs.Passed.type_meaning-Tree.{Parts, named, resource, of, none, gap, part, put, put_parts}
+use Rattle.type_writing.specs.Passed.type_meaning-Words.{Site, itself, imported, Label, moved}
+use Rattle.type_writing.specs.Passed.type_meaning-Items.{Item, a_type, from_import, a_function, an_instance_type, item_at, items_of, is_value, put_item, put_items, new_resource, instance_import, instance_type, Inside as TheInside, inside_of}
+use Rattle.type_writing.specs.Passed.type_meaning-Scope.{Scope, no_scope, after, meaning}
 use Rattle.type_sinks.specs.declared.root.Root.{Root}
 use Rattle.type_sinks.specs.declared.inside.InterfaceTypes.{InterfaceTypes}
 use Rattle.type_writing.specs.Unfolding.{OwnName, WitTree, under_name, Unfolds, unfolds_primitive, unfolds_type, KindUnfolds, unfolds_form, unfolds_alias, PartsUnfold, no_parts, gap_unfolds, part_unfolds}

@@ -13,16 +13,16 @@ use Rattle.component_value_types.specs.Types.{DefinedTypeValue}
 use Rattle.component_definitions.specs.declared.externs.Description.{Description}
 use Rattle.component_definitions.specs.declared.externs.Description.TheVariants as descriptions
 use Rattle.component_definitions.specs.Aliases.{outer, instance_export, core_instance_export}
-use Rattle.component_instances.specs.declared.declarators.Declarator.{Declarator}
-use Rattle.component_instances.specs.Declarators.{DeclaratorValue, declarator_value, declared_type, declared_alias, declared_export}
+use Rattle.component_sections.specs.Passed.component_instances-declared-declarators-Declarator.{Declarator}
+use Rattle.component_sections.specs.Passed.component_instances-Declarators.{DeclaratorValue, declarator_value, declared_type, declared_alias, declared_export}
 use Rattle.wit_types.specs.declared.kind.«Type».TheVariants.{Id}
 use Rattle.wit_types.specs.declared.interface.TypeDef.{TypeDef}
 use Rattle.wit_types.specs.declared.interface.TypeOwner.{TypeOwner}
 use Rattle.wit_types.specs.declared.interface.TypeOwner.TheVariants as belongs
-use Rattle.type_meaning.specs.Tree.{Parts, named, resource, of, none, gap, part}
-use Rattle.type_meaning.specs.Words.{BinaryTree, Label, Resource}
-use Rattle.type_meaning.specs.Items.{Item, Items, no_items, and_item, put_items, Entry, Origin, a_type, a_function, or_nothing, item_at, item_named, items_of, named_item, own_label, Inside, no_inside, inside_of, declared}
-use Rattle.type_meaning.specs.Scope.{Scope}
+use Rattle.type_writing.specs.Passed.type_meaning-Tree.{Parts, named, resource, of, none, gap, part}
+use Rattle.type_writing.specs.Passed.type_meaning-Words.{BinaryTree, Label, Resource}
+use Rattle.type_writing.specs.Passed.type_meaning-Items.{Item, Items, no_items, and_item, put_items, Entry, Origin, a_type, a_function, or_nothing, item_at, item_named, items_of, named_item, own_label, Inside, no_inside, inside_of, declared}
+use Rattle.type_writing.specs.Passed.type_meaning-Scope.{Scope}
 use Rattle.type_writing.specs.declared.fault.Fault.{Fault}
 use Rattle.type_writing.specs.Unfolding.{OwnName, WitTree, Unfolds, unfolds_type, under_name}
 use Rattle.type_writing.specs.Writing.{written, written_parts, own_resource, Stands, KindStands, Begins, remembering}

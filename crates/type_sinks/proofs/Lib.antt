@@ -11,3 +11,4 @@ pub mod Declared
 pub mod PlacedRoot
 pub mod PlacedInside
 pub mod Imported
+pub mod Passed

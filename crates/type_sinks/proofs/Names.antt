@@ -6,7 +6,7 @@ use Rattle.std.proofs.lemmas.Bool.{cases_Bool, and_parts, and_from}
 use Rattle.std.proofs.lemmas.Slice.Eq.{bytes_eq-Decides}
 use Rattle.distinct_names.specs.Names.{is_new, all_new}
 use Rattle.wit_order.specs.Order.{Has}
-use Rattle.type_meaning.specs.Items.{Items, no_items, and_item, Entry, item_named}
+use Rattle.type_writing.specs.Passed.type_meaning-Items.{Items, no_items, and_item, Entry, item_named}
 use Rattle.type_sinks.specs.Imports.{names_in, entries_of, entry_names}
 
 -- ---- lists

@@ -10,15 +10,15 @@ use Rattle.component_definitions.specs.declared.sorts.Sort.TheVariants.{Componen
 use Rattle.component_definitions.specs.declared.externs.Description.{Description}
 use Rattle.component_definitions.specs.declared.externs.Description.TheVariants as descriptions
 use Rattle.component_definitions.specs.Aliases.{AliasValue, core_instance_export, instance_export, outer}
-use Rattle.component_instances.specs.Declarators.{DeclaratorValue, declared_type, declared_alias, declared_export}
-use Rattle.component_instances.specs.TypeDefinitions.{TypeDefinitionValue, defined, of_instance}
-use Rattle.component_instances.specs.TypeDefinitions as definitions
-use Rattle.component_entries.specs.Entries.{EntryValue, an_alias, an_import, an_export}
-use Rattle.component_entries.specs.Entries as entries
-use Rattle.type_meaning.specs.Tree.{named, resource, put, is_resource}
-use Rattle.type_meaning.specs.Words.{Site, itself, imported, Label, Resource, its_own, BinaryTree, moved}
-use Rattle.type_meaning.specs.Items.{Origin, from_import, Item, Items, nothing, a_type, a_function, an_instance_type, an_instance, no_items, and_item, Entry, items_of, item_named, item_at, is_function, type_if, type_at, type_or_nothing, Inside, no_inside, own_label, named_item, function_import, declared_item, type_space, alias_space, outer_item, declared, inside_of, put_origin, put_item, put_items, new_resource}
-use Rattle.type_meaning.specs.Scope.{Scope, no_scope, in_space, of_sort, exported, definition_item, alias_scope, export_label, renamed, is_same, type_if_same, ascribed, exported_item, export_scope, adds, after, meaning}
+use Rattle.component_sections.specs.Passed.component_instances-Declarators.{DeclaratorValue, declared_type, declared_alias, declared_export}
+use Rattle.component_sections.specs.Passed.component_instances-TypeDefinitions.{TypeDefinitionValue, defined, of_instance}
+use Rattle.component_sections.specs.Passed.component_instances-TypeDefinitions as definitions
+use Rattle.component_sections.specs.Passed.component_entries-Entries.{EntryValue, an_alias, an_import, an_export}
+use Rattle.component_sections.specs.Passed.component_entries-Entries as entries
+use Rattle.type_writing.specs.Passed.type_meaning-Tree.{named, resource, put, is_resource}
+use Rattle.type_writing.specs.Passed.type_meaning-Words.{Site, itself, imported, Label, Resource, its_own, BinaryTree, moved}
+use Rattle.type_writing.specs.Passed.type_meaning-Items.{Origin, from_import, Item, Items, nothing, a_type, a_function, an_instance_type, an_instance, no_items, and_item, Entry, items_of, item_named, item_at, is_function, type_if, type_at, type_or_nothing, Inside, no_inside, own_label, named_item, function_import, declared_item, type_space, alias_space, outer_item, declared, inside_of, put_origin, put_item, put_items, new_resource}
+use Rattle.type_writing.specs.Passed.type_meaning-Scope.{Scope, no_scope, in_space, of_sort, exported, definition_item, alias_scope, export_label, renamed, is_same, type_if_same, ascribed, exported_item, export_scope, adds, after, meaning}
 use Rattle.type_sinks.specs.Imports.{HasOwnFunctions, HasOwnTypes}
 use Rattle.type_sinks.proofs.Keeping.{each_push, each_append}
 

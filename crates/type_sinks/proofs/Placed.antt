@@ -13,10 +13,10 @@ use Rattle.component_definitions.specs.declared.sorts.Sort.TheVariants.{Componen
 use Rattle.component_definitions.specs.declared.externs.Description.{Description}
 use Rattle.component_definitions.specs.declared.externs.Description.TheVariants as descriptions
 use Rattle.component_definitions.specs.Aliases.{AliasValue, alias, instance_export, core_instance_export, outer}
-use Rattle.component_entries.specs.Entries.{EntryValue, DefinedValue, an_alias, a_type, an_import, an_export, nothing}
+use Rattle.component_sections.specs.Passed.component_entries-Entries.{EntryValue, DefinedValue, an_alias, a_type, an_import, an_export, nothing}
 use Rattle.component_sections.specs.Component.{DefinitionValue, an_entry, with_definition, Follows, Follow}
-use Rattle.type_meaning.specs.Items.{Entry}
-use Rattle.type_meaning.specs.Scope.{Scope, no_scope, joined, after, meaning}
+use Rattle.type_writing.specs.Passed.type_meaning-Items.{Entry}
+use Rattle.type_writing.specs.Passed.type_meaning-Scope.{Scope, no_scope, joined, after, meaning}
 use Rattle.type_sinks.specs.Imports.{entry_names}
 use Rattle.type_sinks.specs.Placing.{as_definitions, ArePlaced, known_of}
 

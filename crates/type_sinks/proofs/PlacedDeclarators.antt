@@ -12,7 +12,7 @@ use Rattle.component_definitions.specs.declared.sorts.ComponentSort.TheVariants 
 use Rattle.component_definitions.specs.declared.externs.Description.TheVariants as descriptions
 use Rattle.component_definitions.specs.Aliases.{alias, instance_export, core_instance_export, outer}
 use Rattle.component_definitions.specs.Sorts.{sort, sort_form_of, component_sort_of}
-use Rattle.component_instances.specs.Declarators.{DeclaratorValue, DeclaredValue, declared_type, declared_alias, declared_export, declarator, declarator_form_of, declared_with}
+use Rattle.component_sections.specs.Passed.component_instances-Declarators.{DeclaratorValue, DeclaredValue, declared_type, declared_alias, declared_export, declarator, declarator_form_of, declared_with}
 use Rattle.type_sinks.specs.Inside.{declares, type_count, exported_name, exported_names}
 use Rattle.type_sinks.specs.Placing.{nothing_declared, DeclaratorsFollow, AreDeclaratorsPlaced}
 

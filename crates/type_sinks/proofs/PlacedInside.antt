@@ -5,10 +5,10 @@ use Rattle.binary_grammar.specs.Syntax.{Meets}
 use Rattle.component_value_types.specs.Types.{DefinedTypeValue}
 use Rattle.component_definitions.specs.declared.externs.Description.TheVariants as descriptions
 use Rattle.component_definitions.specs.Aliases.{outer}
-use Rattle.component_instances.specs.Declarators.{DeclaratorValue, declared_type, declared_alias, declared_export, declarator}
+use Rattle.component_sections.specs.Passed.component_instances-Declarators.{DeclaratorValue, declared_type, declared_alias, declared_export, declarator}
 use Rattle.wit_types.specs.declared.interface.TypeDef.{TypeDef}
-use Rattle.type_meaning.specs.Items.{Item, type_item}
-use Rattle.type_meaning.specs.Scope.{meaning}
+use Rattle.type_writing.specs.Passed.type_meaning-Items.{Item, type_item}
+use Rattle.type_writing.specs.Passed.type_meaning-Scope.{meaning}
 use Rattle.type_writing.specs.Writing.{Begins}
 use Rattle.type_writing.specs.Placing.{MayBeDefined}
 use Rattle.type_sinks.specs.declared.root.Root.{Root}

@@ -6,16 +6,16 @@ use Rattle.component_value_types.specs.Types.{DefinedTypeValue}
 use Rattle.component_definitions.specs.declared.sorts.ComponentSort.{ComponentSort}
 use Rattle.component_definitions.specs.declared.externs.Description.TheVariants as descriptions
 use Rattle.component_definitions.specs.Aliases.{instance_export}
-use Rattle.component_instances.specs.Declarators.{DeclaratorValue}
-use Rattle.component_instances.specs.TypeDefinitions.{defined, of_instance}
-use Rattle.component_entries.specs.declared.entry.Entry.{Entry}
-use Rattle.component_entries.specs.Entries.{EntryValue, entry_value, an_alias, a_type, an_import}
+use Rattle.component_sections.specs.Passed.component_instances-Declarators.{DeclaratorValue}
+use Rattle.component_sections.specs.Passed.component_instances-TypeDefinitions.{defined, of_instance}
+use Rattle.component_sections.specs.Passed.component_entries-declared-entry-Entry.{Entry}
+use Rattle.component_sections.specs.Passed.component_entries-Entries.{EntryValue, entry_value, an_alias, a_type, an_import}
 use Rattle.wit_types.specs.declared.kind.«Type».{«Type» as Ref}
 use Rattle.wit_types.specs.declared.function.Param.{Param}
 use Rattle.wit_types.specs.declared.interface.TypeDef.{TypeDef}
-use Rattle.type_meaning.specs.Words.{Label, BinaryTree}
-use Rattle.type_meaning.specs.Items.{Item, nothing, an_instance, item_at, is_function, type_if, type_at}
-use Rattle.type_meaning.specs.Scope.{Scope, adds, meaning}
+use Rattle.type_writing.specs.Passed.type_meaning-Words.{Label, BinaryTree}
+use Rattle.type_writing.specs.Passed.type_meaning-Items.{Item, nothing, an_instance, item_at, is_function, type_if, type_at}
+use Rattle.type_writing.specs.Passed.type_meaning-Scope.{Scope, adds, meaning}
 use Rattle.type_writing.specs.Unfolding.{OwnName}
 use Rattle.type_writing.specs.Functions.{FunctionStands}
 use Rattle.type_writing.specs.Placing.{MayBeDefined}

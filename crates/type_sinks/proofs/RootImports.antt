@@ -12,16 +12,16 @@ use Rattle.component_definitions.specs.declared.sorts.Sort.TheVariants.{Componen
 use Rattle.component_definitions.specs.declared.externs.Description.{Description}
 use Rattle.component_definitions.specs.declared.externs.Description.TheVariants as descriptions
 use Rattle.component_definitions.specs.Aliases.{AliasValue, core_instance_export, instance_export, outer}
-use Rattle.component_instances.specs.Declarators.{DeclaratorValue}
-use Rattle.component_instances.specs.TypeDefinitions.{defined, of_instance}
+use Rattle.component_sections.specs.Passed.component_instances-Declarators.{DeclaratorValue}
+use Rattle.component_sections.specs.Passed.component_instances-TypeDefinitions.{defined, of_instance}
 use Rattle.component_value_types.specs.Types.{DefinedTypeValue}
-use Rattle.component_entries.specs.Entries.{EntryValue, an_alias, an_import, an_export}
-use Rattle.component_entries.specs.Entries as entries
-use Rattle.type_meaning.specs.Tree.{Form, Parts, named, of}
-use Rattle.type_meaning.specs.Words.{Site, root_import, itself, imported, Label, Resource, BinaryTree, moved}
-use Rattle.type_meaning.specs.Syntax.{syntax_of}
-use Rattle.type_meaning.specs.Items.{Item, Items, nothing, a_type, a_function, from_import, an_instance_type, an_instance, Entry, items_of, item_named, item_at, is_function, type_at, parts_in, type_or_nothing, named_item, function_import, instance_type, instance_import, inside_of, put_items, new_resource}
-use Rattle.type_meaning.specs.Scope.{Scope, no_scope, joined, in_space, of_sort, sort_of, exported, import_label, imported_item, export_scope, adds, after, meaning}
+use Rattle.component_sections.specs.Passed.component_entries-Entries.{EntryValue, an_alias, an_import, an_export}
+use Rattle.component_sections.specs.Passed.component_entries-Entries as entries
+use Rattle.type_writing.specs.Passed.type_meaning-Tree.{Form, Parts, named, of}
+use Rattle.type_writing.specs.Passed.type_meaning-Words.{Site, root_import, itself, imported, Label, Resource, BinaryTree, moved}
+use Rattle.type_writing.specs.Passed.type_meaning-Syntax.{syntax_of}
+use Rattle.type_writing.specs.Passed.type_meaning-Items.{Item, Items, nothing, a_type, a_function, from_import, an_instance_type, an_instance, Entry, items_of, item_named, item_at, is_function, type_at, parts_in, type_or_nothing, named_item, function_import, instance_type, instance_import, inside_of, put_items, new_resource}
+use Rattle.type_writing.specs.Passed.type_meaning-Scope.{Scope, no_scope, joined, in_space, of_sort, sort_of, exported, import_label, imported_item, export_scope, adds, after, meaning}
 use Rattle.type_sinks.specs.Root.{imported_name, imported_names}
 use Rattle.type_sinks.specs.Inside.{exported_names}
 use Rattle.type_sinks.specs.Imports.{names_in, entry_names, IsInstanceImported, AreImportsOf}

@@ -9,18 +9,18 @@ use Rattle.component_value_types.specs.declared.values.ValueType.TheVariants.{In
 use Rattle.distinct_names.specs.Names.{is_new}
 use Rattle.component_definitions.specs.declared.sorts.ComponentSort.TheVariants as sorts
 use Rattle.component_definitions.specs.Aliases.{instance_export}
-use Rattle.component_entries.specs.declared.entry.Entry.{Entry}
+use Rattle.component_sections.specs.Passed.component_entries-declared-entry-Entry.{Entry}
 use Rattle.component_definitions.specs.declared.externs.Description.TheVariants as descriptions
-use Rattle.component_entries.specs.Entries.{EntryValue, entry_value, an_alias, an_import}
+use Rattle.component_sections.specs.Passed.component_entries-Entries.{EntryValue, entry_value, an_alias, an_import}
 use Rattle.wit_types.specs.declared.function.Param.{Param}
 use Rattle.wit_types.specs.declared.kind.«Type».{«Type» as Ref}
 use Rattle.wit_types.specs.declared.kind.«Type».TheVariants.{Id}
 use Rattle.wit_types.specs.declared.interface.TypeDef.{TypeDef}
 use Rattle.wit_types.specs.declared.interface.TypeOwner.{TypeOwner}
 use Rattle.wit_types.specs.declared.interface.TypeOwner.TheVariants as belongs
-use Rattle.type_meaning.specs.Items.{Item, Items, a_function, from_import, function_import, a_type, an_instance, or_nothing, item_at, item_named, named_item}
-use Rattle.type_meaning.specs.Words.{Site, root_import}
-use Rattle.type_meaning.specs.Scope.{Scope, import_label, imported_item, no_scope, adds, after, meaning, of_sort, exported}
+use Rattle.type_writing.specs.Passed.type_meaning-Items.{Item, Items, a_function, from_import, function_import, a_type, an_instance, or_nothing, item_at, item_named, named_item}
+use Rattle.type_writing.specs.Passed.type_meaning-Words.{Site, root_import}
+use Rattle.type_writing.specs.Passed.type_meaning-Scope.{Scope, import_label, imported_item, no_scope, adds, after, meaning, of_sort, exported}
 use Rattle.type_sinks.specs.declared.root.Root.{Root}
 use Rattle.type_sinks.specs.Kept.{index_of}
 use Rattle.type_sinks.specs.Root.{InterfaceNames, site_of, root_label, is_of_world, imported_name, imported_names, IsHome, RootGood}

@@ -2,10 +2,10 @@
 use Rattle.std.specs.Prelude.{◌≡◌, ℕ, List, [], ◌∷◌, map, true}
 use Rattle.distinct_names.specs.Names.{all_new}
 use Rattle.wit_order.specs.Order.{Has}
-use Rattle.type_meaning.specs.Tree.{named}
-use Rattle.type_meaning.specs.Words.{Site, imported, BinaryTree}
-use Rattle.type_meaning.specs.Items.{Origin, from_import, Items, a_type, a_function, an_instance, no_items, and_item, Entry, item_at, item_named}
-use Rattle.type_meaning.specs.Scope.{Scope, import_label}
+use Rattle.type_writing.specs.Passed.type_meaning-Tree.{named}
+use Rattle.type_writing.specs.Passed.type_meaning-Words.{Site, imported, BinaryTree}
+use Rattle.type_writing.specs.Passed.type_meaning-Items.{Origin, from_import, Items, a_type, a_function, an_instance, no_items, and_item, Entry, item_at, item_named}
+use Rattle.type_writing.specs.Passed.type_meaning-Scope.{Scope, import_label}
 
 -- ---- items under names
 

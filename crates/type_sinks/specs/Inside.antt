@@ -5,16 +5,16 @@ use Rattle.std.specs.declared.alloc.Global.{Global}
 use Rattle.distinct_names.specs.Names.{all_new}
 use Rattle.component_definitions.specs.declared.externs.Description.TheVariants as descriptions
 use Rattle.component_definitions.specs.Aliases.{instance_export, core_instance_export, outer}
-use Rattle.component_instances.specs.Declarators.{DeclaratorValue, declared_type, declared_alias, declared_export}
+use Rattle.component_sections.specs.Passed.component_instances-Declarators.{DeclaratorValue, declared_type, declared_alias, declared_export}
 use Rattle.component_value_types.specs.declared.values.ValueType.TheVariants.{Index}
 use Rattle.wit_types.specs.declared.kind.«Type».TheVariants.{Id}
 use Rattle.wit_types.specs.declared.interface.TypeDef.{TypeDef}
 use Rattle.wit_types.specs.declared.interface.TypeOwner.{TypeOwner}
 use Rattle.wit_types.specs.declared.interface.TypeOwner.TheVariants as belongs
-use Rattle.type_meaning.specs.Tree.{Parts, named, resource, of, none, gap, part}
-use Rattle.type_meaning.specs.Words.{itself, imported, Label}
-use Rattle.type_meaning.specs.Items.{Item, Inside, inside_of, items_of, item_named, a_type, is_value}
-use Rattle.type_meaning.specs.Scope.{Scope}
+use Rattle.type_writing.specs.Passed.type_meaning-Tree.{Parts, named, resource, of, none, gap, part}
+use Rattle.type_writing.specs.Passed.type_meaning-Words.{itself, imported, Label}
+use Rattle.type_writing.specs.Passed.type_meaning-Items.{Item, Inside, inside_of, items_of, item_named, a_type, is_value}
+use Rattle.type_writing.specs.Passed.type_meaning-Scope.{Scope}
 use Rattle.type_writing.specs.Unfolding.{OwnName, WitTree, Unfolds}
 use Rattle.type_writing.specs.Writing.{written, Stands}
 use Rattle.type_sinks.specs.Root.{InterfaceNames, root_label, RootGood}

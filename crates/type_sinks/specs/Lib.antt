@@ -5,3 +5,4 @@ pub mod Inside
 pub mod Kept
 pub mod Views
 pub mod Refusals
+pub mod Passed

@@ -4,10 +4,10 @@ use Rattle.binary_grammar.specs.Several.{grown}
 use Rattle.binary_grammar.specs.Syntax.{Meets, EachWhere}
 use Rattle.component_value_types.specs.Scope.{no_scope}
 use Rattle.component_definitions.specs.Counting.{inside}
-use Rattle.component_instances.specs.Declarators.{DeclaratorValue, DeclaredValue, declarator, declared_with}
-use Rattle.component_entries.specs.Entries.{EntryValue, DefinedValue, nothing}
+use Rattle.component_sections.specs.Passed.component_instances-Declarators.{DeclaratorValue, DeclaredValue, declarator, declared_with}
+use Rattle.component_sections.specs.Passed.component_entries-Entries.{EntryValue, DefinedValue, nothing}
 use Rattle.component_sections.specs.Component.{DefinitionValue, an_entry, with_definition, Follow}
-use Rattle.type_meaning.specs.Scope.{Scope, meaning}
+use Rattle.type_writing.specs.Passed.type_meaning-Scope.{Scope, meaning}
 use Rattle.type_sinks.specs.Imports.{entry_names}
 
 abbrev pub as_definitions : List EntryValue → List DefinitionValue

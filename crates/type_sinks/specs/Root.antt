@@ -2,15 +2,15 @@
 use Rattle.std.specs.Prelude.{◌≡◌, ℕ, Bool, List, [], ◌∷◌, get_or, slice_get, Option, Some, true, false, String, string_bytes}
 use Rattle.std.specs.List.{flat_map}
 use Rattle.std.specs.declared.alloc.Global.{Global}
-use Rattle.component_entries.specs.Entries.{EntryValue, an_alias, a_type as defines, an_import, an_export}
+use Rattle.component_sections.specs.Passed.component_entries-Entries.{EntryValue, an_alias, a_type as defines, an_import, an_export}
 use Rattle.component_value_types.specs.declared.values.ValueType.TheVariants.{Index}
 use Rattle.wit_types.specs.declared.kind.«Type».TheVariants.{Id}
 use Rattle.wit_types.specs.declared.interface.TypeDef.{TypeDef}
 use Rattle.wit_types.specs.declared.interface.TypeOwner.{TypeOwner}
 use Rattle.wit_types.specs.declared.interface.TypeOwner.TheVariants as belongs
-use Rattle.type_meaning.specs.Words.{Site, root_import, imported, Label}
-use Rattle.type_meaning.specs.Items.{Item, Items, a_type, an_instance, item_named, item_at, is_value}
-use Rattle.type_meaning.specs.Scope.{Scope, meaning}
+use Rattle.type_writing.specs.Passed.type_meaning-Words.{Site, root_import, imported, Label}
+use Rattle.type_writing.specs.Passed.type_meaning-Items.{Item, Items, a_type, an_instance, item_named, item_at, is_value}
+use Rattle.type_writing.specs.Passed.type_meaning-Scope.{Scope, meaning}
 use Rattle.type_writing.specs.Unfolding.{OwnName, WitTree, Unfolds}
 use Rattle.type_writing.specs.Writing.{written, Stands}
 use Rattle.type_sinks.specs.Imports.{entry_names, AreImportsOf}

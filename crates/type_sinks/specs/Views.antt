@@ -4,18 +4,18 @@ use Rattle.std.specs.declared.alloc.Global.{Global}
 use Rattle.std.specs.List.{list_any}
 use Rattle.distinct_names.specs.Names.{is_new}
 use Rattle.component_definitions.specs.declared.externs.Description.TheVariants as descriptions
-use Rattle.component_entries.specs.Entries.{EntryValue, entry_value, a_type, an_import}
-use Rattle.component_instances.specs.Declarators.{DeclaratorValue, declarator_value}
-use Rattle.component_instances.specs.TypeDefinitions.{of_instance}
+use Rattle.component_sections.specs.Passed.component_entries-Entries.{EntryValue, entry_value, a_type, an_import}
+use Rattle.component_sections.specs.Passed.component_instances-Declarators.{DeclaratorValue, declarator_value}
+use Rattle.component_sections.specs.Passed.component_instances-TypeDefinitions.{of_instance}
 use Rattle.component_value_types.specs.declared.values.ValueType.TheVariants.{Index}
 use Rattle.wit_types.specs.declared.kind.«Type».{«Type» as Ref}
 use Rattle.wit_types.specs.declared.kind.«Type».TheVariants.{Id}
 use Rattle.wit_types.specs.declared.function.Param.{Param}
 use Rattle.wit_types.specs.declared.interface.TypeDef.{TypeDef}
 use Rattle.wit_types.specs.declared.interface.TypeOwner.TheVariants as belongs
-use Rattle.type_meaning.specs.Words.{Site, Label}
-use Rattle.type_meaning.specs.Items.{Inside as TheInside, inside_of, Items, items_of, item_at, item_named, own_label, from_import, a_type as a_type_item, a_function, an_instance}
-use Rattle.type_meaning.specs.Scope.{Scope, meaning, adds}
+use Rattle.type_writing.specs.Passed.type_meaning-Words.{Site, Label}
+use Rattle.type_writing.specs.Passed.type_meaning-Items.{Inside as TheInside, inside_of, Items, items_of, item_at, item_named, own_label, from_import, a_type as a_type_item, a_function, an_instance}
+use Rattle.type_writing.specs.Passed.type_meaning-Scope.{Scope, meaning, adds}
 use Rattle.type_sinks.specs.declared.root.Root.{Root}
 use Rattle.type_sinks.specs.declared.inside.InterfaceTypes.{InterfaceTypes}
 use Rattle.type_writing.specs.Unfolding.{OwnName, WitTree, Unfolds}

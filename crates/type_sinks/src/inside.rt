@@ -4,7 +4,7 @@ ghost use Rattle.std.specs.Prelude.{◌≡◌, ◌⊎◌, ◌++◌, ◌∷◌, [
 ghost use Rattle.std.specs.List.{list_any};
 ghost use Rattle.component_definitions.specs.declared.externs.Description.TheVariants as descriptions;
 ghost use Rattle.distinct_names.specs.Names.{is_new};
-ghost use Rattle.component_instances.specs.Declarators.{declarator_value, declared_export};
+ghost use Rattle.component_sections.specs.Passed.component_instances-Declarators.{declarator_value, declared_export};
 ghost use Rattle.wit_types.specs.declared.function.Param.{Param as Parameter};
 ghost use Rattle.wit_types.specs.declared.kind.«Type».{«Type» as Ref};
 ghost use Rattle.wit_types.specs.declared.interface.TypeDef.{TypeDef as Def};
@@ -18,7 +18,7 @@ ghost use Rattle.type_writing.specs.Refusals.{IsCause};
 use crate::kept::Kept;
 use crate::root::Root;
 use component_definitions::{Alias, Description};
-use component_instances::Declarator;
+use component_sections::Declarator;
 use component_value_types::DefinedType;
 use distinct_names::Names;
 use std::alloc::Global;
@@ -69,7 +69,7 @@ fn export<'s>(
 
 impl<'s> InterfaceTypes<'s> {
     ghost use Rattle.type_sinks.specs.Views.{root_scope, interface_names, root_names, RootIsGood, RootIsPlaced, IsFull, declarator_values, inside, inside_names, inside_setting, InsideIsGood, InsideIsPlaced, IsFullInside, IsGiven, IsSameInside, IsDeclared, IsImported, IsImportedBeside, IsNamedImportCause, IsImportCause, IsInstanceWith, IsTypeOf, HasFunction, HasFunctionIn, InstanceHasFunction, HasTypeIn};
-    ghost use Rattle.type_meaning.specs.Words.{imported};
+    ghost use Rattle.type_writing.specs.Passed.type_meaning-Words.{imported};
     ghost use Rattle.type_writing.specs.Writing.{Begins};
 
     /// The type of the instance of an interface, where nothing is written, over a root.

@@ -9,3 +9,4 @@ mod root;
 pub use inside::InterfaceTypes;
 pub use law::{law_imports_are_named, law_items_are_found, law_known_is_what_stands};
 pub use root::Root;
+pub use type_writing::{Fault, write_function, write_types};

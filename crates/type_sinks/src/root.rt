@@ -2,15 +2,15 @@
 
 ghost use Rattle.std.specs.Prelude.{◌≡◌, ◌⊎◌, ◌<◌, ◌≤◌, ◌+◌, ◌^◌, [], ◌∷◌, ◌++◌, ℕ, List, Option, length, map, IfOk, IfErr, OnErr, OnOk, None, true, false, string_bytes};
 ghost use Rattle.component_definitions.specs.declared.externs.Description.TheVariants as descriptions;
-ghost use Rattle.component_instances.specs.Declarators.{declarator_value};
+ghost use Rattle.component_sections.specs.Passed.component_instances-Declarators.{declarator_value};
 ghost use Rattle.component_definitions.specs.declared.sorts.ComponentSort.TheVariants as sorts;
 ghost use Rattle.component_definitions.specs.Aliases.{instance_export};
-ghost use Rattle.component_entries.specs.Entries.{entry_value, an_alias, an_import};
+ghost use Rattle.component_sections.specs.Passed.component_entries-Entries.{entry_value, an_alias, an_import};
 ghost use Rattle.distinct_names.specs.Names.{is_new};
 ghost use Rattle.wit_types.specs.declared.function.Param.{Param as Parameter};
 ghost use Rattle.wit_types.specs.declared.kind.«Type».{«Type» as Ref};
 ghost use Rattle.wit_types.specs.declared.interface.TypeDef.{TypeDef as Def};
-ghost use Rattle.type_meaning.specs.Scope.{meaning};
+ghost use Rattle.type_writing.specs.Passed.type_meaning-Scope.{meaning};
 ghost use Rattle.type_sinks.specs.Kept.{index_of};
 ghost use Rattle.type_sinks.specs.Refusals.{IsFunctionCause};
 ghost use Rattle.type_sinks.specs.Root.{imported_name, imported_names};
@@ -20,8 +20,7 @@ ghost use Rattle.type_writing.specs.Refusals.{IsCause};
 
 use crate::kept::Kept;
 use component_definitions::{Alias, ComponentSort, Description, Import};
-use component_entries::Entry;
-use component_instances::{Declarator, InstanceType, TypeDefinition};
+use component_sections::{Declarator, Entry, InstanceType, TypeDefinition};
 use component_value_types::DefinedType;
 use distinct_names::Names;
 use std::alloc::Global;
@@ -219,8 +218,8 @@ impl<'s> Root<'s> {
 }
 
 impl<'s> Root<'s> {
-    ghost use Rattle.type_meaning.specs.Words.{Site};
-    ghost use Rattle.type_meaning.specs.Scope.{import_label};
+    ghost use Rattle.type_writing.specs.Passed.type_meaning-Words.{Site};
+    ghost use Rattle.type_writing.specs.Passed.type_meaning-Scope.{import_label};
     ghost use Rattle.type_sinks.specs.Views.{root_scope, interface_names, root_names, root_setting, RootIsGood, RootIsPlaced, IsFull, IsFullOfFunctions, IsSameRoot, IsAdded, IsFunctionAt, InstanceHasFunction, AddsOneFunction};
     ghost use Rattle.type_writing.specs.Writing.{Begins};
 

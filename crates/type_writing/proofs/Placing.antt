@@ -3,11 +3,11 @@ use Rattle.std.proofs.Common.{◌≡◌, ◌<◌, ℕ, zero, suc, List, [], ◌�
 use Rattle.std.specs.Prelude.{slice_get}
 use Rattle.std.specs.List.{AllByRecursion as Each}
 use Rattle.distinct_names.specs.Names.{all_new}
-use Rattle.component_value_types.specs.declared.values.PrimitiveValueType.{PrimitiveValueType}
-use Rattle.component_value_types.specs.declared.values.ValueType.{ValueType}
-use Rattle.component_value_types.specs.declared.values.ValueType.TheVariants as values
-use Rattle.component_value_types.specs.Types.{DefinedTypeValue}
-use Rattle.component_value_types.specs.Types as typed
+use Rattle.type_meaning.specs.Passed.component_value_types-declared-values-PrimitiveValueType.{PrimitiveValueType}
+use Rattle.type_meaning.specs.Passed.component_value_types-declared-values-ValueType.{ValueType}
+use Rattle.type_meaning.specs.Passed.component_value_types-declared-values-ValueType-TheVariants as values
+use Rattle.type_meaning.specs.Passed.component_value_types-Types.{DefinedTypeValue}
+use Rattle.type_meaning.specs.Passed.component_value_types-Types as typed
 use Rattle.wit_types.specs.declared.function.Param.{Param}
 use Rattle.wit_types.specs.declared.kind.«Type».{«Type» as Ref}
 use Rattle.wit_types.specs.declared.kind.TypeDefKind.{TypeDefKind}

@@ -6,13 +6,13 @@ use Rattle.std.proofs.lemmas.Grind.{flat_map-append}
 use Rattle.std.specs.declared.alloc.Global.{Global}
 use Rattle.std.proofs.lemmas.List.{append-nil, map-append, take_more}
 use Rattle.std.proofs.lemmas.Bool.{cases_Bool}
-use Rattle.component_value_types.specs.declared.values.PrimitiveValueType.{PrimitiveValueType}
-use Rattle.component_value_types.specs.declared.values.PrimitiveValueType.TheVariants as primitives
-use Rattle.component_value_types.specs.declared.values.ValueType.{ValueType}
-use Rattle.component_value_types.specs.declared.values.ValueType.TheVariants as values
-use Rattle.component_value_types.specs.declared.values.ValueType.TheVariants.{Index}
-use Rattle.component_value_types.specs.Types.{DefinedTypeValue}
-use Rattle.component_value_types.specs.Types as typed
+use Rattle.type_meaning.specs.Passed.component_value_types-declared-values-PrimitiveValueType.{PrimitiveValueType}
+use Rattle.type_meaning.specs.Passed.component_value_types-declared-values-PrimitiveValueType-TheVariants as primitives
+use Rattle.type_meaning.specs.Passed.component_value_types-declared-values-ValueType.{ValueType}
+use Rattle.type_meaning.specs.Passed.component_value_types-declared-values-ValueType-TheVariants as values
+use Rattle.type_meaning.specs.Passed.component_value_types-declared-values-ValueType-TheVariants.{Index}
+use Rattle.type_meaning.specs.Passed.component_value_types-Types.{DefinedTypeValue}
+use Rattle.type_meaning.specs.Passed.component_value_types-Types as typed
 use Rattle.wit_types.specs.declared.kind.«Type».{«Type» as Ref}
 use Rattle.wit_types.specs.declared.kind.«Type».TheVariants.{Id}
 use Rattle.wit_types.specs.declared.kind.TypeDefKind.{TypeDefKind}
@@ -22,9 +22,9 @@ use Rattle.wit_types.specs.declared.function.Param.{Param}
 use Rattle.type_writing.specs.Functions.{function_form, IsFunctionOf, FunctionStands}
 use Rattle.type_meaning.specs.Tree.{Kind, Form, Parts, named, of, none, gap, part, record_kind, function_kind, is_resource}
 use Rattle.type_meaning.specs.Words.{Label, BinaryTree}
-use Rattle.component_value_types.specs.declared.named.Named.{Named}
-use Rattle.component_value_types.specs.Combinators.{NamedValue}
-use Rattle.component_value_types.specs.Names.{named_value}
+use Rattle.type_meaning.specs.Passed.component_value_types-declared-named-Named.{Named}
+use Rattle.type_meaning.specs.Passed.component_value_types-Combinators.{NamedValue}
+use Rattle.type_meaning.specs.Passed.component_value_types-Names.{named_value}
 use Rattle.type_meaning.specs.Syntax.{plain, primitive_kind, syntax_of, names_of}
 use Rattle.type_meaning.specs.Items.{Item, nothing, a_type, a_function, an_instance_type, an_instance, or_nothing, item_at, is_handle_kind, is_value, is_function, type_if, part_test, part_tree, parts_in, with_part, type_item, type_or_nothing, named_item}
 use Rattle.type_writing.specs.Unfolding.{OwnName, primitive_of, under_name, Unfolds, unfolds_primitive, unfolds_type, unfolds_form, unfolds_alias, PartsUnfold, no_parts, gap_unfolds, part_unfolds}

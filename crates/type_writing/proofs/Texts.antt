@@ -11,11 +11,11 @@ use Rattle.wit_types.specs.declared.kind.TypeDefKind.TheVariants as kind
 use Rattle.wit_types.specs.declared.interface.TypeDef.{TypeDef}
 use Rattle.wit_types.specs.declared.interface.TypeOwner.{TypeOwner}
 use Rattle.wit_types.specs.declared.interface.TypeOwner.TheVariants as belongs
-use Rattle.wit_arena.specs.Tree as wit
-use Rattle.wit_arena.specs.Tree.{Name, Owner, is_resource, value_of}
-use Rattle.wit_arena.specs.Unfold.{Owners, and_then, ref_tree, value_tree, part_tree, part_trees, kind_tree, named_kind_tree, owner_of, def_tree_of, def_tree, trees_from, trees}
-use Rattle.wit_arena.proofs.Lists.{get_more}
-use Rattle.wit_arena.proofs.Unfolding.{flat_some, option_map_some}
+use Rattle.type_meaning.specs.Passed.wit_arena-Tree as wit
+use Rattle.type_meaning.specs.Passed.wit_arena-Tree.{Name, Owner, is_resource, value_of}
+use Rattle.type_meaning.specs.Passed.wit_arena-Unfold.{Owners, and_then, ref_tree, value_tree, part_tree, part_trees, kind_tree, named_kind_tree, owner_of, def_tree_of, def_tree, trees_from, trees}
+use Rattle.type_meaning.proofs.Passed.wit_arena-Lists.{get_more}
+use Rattle.type_meaning.proofs.Passed.wit_arena-Unfolding.{flat_some, option_map_some}
 use Rattle.type_meaning.specs.Tree.{Kind, Form, Tree, Parts, named, resource, of, none, gap, part}
 use Rattle.type_meaning.specs.Tree as forms
 use Rattle.type_meaning.specs.Words.{Label, Resource, NamedTree, over, seen, seen_parts}

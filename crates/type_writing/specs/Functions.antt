@@ -1,6 +1,6 @@
 -- Types of functions as trees, and what stands for them (WIT, Item: `func`; Component Model, Explainer, Type Definitions).
 use Rattle.std.specs.Prelude.{◌≡◌, ℕ, List, ◌∷◌, map, Option, Some, string_bytes}
-use Rattle.component_value_types.specs.Types.{DefinedTypeValue}
+use Rattle.type_meaning.specs.Passed.component_value_types-Types.{DefinedTypeValue}
 use Rattle.wit_types.specs.declared.kind.«Type».{«Type» as Ref}
 use Rattle.wit_types.specs.declared.function.Param.{Param}
 use Rattle.wit_types.specs.declared.interface.TypeDef.{TypeDef}

@@ -4,3 +4,4 @@ pub mod Functions
 pub mod Placing
 pub mod Refusals
 pub mod Texts
+pub mod Passed

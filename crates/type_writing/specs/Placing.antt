@@ -1,9 +1,9 @@
 -- Where a type may be defined, and of which types that is so (WIT, Types; Component Model Binary, Type Definitions).
 use Rattle.std.specs.Prelude.{◌≡◌, ◌<◌, ℕ, List, [], map, Option, Some, None, true, string_bytes}
 use Rattle.std.specs.List.{AllByRecursion as Each}
-use Rattle.component_value_types.specs.declared.values.ValueType.{ValueType}
-use Rattle.component_value_types.specs.declared.values.ValueType.TheVariants as values
-use Rattle.component_value_types.specs.Types.{DefinedTypeValue}
+use Rattle.type_meaning.specs.Passed.component_value_types-declared-values-ValueType.{ValueType}
+use Rattle.type_meaning.specs.Passed.component_value_types-declared-values-ValueType-TheVariants as values
+use Rattle.type_meaning.specs.Passed.component_value_types-Types.{DefinedTypeValue}
 use Rattle.distinct_names.specs.Names.{all_new}
 use Rattle.wit_types.specs.declared.function.Param.{Param}
 use Rattle.wit_types.specs.declared.kind.TypeDefKind.{TypeDefKind}

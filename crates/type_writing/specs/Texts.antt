@@ -3,9 +3,9 @@ use Rattle.std.specs.Prelude.{◌≡◌, List, Some, false}
 use Rattle.wit_types.specs.declared.kind.«Type».{«Type» as Ref}
 use Rattle.wit_types.specs.declared.interface.TypeDef.{TypeDef}
 use Rattle.wit_types.specs.declared.interface.TypeOwner.{TypeOwner}
-use Rattle.wit_arena.specs.Tree as wit
-use Rattle.wit_arena.specs.Tree.{Name, Owner}
-use Rattle.wit_arena.specs.Unfold.{Owners, owner_of, ref_tree, trees}
+use Rattle.type_meaning.specs.Passed.wit_arena-Tree as wit
+use Rattle.type_meaning.specs.Passed.wit_arena-Tree.{Name, Owner}
+use Rattle.type_meaning.specs.Passed.wit_arena-Unfold.{Owners, owner_of, ref_tree, trees}
 use Rattle.type_meaning.specs.Tree.{Parts, named, resource, of, none, gap, part}
 use Rattle.type_meaning.specs.Words.{Label, Resource, same_label}
 use Rattle.type_meaning.specs.Wit as texts

@@ -5,9 +5,9 @@ use Rattle.wit_types.specs.declared.kind.«Type».{«Type» as Ref}
 use Rattle.wit_types.specs.declared.kind.TypeDefKind.{TypeDefKind}
 use Rattle.wit_types.specs.declared.interface.TypeDef.{TypeDef}
 use Rattle.wit_types.specs.declared.interface.TypeOwner.{TypeOwner}
-use Rattle.component_value_types.specs.declared.values.ValueType.{ValueType}
-use Rattle.component_value_types.specs.declared.values.ValueType.TheVariants.{Index}
-use Rattle.component_value_types.specs.Types.{DefinedTypeValue}
+use Rattle.type_meaning.specs.Passed.component_value_types-declared-values-ValueType.{ValueType}
+use Rattle.type_meaning.specs.Passed.component_value_types-declared-values-ValueType-TheVariants.{Index}
+use Rattle.type_meaning.specs.Passed.component_value_types-Types.{DefinedTypeValue}
 use Rattle.type_meaning.specs.Tree.{Parts, named, resource, put, put_parts, record_kind}
 use Rattle.type_meaning.specs.Words.{Site, itself, Label, Resource, imported_as, its_own, BinaryTree}
 use Rattle.type_meaning.specs.Items.{Item, part_tree, is_function_kind, is_handle_kind}

@@ -3,8 +3,8 @@
 ghost use Rattle.std.specs.Prelude.{◌≡◌, ℕ, List, ◌++◌, ◌<◌, ◌∷◌, [], length, slice_get, IfOk, IfSome, IfErr, OnOk, OnErr, Some, None, option_map, string_bytes, true, false};
 ghost use Rattle.wit_types.specs.declared.interface.TypeDef.{TypeDef as Def};
 ghost use Rattle.wit_types.specs.declared.kind.«Type».TheVariants.{Id};
-ghost use Rattle.component_value_types.specs.declared.values.ValueType.TheVariants.{Index};
-ghost use Rattle.component_value_types.specs.Types.{defined_type_value};
+ghost use Rattle.type_meaning.specs.Passed.component_value_types-declared-values-ValueType-TheVariants.{Index};
+ghost use Rattle.type_meaning.specs.Passed.component_value_types-Types.{defined_type_value};
 ghost use Rattle.distinct_names.specs.Names.{is_new};
 ghost use Rattle.type_meaning.specs.Items.{item_at, named_item, type_item};
 ghost use Rattle.type_writing.specs.declared.fault.Fault.TheVariants.{OutOfMemory};
@@ -13,7 +13,7 @@ ghost use Rattle.type_writing.specs.Refusals.{IsCause};
 ghost use Rattle.type_writing.specs.Writing.{Stands, KindStands, Begins, remembering};
 
 use crate::fault::Fault;
-use component_value_types::DefinedType;
+use type_meaning::DefinedType;
 use wit_types::{TypeId, TypeOwner};
 
 /// Where types are written: a component at its root, or the type of an instance. It answers the index of each.

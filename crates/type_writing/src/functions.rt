@@ -1,8 +1,8 @@
 //! Types of functions, by the indices of what is written.
 
 ghost use Rattle.std.specs.Prelude.{◌≡◌, ℕ, List, map, IfOk, IfErr, OnErr, Some, string_bytes};
-ghost use Rattle.component_value_types.specs.Names.{named_value};
-ghost use Rattle.component_value_types.specs.Types.{function, function_type_value};
+ghost use Rattle.type_meaning.specs.Passed.component_value_types-Names.{named_value};
+ghost use Rattle.type_meaning.specs.Passed.component_value_types-Types.{function, function_type_value};
 ghost use Rattle.wit_types.specs.declared.interface.TypeDef.{TypeDef as Def};
 ghost use Rattle.type_meaning.specs.Syntax.{names_of};
 ghost use Rattle.type_writing.specs.Writing.{Begins, PartsStand, IsRemembered};
@@ -13,8 +13,8 @@ ghost use Rattle.type_writing.specs.Refusals.{IsCause, AreUnready};
 use crate::encoder::ValtypeEncoder;
 use crate::fault::Fault;
 use crate::parts::{part_of, value_of};
-use component_value_types::{DefinedType, FunctionType, Named, ValueType};
 use std::alloc::Global;
+use type_meaning::{DefinedType, FunctionType, Named, ValueType};
 use wit_types::{Param, Type};
 
 /// The parameters of a function.

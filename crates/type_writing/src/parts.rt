@@ -1,8 +1,8 @@
 //! What types are made of, by the indices of what is written.
 
 ghost use Rattle.std.specs.Prelude.{◌≡◌, ℕ, List, map, IfOk, IfErr, IfSome, IfNone, None, Some, string_bytes};
-ghost use Rattle.component_value_types.specs.Names.{named_value, label_value};
-ghost use Rattle.component_value_types.specs.Types.{case_value, defined_type_value};
+ghost use Rattle.type_meaning.specs.Passed.component_value_types-Names.{named_value, label_value};
+ghost use Rattle.type_meaning.specs.Passed.component_value_types-Types.{case_value, defined_type_value};
 ghost use Rattle.wit_types.specs.declared.interface.TypeDef.{TypeDef as Def};
 ghost use Rattle.type_meaning.specs.Syntax.{primitive_kind, names_of};
 ghost use Rattle.type_writing.specs.declared.fault.Fault.TheVariants.{NotYet};
@@ -12,8 +12,8 @@ ghost use Rattle.type_writing.specs.Writing.{Stands, PartStands, PartsStand, IsD
 
 use crate::encoder::ValtypeEncoder;
 use crate::fault::Fault;
-use component_value_types::{CaseType, DefinedType, Label, Named, PrimitiveValueType, ValueType};
 use std::alloc::{AllocError, Global};
+use type_meaning::{CaseType, DefinedType, Label, Named, PrimitiveValueType, ValueType};
 use wit_types::{Case, EnumCase, Field, Flag, Type, TypeDefKind};
 
 /// The primitive type that a type is, if it is one that is written.

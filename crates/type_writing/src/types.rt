@@ -2,8 +2,8 @@
 
 ghost use Rattle.std.specs.Prelude.{◌≡◌, ◌⊎◌, ℕ, ◌<◌, ◌++◌, List, length, IfOk, IfErr, OnOk, slice_get, Some};
 ghost use Rattle.std.specs.List.{All, AllByRecursion as Each};
-ghost use Rattle.component_value_types.specs.declared.values.ValueType.TheVariants.{Index};
-ghost use Rattle.wit_order.specs.Order.{Has};
+ghost use Rattle.type_meaning.specs.Passed.component_value_types-declared-values-ValueType-TheVariants.{Index};
+ghost use Rattle.wit_types.specs.Passed.wit_order-Order.{Has};
 ghost use Rattle.wit_types.specs.declared.interface.TypeDef.{TypeDef as Def};
 ghost use Rattle.wit_types.specs.declared.kind.«Type».TheVariants.{Id};
 ghost use Rattle.wit_types.specs.declared.kind.TypeDefKind.TheVariants as kind;
@@ -14,8 +14,8 @@ ghost use Rattle.type_writing.specs.Writing.{Stands, KindStands, Begins, HasItsN
 use crate::encoder::ValtypeEncoder;
 use crate::fault::Fault;
 use crate::parts::{defined_of, value_of};
-use component_value_types::{DefinedType, ValueType};
 use std::alloc::Global;
+use type_meaning::{DefinedType, ValueType};
 use wit_types::{Arena, Type, TypeDef, TypeDefKind, TypeId};
 
 /// Writes another name of a type, without that name, and answers its index: that of the type, where it has one.

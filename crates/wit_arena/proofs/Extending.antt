@@ -1,11 +1,11 @@
 -- What is brought into an arena comes behind what was there.
 use Rattle.std.proofs.Common.{◌≡◌, List, [], ◌∷◌, ◌++◌, Option, append-nil, append_assoc, refl, sym, ap, subst, ◌∙◌}
-use Rattle.wit_words.specs.declared.source_map.Span.{Span}
+use Rattle.wit_types.specs.Passed.wit_words-declared-source_map-Span.{Span}
 use Rattle.wit_types.specs.declared.kind.«Type».{«Type» as Ref}
 use Rattle.wit_types.specs.declared.kind.TypeDefKind.{TypeDefKind}
 use Rattle.wit_types.specs.declared.interface.TypeDef.{TypeDef}
-use Rattle.wit_productions.specs.TypeTree.{TypeTree, TypeShape, TypeOption}
-use Rattle.wit_items.specs.ItemTree.{TypeDefKindTree}
+use Rattle.wit_type_names.specs.Passed.wit_productions-TypeTree.{TypeTree, TypeShape, TypeOption}
+use Rattle.wit_type_names.specs.Passed.wit_items-ItemTree.{TypeDefKindTree}
 use Rattle.wit_arena.specs.Table.{Entries}
 use Rattle.wit_arena.specs.Shape.{ShapeTree}
 use Rattle.wit_arena.specs.Arena.{Interns, there, fresh}

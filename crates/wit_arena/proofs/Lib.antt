@@ -8,3 +8,4 @@ pub mod Growing
 pub mod Meanings
 pub mod OneMeaning
 pub mod Extending
+pub mod Passed

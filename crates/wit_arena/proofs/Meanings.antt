@@ -3,22 +3,22 @@ use Rattle.std.proofs.Common.{◌≡◌, ℕ, List, [], ◌∷◌, ◌++◌, inl
 use Rattle.std.proofs.lemmas.Option.{same_Some}
 use Rattle.std.specs.Prelude.{option_map, string_bytes}
 use Rattle.std.proofs.lemmas.Simd.{map-map}
-use Rattle.wit_words.specs.declared.source_map.Span.{Span}
-use Rattle.wit_words.specs.Slice.{Slice}
+use Rattle.wit_types.specs.Passed.wit_words-declared-source_map-Span.{Span}
+use Rattle.wit_types.specs.Passed.wit_words-Slice.{Slice}
 use Rattle.wit_types.specs.declared.kind.«Type».{«Type» as Ref}
 use Rattle.wit_types.specs.declared.kind.«Type».TheVariants as ref
 use Rattle.wit_types.specs.declared.kind.TypeDefKind.{TypeDefKind}
 use Rattle.wit_types.specs.declared.kind.TypeDefKind.TheVariants as kind
 use Rattle.wit_types.specs.declared.interface.TypeDef.{TypeDef}
-use Rattle.wit_productions.specs.TypeTree as written
-use Rattle.wit_productions.specs.TypeTree.{TypeTree, TypeShape, TypeOption, standing}
-use Rattle.wit_items.specs.ItemTree as item
-use Rattle.wit_items.specs.ItemTree.{FieldTree, CaseTree, LabelTree, TypeDefKindTree}
-use Rattle.wit_syntax.specs.Ast.{PackageNameTree}
+use Rattle.wit_type_names.specs.Passed.wit_productions-TypeTree as written
+use Rattle.wit_type_names.specs.Passed.wit_productions-TypeTree.{TypeTree, TypeShape, TypeOption, standing}
+use Rattle.wit_type_names.specs.Passed.wit_items-ItemTree as item
+use Rattle.wit_type_names.specs.Passed.wit_items-ItemTree.{FieldTree, CaseTree, LabelTree, TypeDefKindTree}
+use Rattle.wit_type_names.specs.Passed.wit_syntax-Ast.{PackageNameTree}
 use Rattle.wit_type_names.specs.TypeNames.{field_parts, case_parts}
-use Rattle.wit_scopes.specs.Paths.{own, foreign}
-use Rattle.wit_scopes.specs.Members.{used, defined}
-use Rattle.wit_scopes.specs.Scopes.{ItemScope}
+use Rattle.wit_type_names.specs.Passed.wit_scopes-Paths.{own, foreign}
+use Rattle.wit_type_names.specs.Passed.wit_scopes-Members.{used, defined}
+use Rattle.wit_type_names.specs.Passed.wit_scopes-Scopes.{ItemScope}
 use Rattle.wit_arena.specs.Tree as tree
 use Rattle.wit_arena.specs.Tree.{Name, PackageText, Place, in_interface, Owner, Primitive, Tree, TreeOption, Trees, no_tree, a_tree, no_trees, trees_and, primitive, list_tree, fixed_length_list_tree, option_tree, tuple_tree, result_tree, future_tree, stream_tree, own_tree, borrow_tree, record_tree, flags_tree, enum_tree, variant_tree, resource_leaf, named_tree, value_of}
 use Rattle.wit_arena.specs.Table.{Entries}

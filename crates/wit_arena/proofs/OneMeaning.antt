@@ -1,15 +1,15 @@
 -- What is written means one tree at most.
 use Rattle.std.proofs.Common.{◌≡◌, List, Some, None, refl, sym, subst, ap, ◌∙◌, map}
 use Rattle.std.proofs.lemmas.Option.{same_Some}
-use Rattle.wit_words.specs.declared.source_map.Span.{Span}
-use Rattle.wit_words.specs.Slice.{Slice}
-use Rattle.wit_productions.specs.TypeTree as written
-use Rattle.wit_productions.specs.TypeTree.{TypeTree, TypeShape, TypeOption, standing}
-use Rattle.wit_items.specs.ItemTree as item
+use Rattle.wit_types.specs.Passed.wit_words-declared-source_map-Span.{Span}
+use Rattle.wit_types.specs.Passed.wit_words-Slice.{Slice}
+use Rattle.wit_type_names.specs.Passed.wit_productions-TypeTree as written
+use Rattle.wit_type_names.specs.Passed.wit_productions-TypeTree.{TypeTree, TypeShape, TypeOption, standing}
+use Rattle.wit_type_names.specs.Passed.wit_items-ItemTree as item
 use Rattle.wit_type_names.specs.TypeNames.{field_parts, case_parts}
-use Rattle.wit_scopes.specs.Paths.{own, foreign}
-use Rattle.wit_scopes.specs.Members.{MemberKind, used, defined, function, method, static, constructor}
-use Rattle.wit_scopes.specs.Scopes.{ItemScope}
+use Rattle.wit_type_names.specs.Passed.wit_scopes-Paths.{own, foreign}
+use Rattle.wit_type_names.specs.Passed.wit_scopes-Members.{MemberKind, used, defined, function, method, static, constructor}
+use Rattle.wit_type_names.specs.Passed.wit_scopes-Scopes.{ItemScope}
 use Rattle.wit_arena.specs.Tree.{Name, PackageText, Place, in_interface, Owner, Primitive, Tree, TreeOption, Trees, a_tree, trees_and, primitive, list_tree, fixed_length_list_tree, option_tree, tuple_tree, result_tree, future_tree, stream_tree, own_tree, borrow_tree, record_tree, flags_tree, enum_tree, variant_tree, resource_leaf, named_tree, value_of}
 use Rattle.wit_arena.specs.Meaning.{package_text, Declares, primitive_of, parts, bare_name, Means, means_primitive, means_name, means_list, means_fixed_length_list, means_option, means_tuple, means_result, means_own, means_borrow, means_future, means_stream, MeansPart, means_nothing, means_a_type, MeansParts, means_none, means_more, MeansName, means_alias_of_name, means_alias, means_record, means_flags, means_enum, means_variant, means_resource, means_used, means_foreign}
 use Rattle.wit_arena.specs.Standing.{MeansAlone, alone_name, alone_type, IsOfType, AreFunctional, MeaningIsOne, TypesMeanOneTree}

@@ -3,10 +3,10 @@ use Rattle.std.proofs.Common.{◌≡◌, ℕ, ◌<◌, ◌≤◌, ◌+◌, zero,
 use Rattle.std.proofs.lemmas.List.{drop_more, drop_all, append-nil, map_more, map_push}
 use Rattle.wit_types.specs.declared.kind.«Type».{«Type» as Ref}
 use Rattle.wit_types.specs.declared.interface.TypeDef.{TypeDef}
-use Rattle.wit_productions.specs.declared.types.«Type».{«Type» as Written}
-use Rattle.wit_productions.specs.TypeTree.{TypeOption, row, no_type}
-use Rattle.wit_productions.specs.TypeView.{type_tree}
-use Rattle.wit_words.specs.Slice.{Slice}
+use Rattle.wit_type_names.specs.Passed.wit_productions-declared-types-Type.{«Type» as Written}
+use Rattle.wit_type_names.specs.Passed.wit_productions-TypeTree.{TypeOption, row, no_type}
+use Rattle.wit_type_names.specs.Passed.wit_productions-TypeView.{type_tree}
+use Rattle.wit_types.specs.Passed.wit_words-Slice.{Slice}
 use Rattle.wit_type_names.specs.TypeNames.{names_in_part, names_in_parts, names_in_row}
 use Rattle.wit_type_names.specs.TypeView.{type_part}
 use Rattle.wit_arena.specs.Meaning.{Has, parts}

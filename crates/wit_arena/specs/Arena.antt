@@ -1,6 +1,6 @@
 -- Arenas in which types without a name that are made of the same are one (WIT, Types).
 use Rattle.std.specs.Prelude.{◌≡◌, ℕ, List, [], ◌∷◌, ◌++◌, Option, Some, None, length, slice_get, IsSome}
-use Rattle.wit_words.specs.declared.source_map.Span.{Span}
+use Rattle.wit_types.specs.Passed.wit_words-declared-source_map-Span.{Span}
 use Rattle.wit_types.specs.declared.kind.«Type».{«Type» as Ref}
 use Rattle.wit_types.specs.declared.kind.«Type».TheVariants.{Id}
 use Rattle.wit_types.specs.declared.interface.TypeDef.{TypeDef}

@@ -1,7 +1,7 @@
 -- What docs say (WIT, Comments).
 use Rattle.std.specs.Prelude.{ℕ, List, [], ◌∷◌, Option, Some, None, option_map, string_bytes}
-use Rattle.wit_words.specs.Slice.{Slice}
-use Rattle.wit_words.specs.Docs.{docs_text}
+use Rattle.wit_types.specs.Passed.wit_words-Slice.{Slice}
+use Rattle.wit_types.specs.Passed.wit_words-Docs.{docs_text}
 use Rattle.wit_types.specs.declared.docs.Docs.{Docs}
 
 -- what comments in front of something say; where none stands there nothing is said

@@ -9,3 +9,4 @@ pub mod LowerKind
 pub mod LowerParams
 pub mod Unfold
 pub mod Standing
+pub mod Passed

@@ -1,13 +1,13 @@
 -- One way to bring a type into an arena (WIT, Types).
 use Rattle.std.specs.Prelude.{◌≡◌, ℕ, List, [], ◌∷◌, Option, Some, None, map}
-use Rattle.wit_words.specs.declared.source_map.Span.{Span}
-use Rattle.wit_words.specs.Slice.{Slice}
+use Rattle.wit_types.specs.Passed.wit_words-declared-source_map-Span.{Span}
+use Rattle.wit_types.specs.Passed.wit_words-Slice.{Slice}
 use Rattle.wit_types.specs.declared.kind.«Type».{«Type» as Ref}
 use Rattle.wit_types.specs.declared.kind.«Type».TheVariants as ref
 use Rattle.wit_types.specs.declared.kind.Handle.TheVariants as handle
 use Rattle.wit_types.specs.declared.interface.TypeDef.{TypeDef}
-use Rattle.wit_productions.specs.TypeTree as written
-use Rattle.wit_productions.specs.TypeTree.{TypeTree, TypeShape, TypeRow, TypeOption, standing}
+use Rattle.wit_type_names.specs.Passed.wit_productions-TypeTree as written
+use Rattle.wit_type_names.specs.Passed.wit_productions-TypeTree.{TypeTree, TypeShape, TypeRow, TypeOption, standing}
 use Rattle.wit_arena.specs.Meaning.{Has, parts}
 use Rattle.wit_arena.specs.Table.{Entries}
 use Rattle.wit_arena.specs.Shape as shape

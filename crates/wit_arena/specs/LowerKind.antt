@@ -1,6 +1,6 @@
 -- One way to bring a definition into an arena (WIT, Items).
 use Rattle.std.specs.Prelude.{◌≡◌, ℕ, List, [], Option, Some, map, string_bytes}
-use Rattle.wit_words.specs.declared.source_map.Span.{Span}
+use Rattle.wit_types.specs.Passed.wit_words-declared-source_map-Span.{Span}
 use Rattle.wit_types.specs.declared.kind.«Type».{«Type» as Ref}
 use Rattle.wit_types.specs.declared.kind.TypeDefKind.{TypeDefKind}
 use Rattle.wit_types.specs.declared.kind.TypeDefKind.TheVariants as kind
@@ -13,9 +13,9 @@ use Rattle.wit_types.specs.declared.kind.Case.{Case}
 use Rattle.wit_types.specs.declared.kind.Enum.{Enum}
 use Rattle.wit_types.specs.declared.kind.EnumCase.{EnumCase}
 use Rattle.wit_types.specs.declared.interface.TypeDef.{TypeDef}
-use Rattle.wit_productions.specs.TypeTree.{TypeTree}
-use Rattle.wit_items.specs.ItemTree as item
-use Rattle.wit_items.specs.ItemTree.{FieldTree, LabelTree, CaseTree, TypeDefKindTree, GatedTree, ResourceFuncTree}
+use Rattle.wit_type_names.specs.Passed.wit_productions-TypeTree.{TypeTree}
+use Rattle.wit_type_names.specs.Passed.wit_items-ItemTree as item
+use Rattle.wit_type_names.specs.Passed.wit_items-ItemTree.{FieldTree, LabelTree, CaseTree, TypeDefKindTree, GatedTree, ResourceFuncTree}
 use Rattle.wit_type_names.specs.TypeNames.{field_parts, case_parts}
 use Rattle.wit_arena.specs.Docs.{said, contents_of}
 use Rattle.wit_arena.specs.Table.{Entries}

@@ -2,7 +2,7 @@
 use Rattle.std.specs.Prelude.{◌≡◌, List, Some, None, map, string_bytes}
 use Rattle.wit_types.specs.declared.function.Param.{Param}
 use Rattle.wit_types.specs.declared.interface.TypeDef.{TypeDef}
-use Rattle.wit_items.specs.ItemTree.{ParamTree}
+use Rattle.wit_type_names.specs.Passed.wit_items-ItemTree.{ParamTree}
 use Rattle.wit_type_names.specs.TypeNames.{param_parts}
 use Rattle.wit_arena.specs.Table.{Entries}
 use Rattle.wit_arena.specs.Lower.{LowersParts}

@@ -1,17 +1,17 @@
 -- What names and types mean in the scopes of a package (WIT, Items, Use, Types).
 use Rattle.std.specs.Prelude.{◌≡◌, ℕ, List, [], ◌∷◌, map, Option, Some, None, option_map, slice_get}
-use Rattle.wit_words.specs.declared.source_map.Span.{Span}
-use Rattle.wit_words.specs.Slice.{Slice}
-use Rattle.wit_productions.specs.TypeTree as written
-use Rattle.wit_productions.specs.TypeTree.{TypeTree, TypeShape, TypeRow, TypeOption, standing}
-use Rattle.wit_items.specs.ItemTree as item
-use Rattle.wit_items.specs.ItemTree.{FieldTree, LabelTree, CaseTree, TypeDefKindTree, GatedTree, ResourceFuncTree}
-use Rattle.wit_syntax.specs.Ast.{PackageNameTree}
-use Rattle.wit_scopes.specs.Paths.{own, foreign}
+use Rattle.wit_types.specs.Passed.wit_words-declared-source_map-Span.{Span}
+use Rattle.wit_types.specs.Passed.wit_words-Slice.{Slice}
+use Rattle.wit_type_names.specs.Passed.wit_productions-TypeTree as written
+use Rattle.wit_type_names.specs.Passed.wit_productions-TypeTree.{TypeTree, TypeShape, TypeRow, TypeOption, standing}
+use Rattle.wit_type_names.specs.Passed.wit_items-ItemTree as item
+use Rattle.wit_type_names.specs.Passed.wit_items-ItemTree.{FieldTree, LabelTree, CaseTree, TypeDefKindTree, GatedTree, ResourceFuncTree}
+use Rattle.wit_type_names.specs.Passed.wit_syntax-Ast.{PackageNameTree}
+use Rattle.wit_type_names.specs.Passed.wit_scopes-Paths.{own, foreign}
 use Rattle.wit_type_names.specs.TypeNames.{field_parts, case_parts}
-use Rattle.wit_scopes.specs.Members.{MemberKind, MemberTree, used, defined}
-use Rattle.wit_scopes.specs.Scopes as scope
-use Rattle.wit_scopes.specs.Scopes.{ItemScope, InterfaceScope, WorldScope, ListedTree, WorldMemberTree}
+use Rattle.wit_type_names.specs.Passed.wit_scopes-Members.{MemberKind, MemberTree, used, defined}
+use Rattle.wit_type_names.specs.Passed.wit_scopes-Scopes as scope
+use Rattle.wit_type_names.specs.Passed.wit_scopes-Scopes.{ItemScope, InterfaceScope, WorldScope, ListedTree, WorldMemberTree}
 use Rattle.wit_arena.specs.Tree as tree
 use Rattle.wit_arena.specs.Tree.{Name, PackageText, Place, in_interface, in_world, in_listed, Owner, Primitive, Tree, TreeOption, Trees, no_tree, a_tree, no_trees, trees_and, primitive, list_tree, fixed_length_list_tree, option_tree, tuple_tree, result_tree, future_tree, stream_tree, own_tree, borrow_tree, record_tree, flags_tree, enum_tree, variant_tree, resource_leaf, named_tree, value_of}
 

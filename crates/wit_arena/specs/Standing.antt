@@ -1,19 +1,19 @@
 -- What stands in an arena for names and types is what they mean (WIT, Items, Use, Types).
 use Rattle.std.specs.Prelude.{◌≡◌, ℕ, List, [], ◌∷◌, ◌++◌, Option, Some, None, length, option_map, string_bytes}
-use Rattle.wit_words.specs.Slice.{Slice}
-use Rattle.wit_words.specs.declared.source_map.Span.{Span}
+use Rattle.wit_types.specs.Passed.wit_words-Slice.{Slice}
+use Rattle.wit_types.specs.Passed.wit_words-declared-source_map-Span.{Span}
 use Rattle.wit_types.specs.declared.kind.«Type».{«Type» as Ref}
 use Rattle.wit_types.specs.declared.kind.«Type».TheVariants.{Id}
 use Rattle.wit_types.specs.declared.kind.TypeDefKind.{TypeDefKind}
 use Rattle.wit_types.specs.declared.kind.TypeDefKind.TheVariants as kind
 use Rattle.wit_types.specs.declared.interface.TypeDef.{TypeDef}
-use Rattle.wit_productions.specs.TypeTree as written
-use Rattle.wit_productions.specs.TypeTree.{TypeTree, TypeOption, standing}
-use Rattle.wit_items.specs.ItemTree.{TypeDefKindTree}
-use Rattle.wit_syntax.specs.Ast.{PackageNameTree}
-use Rattle.wit_scopes.specs.Paths.{own, foreign}
-use Rattle.wit_scopes.specs.Members.{MemberKind, used, defined, function, method, static, constructor}
-use Rattle.wit_scopes.specs.Scopes.{ItemScope}
+use Rattle.wit_type_names.specs.Passed.wit_productions-TypeTree as written
+use Rattle.wit_type_names.specs.Passed.wit_productions-TypeTree.{TypeTree, TypeOption, standing}
+use Rattle.wit_type_names.specs.Passed.wit_items-ItemTree.{TypeDefKindTree}
+use Rattle.wit_type_names.specs.Passed.wit_syntax-Ast.{PackageNameTree}
+use Rattle.wit_type_names.specs.Passed.wit_scopes-Paths.{own, foreign}
+use Rattle.wit_type_names.specs.Passed.wit_scopes-Members.{MemberKind, used, defined, function, method, static, constructor}
+use Rattle.wit_type_names.specs.Passed.wit_scopes-Scopes.{ItemScope}
 use Rattle.wit_arena.specs.Tree.{Name, PackageText, Place, in_interface, Owner, Tree, Trees}
 use Rattle.wit_arena.specs.Table.{Entries}
 use Rattle.wit_arena.specs.Meaning.{Has, package_text, Declares, bare_name, Means, MeansParts, MeansName}

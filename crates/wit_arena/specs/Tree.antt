@@ -1,6 +1,6 @@
 -- What types mean: trees (WIT, Types).
 use Rattle.std.specs.Prelude.{ℕ, Bool, true, false, List, Option, if◌then◌else◌}
-use Rattle.wit_scopes.specs.declared.worlds.Side.{Side}
+use Rattle.wit_type_names.specs.Passed.wit_scopes-declared-worlds-Side.{Side}
 
 abbrev pub Name : Type 0
 Name = List ℕ

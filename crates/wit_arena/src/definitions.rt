@@ -2,10 +2,10 @@
 
 ghost use Rattle.std.specs.Prelude.{◌≡◌, Option, Some, None, map, option_map, IfOk};
 ghost use Rattle.wit_types.specs.declared.kind.«Type».{«Type» as Ref};
-ghost use Rattle.wit_productions.specs.TypeTree.{TypeOption, no_type, opt};
-ghost use Rattle.wit_syntax.specs.AstView as view;
-ghost use Rattle.wit_syntax.specs.TypeView.{type_tree};
-ghost use Rattle.wit_items.specs.ItemTree as item;
+ghost use Rattle.wit_type_names.specs.Passed.wit_productions-TypeTree.{TypeOption, no_type, opt};
+ghost use Rattle.wit_type_names.specs.Passed.wit_syntax-AstView as view;
+ghost use Rattle.wit_type_names.specs.Passed.wit_productions-TypeView.{type_tree};
+ghost use Rattle.wit_type_names.specs.Passed.wit_items-ItemTree as item;
 ghost use Rattle.wit_type_names.specs.TypeNames.{names_in_part, names_in_parts, definition_parts, field_parts, case_parts};
 ghost use Rattle.wit_type_names.specs.TypeView.{type_part};
 ghost use Rattle.wit_arena.specs.Lower.{AreThere, LowersPart, LowersParts};
@@ -43,7 +43,7 @@ pub trait Part<'a>: Sized + Drop {
 }
 
 impl<'a> Part<'a> for Field {
-    type Written = wit_syntax::Field<'a>;
+    type Written = wit_type_names::Field<'a>;
 
     ghost label = { field_label };
 
@@ -56,7 +56,7 @@ impl<'a> Part<'a> for Field {
     fn bring(
         types: &mut Types,
         table: &Table<'_>,
-        written: &wit_syntax::Field<'a>,
+        written: &wit_type_names::Field<'a>,
     ) -> Result<Field, AllocError> {
         let docs = docs_of(types.allocator(), &written.docs)?;
         let name = String::from_str(types.allocator(), written.name.name)?;
@@ -72,7 +72,7 @@ impl<'a> Part<'a> for Field {
 }
 
 impl<'a> Part<'a> for Flag {
-    type Written = wit_syntax::Flag<'a>;
+    type Written = wit_type_names::Flag<'a>;
 
     ghost label = { flag_label };
 
@@ -85,7 +85,7 @@ impl<'a> Part<'a> for Flag {
     fn bring(
         types: &mut Types,
         _table: &Table<'_>,
-        written: &wit_syntax::Flag<'a>,
+        written: &wit_type_names::Flag<'a>,
     ) -> Result<Flag, AllocError> {
         let docs = docs_of(types.allocator(), &written.docs)?;
         let name = String::from_str(types.allocator(), written.name.name)?;
@@ -95,7 +95,7 @@ impl<'a> Part<'a> for Flag {
 }
 
 impl<'a> Part<'a> for EnumCase {
-    type Written = wit_syntax::EnumCase<'a>;
+    type Written = wit_type_names::EnumCase<'a>;
 
     ghost label = { enum_case_label };
 
@@ -108,7 +108,7 @@ impl<'a> Part<'a> for EnumCase {
     fn bring(
         types: &mut Types,
         _table: &Table<'_>,
-        written: &wit_syntax::EnumCase<'a>,
+        written: &wit_type_names::EnumCase<'a>,
     ) -> Result<EnumCase, AllocError> {
         let docs = docs_of(types.allocator(), &written.docs)?;
         let name = String::from_str(types.allocator(), written.name.name)?;
@@ -118,7 +118,7 @@ impl<'a> Part<'a> for EnumCase {
 }
 
 impl<'a> Part<'a> for Case {
-    type Written = wit_syntax::Case<'a>;
+    type Written = wit_type_names::Case<'a>;
 
     ghost label = { case_label };
 
@@ -131,7 +131,7 @@ impl<'a> Part<'a> for Case {
     fn bring(
         types: &mut Types,
         table: &Table<'_>,
-        written: &wit_syntax::Case<'a>,
+        written: &wit_type_names::Case<'a>,
     ) -> Result<Case, AllocError> {
         let docs = docs_of(types.allocator(), &written.docs)?;
         let name = String::from_str(types.allocator(), written.name.name)?;
@@ -150,7 +150,7 @@ impl<'a> Part<'a> for Case {
 pub fn lower_optional(
     types: &mut Types,
     table: &Table<'_>,
-    ty: &Option<wit_syntax::Type<'_>>,
+    ty: &Option<wit_type_names::Type<'_>>,
 ) -> Result<Option<Type>, AllocError>
     requires { AreThere table.now (names_in_part (opt (option_map type_tree ty.now))) }
     ensures { IfOk result (λ r. LowersPart table.now types.old (opt (option_map type_tree ty.now)) types.new r) }
@@ -182,7 +182,7 @@ pub fn bring_all<'a, T: Part<'a>>(
 fn lower_record(
     types: &mut Types,
     table: &Table<'_>,
-    fields: &[wit_syntax::Field<'_>],
+    fields: &[wit_type_names::Field<'_>],
 ) -> Result<TypeDefKind, AllocError>
     requires { AreThere table.now (names_in_parts (field_parts (map view.field fields.now))) }
     ensures { IfOk result (λ k. LowersKind table.now types.old (item.fields (map view.field fields.now)) types.new k) }
@@ -195,7 +195,7 @@ fn lower_record(
 fn lower_flags(
     types: &mut Types,
     table: &Table<'_>,
-    flags: &[wit_syntax::Flag<'_>],
+    flags: &[wit_type_names::Flag<'_>],
 ) -> Result<TypeDefKind, AllocError>
     ensures { IfOk result (λ k. LowersKind table.now types.old (item.flags (map view.flag flags.now)) types.new k) }
 {
@@ -207,7 +207,7 @@ fn lower_flags(
 fn lower_enum(
     types: &mut Types,
     table: &Table<'_>,
-    cases: &[wit_syntax::EnumCase<'_>],
+    cases: &[wit_type_names::EnumCase<'_>],
 ) -> Result<TypeDefKind, AllocError>
     ensures { IfOk result (λ k. LowersKind table.now types.old (item.labels (map view.enum_case cases.now)) types.new k) }
 {
@@ -219,7 +219,7 @@ fn lower_enum(
 fn lower_variant(
     types: &mut Types,
     table: &Table<'_>,
-    cases: &[wit_syntax::Case<'_>],
+    cases: &[wit_type_names::Case<'_>],
 ) -> Result<TypeDefKind, AllocError>
     requires { AreThere table.now (names_in_parts (case_parts (map view.case cases.now))) }
     ensures { IfOk result (λ k. LowersKind table.now types.old (item.cases (map view.case cases.now)) types.new k) }
@@ -232,17 +232,25 @@ fn lower_variant(
 pub fn lower_kind(
     types: &mut Types,
     table: &Table<'_>,
-    kind: &wit_syntax::TypeDefKind<'_>,
+    kind: &wit_type_names::TypeDefKind<'_>,
 ) -> Result<TypeDefKind, AllocError>
     requires { AreThere table.now (names_in_parts (definition_parts (view.type_def_kind kind.now))) }
     ensures { IfOk result (λ k. LowersKind table.now types.old (view.type_def_kind kind.now) types.new k) }
 {
     match kind {
-        wit_syntax::TypeDefKind::Alias(ty) => Ok(TypeDefKind::Alias(lower(types, table, ty)?)),
-        wit_syntax::TypeDefKind::Record(fields) => lower_record(types, table, fields.as_slice()),
-        wit_syntax::TypeDefKind::Flags(flags) => lower_flags(types, table, flags.as_slice()),
-        wit_syntax::TypeDefKind::Enum(cases) => lower_enum(types, table, cases.as_slice()),
-        wit_syntax::TypeDefKind::Variant(cases) => lower_variant(types, table, cases.as_slice()),
-        wit_syntax::TypeDefKind::Resource(_) => Ok(TypeDefKind::Resource),
+        wit_type_names::TypeDefKind::Alias(ty) => Ok(TypeDefKind::Alias(lower(types, table, ty)?)),
+        wit_type_names::TypeDefKind::Record(fields) => lower_record(
+            types,
+            table,
+            fields.as_slice(),
+        ),
+        wit_type_names::TypeDefKind::Flags(flags) => lower_flags(types, table, flags.as_slice()),
+        wit_type_names::TypeDefKind::Enum(cases) => lower_enum(types, table, cases.as_slice()),
+        wit_type_names::TypeDefKind::Variant(cases) => lower_variant(
+            types,
+            table,
+            cases.as_slice(),
+        ),
+        wit_type_names::TypeDefKind::Resource(_) => Ok(TypeDefKind::Resource),
     }
 }

@@ -2,11 +2,11 @@
 
 ghost use Rattle.std.specs.Prelude.{◌≡◌, ◌∷◌, [], Option, Some, map, option_map, IfOk};
 ghost use Rattle.wit_types.specs.declared.kind.«Type».{«Type» as Ref};
-ghost use Rattle.wit_productions.specs.NameView.{id};
-ghost use Rattle.wit_productions.specs.TypeTree as written;
-ghost use Rattle.wit_productions.specs.TypeTree.{TypeOption, opt, standing};
-ghost use Rattle.wit_syntax.specs.AstView as view;
-ghost use Rattle.wit_syntax.specs.TypeView.{type_tree};
+ghost use Rattle.wit_type_names.specs.Passed.wit_productions-NameView.{id};
+ghost use Rattle.wit_type_names.specs.Passed.wit_productions-TypeTree as written;
+ghost use Rattle.wit_type_names.specs.Passed.wit_productions-TypeTree.{TypeOption, opt, standing};
+ghost use Rattle.wit_type_names.specs.Passed.wit_syntax-AstView as view;
+ghost use Rattle.wit_type_names.specs.Passed.wit_productions-TypeView.{type_tree};
 ghost use Rattle.wit_type_names.specs.TypeNames.{names_in_part, names_in_parts, param_parts};
 ghost use Rattle.wit_type_names.specs.TypeView.{type_part};
 ghost use Rattle.wit_arena.specs.Lower.{AreThere, Lowers, LowersPart, LowersParts};
@@ -19,12 +19,11 @@ use crate::shape::Shape;
 use crate::table::Table;
 use crate::types::Types;
 use std::alloc::AllocError;
-use wit_syntax::Id;
-use wit_types::{Handle, Param, Type};
-use wit_words::Span;
+use wit_type_names::Id;
+use wit_types::{Handle, Param, Span, Type};
 
 impl<'a> Part<'a> for Param {
-    type Written = wit_syntax::Param<'a>;
+    type Written = wit_type_names::Param<'a>;
 
     ghost label = { param_label };
 
@@ -37,7 +36,7 @@ impl<'a> Part<'a> for Param {
     fn bring(
         types: &mut Types,
         table: &Table<'_>,
-        written: &wit_syntax::Param<'a>,
+        written: &wit_type_names::Param<'a>,
     ) -> Result<Param, AllocError> {
         let name = String::from_str(types.allocator(), written.name.name)?;
         let ty = lower(types, table, &written.ty)?;
@@ -50,7 +49,7 @@ impl<'a> Part<'a> for Param {
 pub fn lower_params(
     types: &mut Types,
     table: &Table<'_>,
-    params: &[wit_syntax::Param<'_>],
+    params: &[wit_type_names::Param<'_>],
 ) -> Result<Vec<Param>, AllocError>
     requires { AreThere table.now (names_in_parts (param_parts (map view.param params.now))) }
     ensures { IfOk result (λ v. LowersParams table.now types.old (map view.param params.now) types.new v.items) }
@@ -63,7 +62,7 @@ pub fn lower_params(
 pub fn lower_result(
     types: &mut Types,
     table: &Table<'_>,
-    ty: &Option<wit_syntax::Type<'_>>,
+    ty: &Option<wit_type_names::Type<'_>>,
 ) -> Result<Option<Type>, AllocError>
     requires { AreThere table.now (names_in_part (opt (option_map type_tree ty.now))) }
     ensures { IfOk result (LowersPart table.now types.old (opt (option_map type_tree ty.now)) types.new) }

@@ -20,3 +20,4 @@ pub use lowering::lower;
 pub use shape::Shape;
 pub use table::Table;
 pub use types::Types;
+pub use wit_type_names::member_handle_names;

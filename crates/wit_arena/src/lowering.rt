@@ -1,9 +1,9 @@
 //! Types as they are written, brought into an arena.
 
 ghost use Rattle.std.specs.Prelude.{◌≡◌, ◌∷◌, ◌++◌, [], Some, map, IfOk};
-ghost use Rattle.wit_productions.specs.NameView.{id};
-ghost use Rattle.wit_productions.specs.TypeTree.{row};
-ghost use Rattle.wit_productions.specs.TypeView.{type_tree, type_shape};
+ghost use Rattle.wit_type_names.specs.Passed.wit_productions-NameView.{id};
+ghost use Rattle.wit_type_names.specs.Passed.wit_productions-TypeTree.{row};
+ghost use Rattle.wit_type_names.specs.Passed.wit_productions-TypeView.{type_tree, type_shape};
 ghost use Rattle.wit_arena.specs.Meaning.{Has};
 ghost use Rattle.wit_arena.specs.Shape.{shape_of};
 ghost use Rattle.wit_type_names.specs.TypeNames.{names_in, names_in_shape, names_in_part, names_in_row};
@@ -14,7 +14,7 @@ use crate::shape::Shape;
 use crate::table::Table;
 use crate::types::Types;
 use std::alloc::AllocError;
-use wit_syntax::{Id, TypeKind};
+use wit_type_names::{Id, TypeKind};
 use wit_types::{Handle, Result_, Type, TypeId};
 
 /// The type, if it is one by its word alone.
@@ -56,7 +56,7 @@ pub fn id_of(table: &Table<'_>, name: &Id<'_>) -> TypeId
 pub fn lower(
     types: &mut Types,
     table: &Table<'_>,
-    ty: &wit_syntax::Type<'_>,
+    ty: &wit_type_names::Type<'_>,
 ) -> Result<Type, AllocError>
     requires { AreThere table.now (names_in (type_tree ty.now)) }
     ensures { IfOk result (λ r. Lowers table.now types.old (type_tree ty.now) types.new r) }
@@ -125,7 +125,7 @@ fn lower_err(
 fn lower_part(
     types: &mut Types,
     table: &Table<'_>,
-    part: &Option<Box<wit_syntax::Type<'_>>>,
+    part: &Option<Box<wit_type_names::Type<'_>>>,
 ) -> Result<Option<Type>, AllocError>
     requires { AreThere table.now (names_in_part (part_tree part.now)) }
     ensures { IfOk result (λ r. LowersPart table.now types.old (part_tree part.now) types.new r) }
@@ -141,7 +141,7 @@ fn lower_part(
 fn lower_row(
     types: &mut Types,
     table: &Table<'_>,
-    parts: &[wit_syntax::Type<'_>],
+    parts: &[wit_type_names::Type<'_>],
 ) -> Result<Vec<Type>, AllocError>
     requires { AreThere table.now (names_in_row (row (map type_tree parts.now))) }
     ensures { IfOk result (λ v. LowersParts table.now types.old (map type_part parts.now) types.new (map (λ r. Some r) v.items)) }

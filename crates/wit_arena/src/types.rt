@@ -9,8 +9,9 @@ use crate::shape::Shape;
 use indexmap::IndexMap;
 use std::alloc::{AllocError, Global};
 use std::marker::Model;
-use wit_types::{Arena, Docs, Stability, Tuple, Type, TypeDef, TypeDefKind, TypeId, TypeOwner};
-use wit_words::Span;
+use wit_types::{
+    Arena, Docs, Span, Stability, Tuple, Type, TypeDef, TypeDefKind, TypeId, TypeOwner,
+};
 
 /// Types that are brought into an arena, each behind those that it is made of. Types without a name that are made of the
 /// same are one.

@@ -9,14 +9,14 @@ use Rattle.wit_scopes.specs.Scopes.{WorldScope}
 use Rattle.wit_rules.specs.declared.fault.PackageFault.{PackageFault}
 use Rattle.wit_rules.specs.Breaks.{IsKept, IsFaultOf}
 use Rattle.wit_rules.proofs.Breaking.{widened}
-use Rattle.wit_orders.specs.Needs.{types_of}
-use Rattle.wit_arena.specs.Tree.{in_world}
-use Rattle.wit_arena.specs.Table.{Entries}
-use Rattle.wit_package_types.specs.Known.{KnownTypes}
-use Rattle.wit_resolved_scopes.specs.Scope.{ResolvesScope}
-use Rattle.wit_resolved_scopes.specs.InArena.{Context, IsScopeIn, GrowsFor, IsBuilt}
-use Rattle.wit_resolved_scopes.specs.Texts.{labelled_texts, own_members}
-use Rattle.wit_resolved_scopes.proofs.Placing.{resolved_scopes_are_in, scope_grown}
+use Rattle.wit_interfaces.specs.Passed.wit_orders-Needs.{types_of}
+use Rattle.wit_interfaces.specs.Passed.wit_arena-Tree.{in_world}
+use Rattle.wit_interfaces.specs.Passed.wit_arena-Table.{Entries}
+use Rattle.wit_interfaces.specs.Passed.wit_package_types-Known.{KnownTypes}
+use Rattle.wit_interfaces.specs.Passed.wit_resolved_scopes-Scope.{ResolvesScope}
+use Rattle.wit_interfaces.specs.Passed.wit_resolved_scopes-InArena.{Context, IsScopeIn, GrowsFor, IsBuilt}
+use Rattle.wit_interfaces.specs.Passed.wit_resolved_scopes-Texts.{labelled_texts, own_members}
+use Rattle.wit_interfaces.proofs.Passed.wit_resolved_scopes-Placing.{resolved_scopes_are_in, scope_grown}
 use Rattle.wit_interfaces.specs.Adding.{MembersBreak, MayBring}
 use Rattle.wit_interfaces.specs.Labelled.{TextsBreak, MayAddTexts, AddsTexts}
 use Rattle.wit_interfaces.proofs.Growing.{extends_for, grows_for_through}

@@ -3,12 +3,12 @@ use Rattle.std.proofs.Common.{List, inl, inr, sym, subst}
 use Rattle.wit_scopes.specs.Members.{MemberTree}
 use Rattle.wit_scopes.specs.Scopes as scope
 use Rattle.wit_scopes.specs.Scopes.{ExternKind, ListedTree, WorldMemberTree, WorldScope, ItemScope}
-use Rattle.wit_orders.specs.Needs.{types_of}
-use Rattle.wit_arena.specs.Tree.{in_world}
-use Rattle.wit_arena.specs.Meaning.{Has, Declares, world_declares, listed_declares}
-use Rattle.wit_arena.specs.Standing.{IsOfType}
-use Rattle.wit_resolved_scopes.specs.Texts.{InterfaceText, labelled_texts, own_members}
-use Rattle.wit_resolved_scopes.proofs.Declaring.{type_among}
+use Rattle.wit_interfaces.specs.Passed.wit_orders-Needs.{types_of}
+use Rattle.wit_interfaces.specs.Passed.wit_arena-Tree.{in_world}
+use Rattle.wit_interfaces.specs.Passed.wit_arena-Meaning.{Has, Declares, world_declares, listed_declares}
+use Rattle.wit_interfaces.specs.Passed.wit_arena-Standing.{IsOfType}
+use Rattle.wit_interfaces.specs.Passed.wit_resolved_scopes-Texts.{InterfaceText, labelled_texts, own_members}
+use Rattle.wit_interfaces.proofs.Passed.wit_resolved_scopes-Declaring.{type_among}
 use Rattle.wit_readiness.proofs.Labelled.{labelled_given}
 use Rattle.wit_readiness.proofs.Worlds.{own_cases}
 

@@ -10,13 +10,13 @@ use Rattle.wit_scopes.specs.declared.worlds.Side.TheVariants.{Import, Export}
 use Rattle.wit_scopes.specs.Members.{MemberTree}
 use Rattle.wit_scopes.specs.Scopes as scope
 use Rattle.wit_scopes.specs.Scopes.{ExternKind, ListedTree, WorldMemberTree, WorldScope}
-use Rattle.wit_arena.specs.Tree.{Name, in_world}
-use Rattle.wit_arena.specs.Table.{Entries}
-use Rattle.wit_arena.proofs.Lists.{get_more}
-use Rattle.wit_resolved_scopes.specs.InArena.{Context, IsTypeIn, GrowsFor}
-use Rattle.wit_resolved_scopes.specs.Texts.{side_members}
-use Rattle.wit_resolved_scopes.proofs.Eaches.{each_to}
-use Rattle.wit_resolved_scopes.proofs.Placing.{get_extended, type_grown, function_in_grown}
+use Rattle.wit_interfaces.specs.Passed.wit_arena-Tree.{Name, in_world}
+use Rattle.wit_interfaces.specs.Passed.wit_arena-Table.{Entries}
+use Rattle.wit_interfaces.proofs.Passed.wit_arena-Lists.{get_more}
+use Rattle.wit_interfaces.specs.Passed.wit_resolved_scopes-InArena.{Context, IsTypeIn, GrowsFor}
+use Rattle.wit_interfaces.specs.Passed.wit_resolved_scopes-Texts.{side_members}
+use Rattle.wit_interfaces.proofs.Passed.wit_resolved_scopes-Eaches.{each_to}
+use Rattle.wit_interfaces.proofs.Passed.wit_resolved_scopes-Placing.{get_extended, type_grown, function_in_grown}
 use Rattle.wit_interfaces.proofs.Growing.{extends_for}
 use Rattle.wit_worlds.specs.Worlds.{Entry, IsTypeEntry, IsFunctionEntry, IsExternEntry, IsEntryOf, AreLists, IsWorldIn, AreWorldsIn}
 

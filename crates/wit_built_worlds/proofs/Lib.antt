@@ -7,3 +7,4 @@ pub mod Listing
 pub mod Adding
 pub mod SoFar
 pub mod Viewing
+pub mod Passed

@@ -10,15 +10,15 @@ use Rattle.wit_types.specs.declared.world.World.{World}
 use Rattle.wit_types.specs.declared.world.WorldItem.{WorldItem}
 use Rattle.wit_scopes.specs.Members.{MemberTree}
 use Rattle.wit_scopes.specs.Scopes.{WorldScope}
-use Rattle.wit_arena.specs.Tree.{Name}
-use Rattle.wit_arena.specs.Table.{Entries}
-use Rattle.wit_arena.specs.Meaning.{Has}
-use Rattle.wit_arena.proofs.Lists.{get_last, has_left}
-use Rattle.wit_package_types.specs.Known.{KnownTypes}
-use Rattle.wit_resolved_scopes.specs.Scope.{ResolvesScope}
-use Rattle.wit_resolved_scopes.specs.Listed.{IsListedIn}
-use Rattle.wit_resolved_scopes.proofs.Eaches.{each_left}
-use Rattle.wit_resolved_scopes.proofs.Listing.{new_through, resolved_listed}
+use Rattle.wit_interfaces.specs.Passed.wit_arena-Tree.{Name}
+use Rattle.wit_interfaces.specs.Passed.wit_arena-Table.{Entries}
+use Rattle.wit_interfaces.specs.Passed.wit_arena-Meaning.{Has}
+use Rattle.wit_interfaces.proofs.Passed.wit_arena-Lists.{get_last, has_left}
+use Rattle.wit_interfaces.specs.Passed.wit_package_types-Known.{KnownTypes}
+use Rattle.wit_interfaces.specs.Passed.wit_resolved_scopes-Scope.{ResolvesScope}
+use Rattle.wit_interfaces.specs.Passed.wit_resolved_scopes-Listed.{IsListedIn}
+use Rattle.wit_interfaces.proofs.Passed.wit_resolved_scopes-Eaches.{each_left}
+use Rattle.wit_interfaces.proofs.Passed.wit_resolved_scopes-Listing.{new_through, resolved_listed}
 use Rattle.wit_interfaces.specs.Listed.{ImportsType, IsListed, NewTypesAreListed}
 use Rattle.wit_interfaces.proofs.Listing.{listed_still, listed_at}
 use Rattle.wit_worlds.specs.Paths.{PathsTree}

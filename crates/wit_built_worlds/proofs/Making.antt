@@ -6,21 +6,21 @@ use Rattle.wit_types.specs.declared.interface.TypeOwner.{TypeOwner}
 use Rattle.wit_types.specs.declared.interface.TypeOwner.TheVariants as belongs
 use Rattle.wit_scopes.specs.Members.{MemberTree}
 use Rattle.wit_scopes.specs.Scopes.{WorldScope}
-use Rattle.wit_orders.specs.Needs.{types_of}
-use Rattle.wit_arena.specs.Tree.{Name}
-use Rattle.wit_arena.specs.Table.{Entries}
-use Rattle.wit_arena.specs.Meaning.{Has}
-use Rattle.wit_arena.proofs.Lists.{has_none, has_map, map_has, get_more}
-use Rattle.wit_arena.proofs.Extending.{Extends}
-use Rattle.wit_package_types.specs.Known.{KnownTypes}
-use Rattle.wit_package_types.specs.Fill.{names_of, member_names, Fills, fills_none, fills_more}
-use Rattle.wit_package_types.proofs.Filling.{names_filled, defined_extends}
-use Rattle.wit_resolved_scopes.specs.Scope.{ResolvesScope}
-use Rattle.wit_resolved_scopes.specs.Texts.{labelled_texts, own_members, plain}
-use Rattle.wit_resolved_scopes.proofs.Following.{functions_extend}
-use Rattle.wit_resolved_scopes.proofs.Orders.{sorted_has}
-use Rattle.wit_resolved_scopes.proofs.Placing.{functions_put}
-use Rattle.wit_resolved_scopes.proofs.Readying.{table_apart}
+use Rattle.wit_interfaces.specs.Passed.wit_orders-Needs.{types_of}
+use Rattle.wit_interfaces.specs.Passed.wit_arena-Tree.{Name}
+use Rattle.wit_interfaces.specs.Passed.wit_arena-Table.{Entries}
+use Rattle.wit_interfaces.specs.Passed.wit_arena-Meaning.{Has}
+use Rattle.wit_interfaces.proofs.Passed.wit_arena-Lists.{has_none, has_map, map_has, get_more}
+use Rattle.wit_interfaces.proofs.Passed.wit_arena-Extending.{Extends}
+use Rattle.wit_interfaces.specs.Passed.wit_package_types-Known.{KnownTypes}
+use Rattle.wit_interfaces.specs.Passed.wit_package_types-Fill.{names_of, member_names, Fills, fills_none, fills_more}
+use Rattle.wit_interfaces.proofs.Passed.wit_package_types-Filling.{names_filled, defined_extends}
+use Rattle.wit_interfaces.specs.Passed.wit_resolved_scopes-Scope.{ResolvesScope}
+use Rattle.wit_interfaces.specs.Passed.wit_resolved_scopes-Texts.{labelled_texts, own_members, plain}
+use Rattle.wit_interfaces.proofs.Passed.wit_resolved_scopes-Following.{functions_extend}
+use Rattle.wit_interfaces.proofs.Passed.wit_resolved_scopes-Orders.{sorted_has}
+use Rattle.wit_interfaces.proofs.Passed.wit_resolved_scopes-Placing.{functions_put}
+use Rattle.wit_interfaces.proofs.Passed.wit_resolved_scopes-Readying.{table_apart}
 use Rattle.wit_worlds.specs.Making.{MayMake}
 use Rattle.wit_worlds.specs.Paths.{PathsTree}
 use Rattle.wit_built_worlds.specs.Adding.{AreNumbered, IsWorldReadyIn}

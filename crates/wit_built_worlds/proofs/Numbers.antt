@@ -1,8 +1,8 @@
 -- The ids of what is asked of other packages.
 use Rattle.std.proofs.Common.{List, take, subst}
-use Rattle.wit_arena.specs.Tree.{Place}
-use Rattle.wit_foreign.specs.Needs.{NeedTree}
-use Rattle.wit_foreign.specs.Items.{Items, interfaces_in, worlds_in, IsNumbered, AreItemsOf}
+use Rattle.wit_interfaces.specs.Passed.wit_arena-Tree.{Place}
+use Rattle.wit_readiness.specs.Passed.wit_foreign-Needs.{NeedTree}
+use Rattle.wit_readiness.specs.Passed.wit_foreign-Items.{Items, interfaces_in, worlds_in, IsNumbered, AreItemsOf}
 use Rattle.wit_worlds.specs.Paths.{AreSorts}
 
 module _ (needs : List NeedTree) (items : Items) (are : AreItemsOf needs items) where

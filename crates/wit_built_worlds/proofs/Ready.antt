@@ -4,20 +4,20 @@ use Rattle.std.specs.Prelude.{slice_get}
 use Rattle.wit_scopes.specs.Paths.{TargetTree, own, foreign}
 use Rattle.wit_scopes.specs.Scopes as scope
 use Rattle.wit_scopes.specs.Scopes.{ListedTree, IncludedTree, WorldMemberTree, WorldScope}
-use Rattle.wit_arena.specs.Tree.{Name, in_interface, in_world}
-use Rattle.wit_arena.specs.Meaning.{Has, package_text}
-use Rattle.wit_arena.proofs.Lists.{has_here}
-use Rattle.wit_package_types.specs.Known.{KnownTypes}
-use Rattle.wit_foreign.specs.Needs.{NeedTree}
-use Rattle.wit_foreign.specs.Items.{Items, AreItemsOf}
-use Rattle.wit_resolved_scopes.specs.Texts.{own_members, included_in}
-use Rattle.wit_resolved_scopes.specs.Fit.{IsInterfaceAmong, IsWorldAmong, IsWorldReady}
-use Rattle.wit_resolved_scopes.proofs.Fitting.{fit_ready}
+use Rattle.wit_interfaces.specs.Passed.wit_arena-Tree.{Name, in_interface, in_world}
+use Rattle.wit_interfaces.specs.Passed.wit_arena-Meaning.{Has, package_text}
+use Rattle.wit_interfaces.proofs.Passed.wit_arena-Lists.{has_here}
+use Rattle.wit_interfaces.specs.Passed.wit_package_types-Known.{KnownTypes}
+use Rattle.wit_readiness.specs.Passed.wit_foreign-Needs.{NeedTree}
+use Rattle.wit_readiness.specs.Passed.wit_foreign-Items.{Items, AreItemsOf}
+use Rattle.wit_interfaces.specs.Passed.wit_resolved_scopes-Texts.{own_members, included_in}
+use Rattle.wit_interfaces.specs.Passed.wit_resolved_scopes-Fit.{IsInterfaceAmong, IsWorldAmong, IsWorldReady}
+use Rattle.wit_interfaces.proofs.Passed.wit_resolved_scopes-Fitting.{fit_ready}
 use Rattle.wit_readiness.proofs.Flat.{flat_has}
 use Rattle.wit_worlds.specs.Paths.{IsInterfaceThere, IsWorldThere}
 use Rattle.wit_worlds.specs.Listing.{IsThere}
 use Rattle.wit_built_worlds.specs.Adding.{paths_of, AreNumbered, IsWorldReadyIn, AreReadyBehind}
-use Rattle.wit_foreign.proofs.Numbers.{interface_below, interface_alone}
+use Rattle.wit_readiness.proofs.Passed.wit_foreign-Numbers.{interface_below, interface_alone}
 use Rattle.wit_built_worlds.proofs.Numbers.{items_are_sorts}
 
 module _ (k : KnownTypes) (items : Items) (ws : List WorldScope) (behind : AreReadyBehind k items ws) (n : ℕ) (w : WorldScope) (there : slice_get ws n ≡ Some w) (names : List Name) (names_are : names ≡ map (λ v. v.name.text) (take n ws)) where

@@ -13,13 +13,13 @@ use Rattle.wit_scopes.proofs.Lists.{flat_map-push}
 use Rattle.wit_rules.specs.Breaks.{IsKept}
 use Rattle.wit_rules.proofs.Breaking.{AreKept, kept_more}
 use Rattle.wit_rules.proofs.Places.{taken}
-use Rattle.wit_arena.specs.Tree.{Name, in_world}
-use Rattle.wit_package_types.specs.Known.{KnownTypes}
-use Rattle.wit_foreign.specs.Items.{Items, worlds_in}
-use Rattle.wit_resolved_scopes.specs.InArena.{Context, own_owner, IsBuilt, IsIdOf}
-use Rattle.wit_resolved_scopes.specs.Texts.{InterfaceText, labelled_texts}
-use Rattle.wit_resolved_scopes.proofs.Listing.{none_new}
-use Rattle.wit_resolved_scopes.proofs.Orders.{at_taken}
+use Rattle.wit_interfaces.specs.Passed.wit_arena-Tree.{Name, in_world}
+use Rattle.wit_interfaces.specs.Passed.wit_package_types-Known.{KnownTypes}
+use Rattle.wit_readiness.specs.Passed.wit_foreign-Items.{Items, worlds_in}
+use Rattle.wit_interfaces.specs.Passed.wit_resolved_scopes-InArena.{Context, own_owner, IsBuilt, IsIdOf}
+use Rattle.wit_interfaces.specs.Passed.wit_resolved_scopes-Texts.{InterfaceText, labelled_texts}
+use Rattle.wit_interfaces.proofs.Passed.wit_resolved_scopes-Listing.{none_new}
+use Rattle.wit_interfaces.proofs.Passed.wit_resolved_scopes-Orders.{at_taken}
 use Rattle.wit_interfaces.specs.Interfaces.{AreInterfacesIn}
 use Rattle.wit_interfaces.proofs.Behind.{get_middle, given_around}
 use Rattle.wit_interfaces.proofs.Growing.{grows_for_self, grows_for_through, interfaces_grown, no_interfaces}

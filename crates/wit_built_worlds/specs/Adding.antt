@@ -13,18 +13,18 @@ use Rattle.wit_scopes.specs.Scopes as scope
 use Rattle.wit_scopes.specs.Scopes.{WorldMemberTree, InterfaceScope, WorldScope}
 use Rattle.wit_rules.specs.declared.fault.PackageRule.{PackageRule}
 use Rattle.wit_rules.specs.Breaks.{Breaks, AnyBreaks}
-use Rattle.wit_orders.specs.Needs.{types_of}
-use Rattle.wit_arena.specs.Tree.{Name, in_interface, in_world, Owner}
-use Rattle.wit_arena.specs.Meaning.{Has}
-use Rattle.wit_arena.specs.Unfold.{Owners}
-use Rattle.wit_package_types.specs.Known.{KnownTypes}
-use Rattle.wit_package_types.specs.Stability.{AreGates}
-use Rattle.wit_foreign.specs.Items.{Items, interfaces_in, worlds_in}
-use Rattle.wit_resolved_scopes.specs.Each.{AreApartBy}
-use Rattle.wit_resolved_scopes.specs.Scope.{AreReady}
-use Rattle.wit_resolved_scopes.specs.InArena.{Context, own_owner, GrowsFor, IsBuilt, IsIdOf}
-use Rattle.wit_resolved_scopes.specs.Texts.{InterfaceText, labelled_texts, own_members, side_members, plain, key_text}
-use Rattle.wit_resolved_scopes.specs.Fit.{Foreign, KnowsInterfaces, AreWorldsReady}
+use Rattle.wit_interfaces.specs.Passed.wit_orders-Needs.{types_of}
+use Rattle.wit_interfaces.specs.Passed.wit_arena-Tree.{Name, in_interface, in_world, Owner}
+use Rattle.wit_interfaces.specs.Passed.wit_arena-Meaning.{Has}
+use Rattle.wit_interfaces.specs.Passed.wit_arena-Unfold.{Owners}
+use Rattle.wit_interfaces.specs.Passed.wit_package_types-Known.{KnownTypes}
+use Rattle.wit_interfaces.specs.Passed.wit_package_types-Stability.{AreGates}
+use Rattle.wit_readiness.specs.Passed.wit_foreign-Items.{Items, interfaces_in, worlds_in}
+use Rattle.wit_interfaces.specs.Passed.wit_resolved_scopes-Each.{AreApartBy}
+use Rattle.wit_interfaces.specs.Passed.wit_resolved_scopes-Scope.{AreReady}
+use Rattle.wit_interfaces.specs.Passed.wit_resolved_scopes-InArena.{Context, own_owner, GrowsFor, IsBuilt, IsIdOf}
+use Rattle.wit_interfaces.specs.Passed.wit_resolved_scopes-Texts.{InterfaceText, labelled_texts, own_members, side_members, plain, key_text}
+use Rattle.wit_interfaces.specs.Passed.wit_resolved_scopes-Fit.{Foreign, KnowsInterfaces, AreWorldsReady}
 use Rattle.wit_interfaces.specs.Interfaces.{AreInterfacesIn}
 use Rattle.wit_interfaces.specs.Listed.{NewTypesAreListed}
 use Rattle.wit_interfaces.specs.Adding.{MembersBreak, IsReadyIn}

@@ -1,3 +1,4 @@
 pub mod Adding
 pub mod Places
 pub use Rattle.wit_worlds.specs.Worlds
+pub mod Passed

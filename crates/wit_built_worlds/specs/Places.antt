@@ -2,7 +2,7 @@
 use Rattle.std.specs.Prelude.{◌≡◌, ℕ, List, [], map, flat_map, Option, Some, None, slice_get}
 use Rattle.wit_scopes.specs.Scopes as scope
 use Rattle.wit_scopes.specs.Scopes.{WorldScope, ItemScope}
-use Rattle.wit_resolved_scopes.specs.Texts.{world_of}
+use Rattle.wit_interfaces.specs.Passed.wit_resolved_scopes-Texts.{world_of}
 
 abbrev pub world_where : Option ItemScope → List WorldScope
 world_where None = []

@@ -4,3 +4,4 @@
 mod building;
 
 pub use building::{BuiltWorlds, add_worlds};
+pub use wit_interfaces::{Building, Natures, add_interfaces, item_order};

@@ -12,3 +12,4 @@ mod worlds;
 
 pub use asks::{Ask, foreign_asks};
 pub use files::check_lookups;
+pub use wit_lookups::Asked;

@@ -7,7 +7,7 @@ use Rattle.std.proofs.lemmas.List.{length-map, length-append}
 use Rattle.std.proofs.lemmas.List.Elements.{All-nil, All-cons}
 use Rattle.distinct_names.specs.Names.{is_new, all_new}
 use Rattle.binary_grammar.specs.Several.{grown}
-use Rattle.component_entries.specs.Entries.{DefinedValue, nothing}
+use Rattle.component_sections.specs.Passed.component_entries-Entries.{DefinedValue, nothing}
 use Rattle.component_sections.specs.Component.{with_definition, Follow}
 use Rattle.known_definitions.specs.Definition.{DefinitionValue, ArgumentValue, InlineExportValue, core_module_of, instantiation_of, inline_of, alias_of, type_of, lift_of, lower_of, import_of, export_of}
 use Rattle.known_definitions.specs.Known.{definition_of}

@@ -21,3 +21,4 @@ pub mod WrittenComponent
 pub mod Follows
 pub mod Numbering
 pub mod NoCause
+pub mod Passed

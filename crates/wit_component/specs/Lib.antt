@@ -14,3 +14,4 @@ pub mod Meaning
 pub mod Right
 pub mod Candidates
 pub mod Written
+pub mod Passed

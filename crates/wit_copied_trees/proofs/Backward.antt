@@ -3,7 +3,7 @@ use Rattle.std.proofs.Common.{◌≡◌, ℕ, ◌<◌, ◌+◌, List, [], ◌∷
 use Rattle.std.proofs.lemmas.List.{append-nil}
 use Rattle.std.proofs.lemmas.Option.{slice_get_within}
 use Rattle.std.specs.Prelude.{slice_get}
-use Rattle.wit_types.specs.declared.interface.TypeDef.{TypeDef}
+use Rattle.wit_arena.specs.Passed.wit_types-declared-interface-TypeDef.{TypeDef}
 use Rattle.wit_arena.specs.Tree.{Name, Owner, Tree}
 use Rattle.wit_arena.specs.Unfold.{Owners, flat, def_tree, trees_from, trees}
 use Rattle.wit_arena.proofs.Lists.{get_kept, get_last, get_split}

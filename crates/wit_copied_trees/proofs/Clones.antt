@@ -2,14 +2,14 @@
 use Rattle.std.proofs.Common.{◌≡◌, ℕ, List, [], ◌∷◌, Option, Some, refl, ap, map}
 use Rattle.std.specs.List.{AllZip}
 use Rattle.std.specs.Prelude.{string_bytes}
-use Rattle.wit_types.specs.declared.kind.«Type».{«Type» as Ref}
-use Rattle.wit_types.specs.declared.kind.Field.{Field}
-use Rattle.wit_types.specs.declared.kind.Case.{Case}
-use Rattle.wit_types.specs.declared.kind.Flag.{Flag}
-use Rattle.wit_types.specs.declared.kind.EnumCase.{EnumCase}
-use Rattle.wit_types.specs.declared.function.Param.{Param}
-use Rattle.wit_copies.specs.Same.{IsSameField, IsSameCase, IsSameFlag, IsSameEnumCase, IsSameParam}
-use Rattle.wit_moves.specs.Moved.{moved_ref, moved_part, moved_field, moved_case, moved_param}
+use Rattle.wit_arena.specs.Passed.wit_types-declared-kind-Type.{«Type» as Ref}
+use Rattle.wit_arena.specs.Passed.wit_types-declared-kind-Field.{Field}
+use Rattle.wit_arena.specs.Passed.wit_types-declared-kind-Case.{Case}
+use Rattle.wit_arena.specs.Passed.wit_types-declared-kind-Flag.{Flag}
+use Rattle.wit_arena.specs.Passed.wit_types-declared-kind-EnumCase.{EnumCase}
+use Rattle.wit_arena.specs.Passed.wit_types-declared-function-Param.{Param}
+use Rattle.wit_includes.specs.Passed.wit_copies-Same.{IsSameField, IsSameCase, IsSameFlag, IsSameEnumCase, IsSameParam}
+use Rattle.wit_includes.specs.Passed.wit_moves-Moved.{moved_ref, moved_part, moved_field, moved_case, moved_param}
 
 -- lists whose members are each as the other's, by what is read of them
 zip_read : {X Y Z : Type 0} (R : X → Y → Type 0) (a : X → Z) (b : Y → Z) → ((x : X) (y : Y) → R x y → b y ≡ a x) → (xs : List X) (ys : List Y) → AllZip R xs ys → map b ys ≡ map a xs

@@ -3,20 +3,20 @@ use Rattle.std.proofs.Common.{◌≡◌, ℕ, ◌<◌, ◌+◌, Bool, true, fals
 use Rattle.std.proofs.lemmas.List.{append-nil}
 use Rattle.std.proofs.lemmas.Option.{same_Some, slice_get_within}
 use Rattle.std.specs.Prelude.{slice_get}
-use Rattle.wit_types.specs.declared.kind.«Type».TheVariants as ref
-use Rattle.wit_types.specs.declared.interface.TypeDef.{TypeDef}
-use Rattle.wit_types.specs.declared.world.IncludeName.{IncludeName}
-use Rattle.wit_types.specs.declared.world.World.{World}
-use Rattle.wit_order.specs.Order.{Has}
-use Rattle.wit_reach.specs.Paths.{AreRising}
-use Rattle.wit_reach.specs.Ids.{kind_ids}
-use Rattle.wit_reach.proofs.Ends.{reaches_more}
-use Rattle.wit_reach.proofs.Lists.{has_append}
-use Rattle.wit_reach.proofs.Local.{stays_local}
-use Rattle.wit_reach.specs.Types.{IsLocalAt, IsMadeOf, UsesLocal, is_local}
-use Rattle.wit_copies.specs.Same.{text_of}
-use Rattle.wit_copies.specs.Copies as copies
-use Rattle.wit_copies.specs.Copies.{Copies, goes, IsCopiedDef, AreCopied}
+use Rattle.wit_arena.specs.Passed.wit_types-declared-kind-Type-TheVariants as ref
+use Rattle.wit_arena.specs.Passed.wit_types-declared-interface-TypeDef.{TypeDef}
+use Rattle.wit_arena.specs.Passed.wit_types-declared-world-IncludeName.{IncludeName}
+use Rattle.wit_arena.specs.Passed.wit_types-declared-world-World.{World}
+use Rattle.wit_arena.specs.Passed.wit_order-Order.{Has}
+use Rattle.wit_includes.specs.Passed.wit_reach-Paths.{AreRising}
+use Rattle.wit_includes.specs.Passed.wit_reach-Ids.{kind_ids}
+use Rattle.wit_includes.proofs.Passed.wit_reach-Ends.{reaches_more}
+use Rattle.wit_includes.proofs.Passed.wit_reach-Lists.{has_append}
+use Rattle.wit_includes.proofs.Passed.wit_reach-Local.{stays_local}
+use Rattle.wit_includes.specs.Passed.wit_reach-Types.{IsLocalAt, IsMadeOf, UsesLocal, is_local}
+use Rattle.wit_includes.specs.Passed.wit_copies-Same.{text_of}
+use Rattle.wit_includes.specs.Passed.wit_copies-Copies as copies
+use Rattle.wit_includes.specs.Passed.wit_copies-Copies.{Copies, goes, IsCopiedDef, AreCopied}
 use Rattle.wit_includes.specs.Included as brings
 use Rattle.wit_includes.specs.Included.{copies_behind, IsRenamedDef, AreRenamedDefs}
 use Rattle.wit_arena.specs.Tree.{Name, Owner, Tree}

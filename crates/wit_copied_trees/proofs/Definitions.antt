@@ -3,25 +3,25 @@ use Rattle.std.proofs.Common.{◌≡◌, ℕ, List, Option, Some, sym, subst, ap
 use Rattle.std.proofs.lemmas.List.Folds.{flat_map-map}
 use Rattle.std.proofs.lemmas.Option.{same_Some}
 use Rattle.std.specs.Prelude.{slice_get, option_map, flat_map, string_bytes}
-use Rattle.wit_types.specs.declared.kind.«Type».{«Type» as Ref}
-use Rattle.wit_types.specs.declared.kind.Field.{Field}
-use Rattle.wit_types.specs.declared.kind.Case.{Case}
-use Rattle.wit_types.specs.declared.kind.Flag.{Flag}
-use Rattle.wit_types.specs.declared.kind.EnumCase.{EnumCase}
-use Rattle.wit_types.specs.declared.kind.TypeDefKind.{TypeDefKind}
-use Rattle.wit_types.specs.declared.world.IncludeName.{IncludeName}
-use Rattle.wit_order.specs.Order.{Has}
-use Rattle.wit_reach.specs.Ids.{part_ids, kind_ids}
-use Rattle.wit_moves.specs.Moved as moved
-use Rattle.wit_moves.specs.Moved.{moved_ref, moved_part, moved_field, moved_case, moved_handle, IsMovedKind}
-use Rattle.wit_copies.specs.Same as copy
-use Rattle.wit_copies.specs.Same.{IsSameKind}
+use Rattle.wit_arena.specs.Passed.wit_types-declared-kind-Type.{«Type» as Ref}
+use Rattle.wit_arena.specs.Passed.wit_types-declared-kind-Field.{Field}
+use Rattle.wit_arena.specs.Passed.wit_types-declared-kind-Case.{Case}
+use Rattle.wit_arena.specs.Passed.wit_types-declared-kind-Flag.{Flag}
+use Rattle.wit_arena.specs.Passed.wit_types-declared-kind-EnumCase.{EnumCase}
+use Rattle.wit_arena.specs.Passed.wit_types-declared-kind-TypeDefKind.{TypeDefKind}
+use Rattle.wit_arena.specs.Passed.wit_types-declared-world-IncludeName.{IncludeName}
+use Rattle.wit_arena.specs.Passed.wit_order-Order.{Has}
+use Rattle.wit_includes.specs.Passed.wit_reach-Ids.{part_ids, kind_ids}
+use Rattle.wit_includes.specs.Passed.wit_moves-Moved as moved
+use Rattle.wit_includes.specs.Passed.wit_moves-Moved.{moved_ref, moved_part, moved_field, moved_case, moved_handle, IsMovedKind}
+use Rattle.wit_includes.specs.Passed.wit_copies-Same as copy
+use Rattle.wit_includes.specs.Passed.wit_copies-Same.{IsSameKind}
 use Rattle.wit_arena.specs.Tree.{Name, Owner, Tree, TreeOption, Trees, list_tree, fixed_length_list_tree, option_tree, tuple_tree, result_tree, future_tree, stream_tree, record_tree, flags_tree, enum_tree, variant_tree}
 use Rattle.wit_arena.specs.Unfold.{flat, value_tree, part_tree, part_trees, kind_tree}
 use Rattle.wit_copied_trees.specs.Renamed as renamed
 use Rattle.wit_copied_trees.specs.Renamed.{IsRenamedTree, IsRenamedPart, AreRenamedTrees}
-use Rattle.wit_order.proofs.Lists.{has_was}
-use Rattle.wit_reach.proofs.Lists.{has_append}
+use Rattle.wit_arena.proofs.Passed.wit_order-Lists.{has_was}
+use Rattle.wit_includes.proofs.Passed.wit_reach-Lists.{has_append}
 use Rattle.wit_copied_trees.proofs.Clones.{field_parts, field_names, case_parts, case_names, type_parts, flag_names, enum_names}
 use Rattle.wit_copied_trees.proofs.Renaming.{Gives, gives_map, gives_then, ref_follows, value_follows, part_follows, parts_follow, handle_follows}
 

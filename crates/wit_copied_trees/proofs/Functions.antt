@@ -3,19 +3,19 @@ use Rattle.std.proofs.Common.{◌≡◌, ℕ, List, [], ◌++◌, Option, Some, 
 use Rattle.std.proofs.lemmas.List.{append-nil}
 use Rattle.std.proofs.lemmas.List.Folds.{flat_map-map}
 use Rattle.std.specs.Prelude.{slice_get, flat_map, string_bytes}
-use Rattle.wit_types.specs.declared.kind.«Type».{«Type» as Ref}
-use Rattle.wit_types.specs.declared.function.Param.{Param}
-use Rattle.wit_order.specs.Order.{Has}
-use Rattle.wit_reach.specs.Ids.{ref_ids, part_ids, signature_ids}
-use Rattle.wit_moves.specs.Moved.{moved_part}
-use Rattle.wit_copies.specs.Copies.{goes}
+use Rattle.wit_arena.specs.Passed.wit_types-declared-kind-Type.{«Type» as Ref}
+use Rattle.wit_arena.specs.Passed.wit_types-declared-function-Param.{Param}
+use Rattle.wit_arena.specs.Passed.wit_order-Order.{Has}
+use Rattle.wit_includes.specs.Passed.wit_reach-Ids.{ref_ids, part_ids, signature_ids}
+use Rattle.wit_includes.specs.Passed.wit_moves-Moved.{moved_part}
+use Rattle.wit_includes.specs.Passed.wit_copies-Copies.{goes}
 use Rattle.wit_includes.specs.Included.{copies_behind}
 use Rattle.wit_arena.specs.Tree.{Tree}
 use Rattle.wit_arena.specs.Unfold.{flat, part_tree, part_trees, trees}
 use Rattle.wit_copied_trees.specs.Renamed.{IsRenamedTree, IsRenamedPart, AreRenamedTrees}
 use Rattle.wit_copied_trees.specs.Law.{IncludedFunctionsStandForTheSame}
-use Rattle.wit_order.proofs.Lists.{has_was}
-use Rattle.wit_reach.proofs.Lists.{has_append}
+use Rattle.wit_arena.proofs.Passed.wit_order-Lists.{has_was}
+use Rattle.wit_includes.proofs.Passed.wit_reach-Lists.{has_append}
 use Rattle.wit_copied_trees.proofs.Clones.{param_parts, param_names}
 use Rattle.wit_copied_trees.proofs.Renaming.{Gives, part_follows, parts_follow}
 use Rattle.wit_copied_trees.proofs.Copying.{follows_where, included_types_stand}

@@ -9,3 +9,4 @@ mod Copying
 mod Functions
 pub mod MovedIds
 mod Standing
+pub mod Passed

@@ -5,12 +5,12 @@ use Rattle.std.proofs.lemmas.List.Quantifiers.{position-Some}
 use Rattle.std.proofs.lemmas.Option.{same_Some, slice_get_within}
 use Rattle.std.specs.List.{position_or_len}
 use Rattle.std.specs.Prelude.{slice_get, position, option_map, unwrap_or, not, nat_lt}
-use Rattle.wit_types.specs.declared.interface.TypeDef.{TypeDef}
-use Rattle.wit_order.specs.Order.{Has}
-use Rattle.wit_order.proofs.Lists.{has_get}
-use Rattle.wit_reach.proofs.Lists.{has_parts}
-use Rattle.wit_reach.specs.Paths.{AreRising}
-use Rattle.wit_copies.specs.Copies.{goes}
+use Rattle.wit_arena.specs.Passed.wit_types-declared-interface-TypeDef.{TypeDef}
+use Rattle.wit_arena.specs.Passed.wit_order-Order.{Has}
+use Rattle.wit_arena.proofs.Passed.wit_order-Lists.{has_get}
+use Rattle.wit_includes.proofs.Passed.wit_reach-Lists.{has_parts}
+use Rattle.wit_includes.specs.Passed.wit_reach-Paths.{AreRising}
+use Rattle.wit_includes.specs.Passed.wit_copies-Copies.{goes}
 use Rattle.wit_includes.specs.Included.{copies_behind}
 
 pub get_has : (xs : List ℕ) (k x : ℕ) → slice_get xs k ≡ Some x → Has xs x

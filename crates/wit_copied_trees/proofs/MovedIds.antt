@@ -3,26 +3,26 @@ use Rattle.std.proofs.Common.{◌≡◌, ℕ, List, [], ◌∷◌, ◌++◌, inl
 use Rattle.std.proofs.lemmas.List.{map-append}
 use Rattle.std.proofs.lemmas.List.Folds.{flat_map-map}
 use Rattle.std.specs.Prelude.{flat_map}
-use Rattle.wit_types.specs.declared.kind.«Type».{«Type» as Ref}
-use Rattle.wit_types.specs.declared.kind.«Type».TheVariants as ref
-use Rattle.wit_types.specs.declared.kind.Handle.{Handle}
-use Rattle.wit_types.specs.declared.kind.Handle.TheVariants as handle
-use Rattle.wit_types.specs.declared.kind.Field.{Field}
-use Rattle.wit_types.specs.declared.kind.Case.{Case}
-use Rattle.wit_types.specs.declared.kind.TypeDefKind.{TypeDefKind}
-use Rattle.wit_types.specs.declared.function.Param.{Param}
-use Rattle.wit_types.specs.declared.function.Function.{Function}
-use Rattle.wit_types.specs.declared.function.FunctionKind.{FunctionKind}
-use Rattle.wit_types.specs.declared.function.FunctionKind.TheVariants as of
-use Rattle.wit_types.specs.declared.world.WorldItem.{WorldItem}
-use Rattle.wit_order.specs.Order.{Has}
-use Rattle.wit_reach.specs.Ids.{ref_ids, part_ids, handle_ids, kind_ids, resource_ids, signature_ids, function_ids, item_ids}
-use Rattle.wit_moves.specs.Moved as moved
-use Rattle.wit_moves.specs.Moved.{moved_ref, moved_part, moved_field, moved_case, moved_param, moved_handle, moved_function_kind, IsMovedKind, IsMovedFunction}
-use Rattle.wit_moves.specs.Worlds as worlds
-use Rattle.wit_moves.specs.Worlds.{IsMovedItem}
-use Rattle.wit_copies.specs.Same as copy
-use Rattle.wit_copies.specs.Same.{IsSameKind, IsSameFunction, IsSameItem}
+use Rattle.wit_arena.specs.Passed.wit_types-declared-kind-Type.{«Type» as Ref}
+use Rattle.wit_arena.specs.Passed.wit_types-declared-kind-Type-TheVariants as ref
+use Rattle.wit_arena.specs.Passed.wit_types-declared-kind-Handle.{Handle}
+use Rattle.wit_arena.specs.Passed.wit_types-declared-kind-Handle-TheVariants as handle
+use Rattle.wit_arena.specs.Passed.wit_types-declared-kind-Field.{Field}
+use Rattle.wit_arena.specs.Passed.wit_types-declared-kind-Case.{Case}
+use Rattle.wit_arena.specs.Passed.wit_types-declared-kind-TypeDefKind.{TypeDefKind}
+use Rattle.wit_arena.specs.Passed.wit_types-declared-function-Param.{Param}
+use Rattle.wit_arena.specs.Passed.wit_types-declared-function-Function.{Function}
+use Rattle.wit_arena.specs.Passed.wit_types-declared-function-FunctionKind.{FunctionKind}
+use Rattle.wit_arena.specs.Passed.wit_types-declared-function-FunctionKind-TheVariants as of
+use Rattle.wit_arena.specs.Passed.wit_types-declared-world-WorldItem.{WorldItem}
+use Rattle.wit_arena.specs.Passed.wit_order-Order.{Has}
+use Rattle.wit_includes.specs.Passed.wit_reach-Ids.{ref_ids, part_ids, handle_ids, kind_ids, resource_ids, signature_ids, function_ids, item_ids}
+use Rattle.wit_includes.specs.Passed.wit_moves-Moved as moved
+use Rattle.wit_includes.specs.Passed.wit_moves-Moved.{moved_ref, moved_part, moved_field, moved_case, moved_param, moved_handle, moved_function_kind, IsMovedKind, IsMovedFunction}
+use Rattle.wit_includes.specs.Passed.wit_moves-Worlds as worlds
+use Rattle.wit_includes.specs.Passed.wit_moves-Worlds.{IsMovedItem}
+use Rattle.wit_includes.specs.Passed.wit_copies-Same as copy
+use Rattle.wit_includes.specs.Passed.wit_copies-Same.{IsSameKind, IsSameFunction, IsSameItem}
 use Rattle.wit_copied_trees.proofs.Clones.{field_parts, case_parts, param_parts, type_parts}
 
 pub has_moved : (f : ℕ → ℕ) (xs : List ℕ) (j : ℕ) → Has (map f xs) j → (i : ℕ) × Has xs i × (j ≡ f i)

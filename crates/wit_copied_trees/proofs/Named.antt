@@ -4,22 +4,22 @@ use Rattle.std.proofs.lemmas.Bool.{eqb-true, eq-eqb}
 use Rattle.std.proofs.lemmas.Option.{same_Some}
 use Rattle.std.specs.Prelude.{slice_get, option_map, String, string_bytes, if◌then◌else◌}
 use Rattle.std.specs.declared.alloc.Global.{Global}
-use Rattle.wit_types.specs.declared.kind.TypeDefKind.{TypeDefKind}
-use Rattle.wit_types.specs.declared.kind.TypeDefKind.TheVariants as kind
-use Rattle.wit_types.specs.declared.interface.TypeDef.{TypeDef}
-use Rattle.wit_types.specs.declared.interface.TypeOwner.{TypeOwner}
-use Rattle.wit_types.specs.declared.interface.TypeOwner.TheVariants as belongs
-use Rattle.wit_types.specs.declared.world.IncludeName.{IncludeName}
-use Rattle.wit_order.specs.Order.{Has}
-use Rattle.wit_reach.specs.Ids.{kind_ids}
-use Rattle.wit_reach.specs.Types.{is_local}
-use Rattle.wit_moves.specs.Moved as moved
-use Rattle.wit_moves.specs.Moved.{IsMovedKind}
-use Rattle.wit_copies.specs.Same as copy
-use Rattle.wit_copies.specs.Same.{text_of, IsSameKind}
-use Rattle.wit_copies.specs.Copies.{copied_owner}
+use Rattle.wit_arena.specs.Passed.wit_types-declared-kind-TypeDefKind.{TypeDefKind}
+use Rattle.wit_arena.specs.Passed.wit_types-declared-kind-TypeDefKind-TheVariants as kind
+use Rattle.wit_arena.specs.Passed.wit_types-declared-interface-TypeDef.{TypeDef}
+use Rattle.wit_arena.specs.Passed.wit_types-declared-interface-TypeOwner.{TypeOwner}
+use Rattle.wit_arena.specs.Passed.wit_types-declared-interface-TypeOwner-TheVariants as belongs
+use Rattle.wit_arena.specs.Passed.wit_types-declared-world-IncludeName.{IncludeName}
+use Rattle.wit_arena.specs.Passed.wit_order-Order.{Has}
+use Rattle.wit_includes.specs.Passed.wit_reach-Ids.{kind_ids}
+use Rattle.wit_includes.specs.Passed.wit_reach-Types.{is_local}
+use Rattle.wit_includes.specs.Passed.wit_moves-Moved as moved
+use Rattle.wit_includes.specs.Passed.wit_moves-Moved.{IsMovedKind}
+use Rattle.wit_includes.specs.Passed.wit_copies-Same as copy
+use Rattle.wit_includes.specs.Passed.wit_copies-Same.{text_of, IsSameKind}
+use Rattle.wit_includes.specs.Passed.wit_copies-Copies.{copied_owner}
 use Rattle.wit_includes.specs.Included.{is_of_world, IsRenamedName, IsRenamedDef}
-use Rattle.wit_sides.specs.Renames.{IsRenamed}
+use Rattle.wit_includes.specs.Passed.wit_sides-Renames.{IsRenamed}
 use Rattle.wit_arena.specs.Tree.{Name, Owner, Tree, resource_leaf, named_tree}
 use Rattle.wit_arena.specs.Unfold.{Owners, flat, and_then, kind_tree, named_kind_tree, owner_of, nameless_tree, def_tree_of, def_tree}
 use Rattle.wit_arena.proofs.Unfolding.{option_map_some}

@@ -4,21 +4,21 @@ use Rattle.std.proofs.lemmas.List.Folds.{flat_map-map}
 use Rattle.std.proofs.lemmas.Option.{same_Some}
 use Rattle.std.specs.Prelude.{slice_get, option_map, flat_map, String, string_bytes, if◌then◌else◌}
 use Rattle.std.specs.declared.alloc.Global.{Global}
-use Rattle.wit_types.specs.declared.kind.«Type».{«Type» as Ref}
-use Rattle.wit_types.specs.declared.kind.«Type».TheVariants as ref
-use Rattle.wit_types.specs.declared.kind.Handle.{Handle}
-use Rattle.wit_types.specs.declared.kind.Handle.TheVariants as handle
-use Rattle.wit_types.specs.declared.kind.Field.{Field}
-use Rattle.wit_types.specs.declared.kind.Case.{Case}
-use Rattle.wit_types.specs.declared.kind.TypeDefKind.{TypeDefKind}
-use Rattle.wit_types.specs.declared.kind.TypeDefKind.TheVariants as kind
-use Rattle.wit_types.specs.declared.interface.TypeDef.{TypeDef}
-use Rattle.wit_types.specs.declared.interface.TypeOwner.{TypeOwner}
-use Rattle.wit_types.specs.declared.interface.TypeOwner.TheVariants as belongs
-use Rattle.wit_order.specs.Order.{Has}
-use Rattle.wit_reach.specs.Ids.{ref_ids, part_ids, handle_ids, kind_ids}
-use Rattle.wit_reach.specs.Types.{IsMadeOf}
-use Rattle.wit_reach.proofs.Lists.{has_parts}
+use Rattle.wit_arena.specs.Passed.wit_types-declared-kind-Type.{«Type» as Ref}
+use Rattle.wit_arena.specs.Passed.wit_types-declared-kind-Type-TheVariants as ref
+use Rattle.wit_arena.specs.Passed.wit_types-declared-kind-Handle.{Handle}
+use Rattle.wit_arena.specs.Passed.wit_types-declared-kind-Handle-TheVariants as handle
+use Rattle.wit_arena.specs.Passed.wit_types-declared-kind-Field.{Field}
+use Rattle.wit_arena.specs.Passed.wit_types-declared-kind-Case.{Case}
+use Rattle.wit_arena.specs.Passed.wit_types-declared-kind-TypeDefKind.{TypeDefKind}
+use Rattle.wit_arena.specs.Passed.wit_types-declared-kind-TypeDefKind-TheVariants as kind
+use Rattle.wit_arena.specs.Passed.wit_types-declared-interface-TypeDef.{TypeDef}
+use Rattle.wit_arena.specs.Passed.wit_types-declared-interface-TypeOwner.{TypeOwner}
+use Rattle.wit_arena.specs.Passed.wit_types-declared-interface-TypeOwner-TheVariants as belongs
+use Rattle.wit_arena.specs.Passed.wit_order-Order.{Has}
+use Rattle.wit_includes.specs.Passed.wit_reach-Ids.{ref_ids, part_ids, handle_ids, kind_ids}
+use Rattle.wit_includes.specs.Passed.wit_reach-Types.{IsMadeOf}
+use Rattle.wit_includes.proofs.Passed.wit_reach-Lists.{has_parts}
 use Rattle.wit_arena.specs.Tree.{Name, Owner, Tree, TreeOption, Trees, no_tree, a_tree, no_trees, trees_and, primitive, list_tree, fixed_length_list_tree, option_tree, tuple_tree, result_tree, future_tree, stream_tree, own_tree, borrow_tree, record_tree, flags_tree, enum_tree, variant_tree, resource_leaf, named_tree, is_resource, value_of}
 use Rattle.wit_arena.specs.Unfold.{Owners, flat, and_then, ref_tree, value_tree, part_tree, part_trees, handle_tree, kind_tree, named_kind_tree, owner_of, nameless_tree, def_tree_of, trees, IsWhole}
 use Rattle.wit_arena.specs.Standing.{HasTree}

@@ -2,22 +2,22 @@
 use Rattle.std.proofs.Common.{◌≡◌, ℕ, Bool, true, false, List, [], ◌∷◌, inl, Option, Some, None, refl, subst, ap, ◌∙◌, map}
 use Rattle.std.proofs.lemmas.Option.{same_Some}
 use Rattle.std.specs.Prelude.{slice_get, option_map, flat_map, if◌then◌else◌}
-use Rattle.wit_types.specs.declared.kind.«Type».{«Type» as Ref}
-use Rattle.wit_types.specs.declared.kind.«Type».TheVariants as ref
-use Rattle.wit_types.specs.declared.kind.Handle.{Handle}
-use Rattle.wit_types.specs.declared.kind.Handle.TheVariants as handle
-use Rattle.wit_types.specs.declared.world.IncludeName.{IncludeName}
-use Rattle.wit_order.specs.Order.{Has}
-use Rattle.wit_reach.specs.Ids.{ref_ids, part_ids, handle_ids}
-use Rattle.wit_moves.specs.Moved.{moved_ref, moved_part, moved_handle}
+use Rattle.wit_arena.specs.Passed.wit_types-declared-kind-Type.{«Type» as Ref}
+use Rattle.wit_arena.specs.Passed.wit_types-declared-kind-Type-TheVariants as ref
+use Rattle.wit_arena.specs.Passed.wit_types-declared-kind-Handle.{Handle}
+use Rattle.wit_arena.specs.Passed.wit_types-declared-kind-Handle-TheVariants as handle
+use Rattle.wit_arena.specs.Passed.wit_types-declared-world-IncludeName.{IncludeName}
+use Rattle.wit_arena.specs.Passed.wit_order-Order.{Has}
+use Rattle.wit_includes.specs.Passed.wit_reach-Ids.{ref_ids, part_ids, handle_ids}
+use Rattle.wit_includes.specs.Passed.wit_moves-Moved.{moved_ref, moved_part, moved_handle}
 use Rattle.wit_arena.specs.Tree as tree
 use Rattle.wit_arena.specs.Tree.{Owner, Tree, TreeOption, Trees, no_tree, a_tree, no_trees, trees_and, own_tree, borrow_tree, is_resource, value_of}
 use Rattle.wit_arena.specs.Unfold.{flat, and_then, ref_tree, value_tree, part_tree, part_trees, handle_tree}
 use Rattle.wit_arena.proofs.Unfolding.{option_map_some}
 use Rattle.wit_copied_trees.specs.Renamed as renamed
 use Rattle.wit_copied_trees.specs.Renamed.{IsRenamedTree, IsRenamedPart, AreRenamedTrees}
-use Rattle.wit_order.proofs.Lists.{has_was}
-use Rattle.wit_reach.proofs.Lists.{has_append}
+use Rattle.wit_arena.proofs.Passed.wit_order-Lists.{has_was}
+use Rattle.wit_includes.proofs.Passed.wit_reach-Lists.{has_append}
 
 -- it has a value, to which what holds there the first is related
 abbrev pub Gives : {X : Type 0} → (X → X → Type 0) → X → Option X → Type 0

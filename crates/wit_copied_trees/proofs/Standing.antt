@@ -5,25 +5,25 @@ use Rattle.std.proofs.lemmas.List.Quantifiers.{position-Some}
 use Rattle.std.proofs.lemmas.Option.{same_Some, slice_get_within, slice_get-get_or}
 use Rattle.std.specs.Prelude.{slice_get, position, option_map, unwrap_or, String}
 use Rattle.std.specs.declared.alloc.Global.{Global}
-use Rattle.wit_types.specs.declared.interface.TypeDef.{TypeDef}
-use Rattle.wit_types.specs.declared.world.IncludeName.{IncludeName}
-use Rattle.wit_types.specs.declared.world.WorldItem.{WorldItem}
-use Rattle.wit_types.specs.declared.world.WorldItem.TheVariants as item
-use Rattle.wit_types.specs.declared.world_key.WorldKey.{WorldKey}
-use Rattle.wit_order.specs.Order.{Has}
-use Rattle.wit_reach.specs.Paths.{AreRising}
-use Rattle.wit_reach.specs.Ids.{kind_ids, item_ids, side_ids}
-use Rattle.wit_reach.specs.Types.{IsMadeOf}
-use Rattle.wit_copies.specs.Copies as copies
-use Rattle.wit_copies.specs.Copies.{Copies, goes, AreCopied, AreCopiedEntries}
-use Rattle.wit_sides.specs.Renames as renames
-use Rattle.wit_sides.specs.Renames.{IsRenamedItem, AreRenamed}
+use Rattle.wit_arena.specs.Passed.wit_types-declared-interface-TypeDef.{TypeDef}
+use Rattle.wit_arena.specs.Passed.wit_types-declared-world-IncludeName.{IncludeName}
+use Rattle.wit_arena.specs.Passed.wit_types-declared-world-WorldItem.{WorldItem}
+use Rattle.wit_arena.specs.Passed.wit_types-declared-world-WorldItem-TheVariants as item
+use Rattle.wit_arena.specs.Passed.wit_types-declared-world_key-WorldKey.{WorldKey}
+use Rattle.wit_arena.specs.Passed.wit_order-Order.{Has}
+use Rattle.wit_includes.specs.Passed.wit_reach-Paths.{AreRising}
+use Rattle.wit_includes.specs.Passed.wit_reach-Ids.{kind_ids, item_ids, side_ids}
+use Rattle.wit_includes.specs.Passed.wit_reach-Types.{IsMadeOf}
+use Rattle.wit_includes.specs.Passed.wit_copies-Copies as copies
+use Rattle.wit_includes.specs.Passed.wit_copies-Copies.{Copies, goes, AreCopied, AreCopiedEntries}
+use Rattle.wit_includes.specs.Passed.wit_sides-Renames as renames
+use Rattle.wit_includes.specs.Passed.wit_sides-Renames.{IsRenamedItem, AreRenamed}
 use Rattle.wit_includes.specs.Included as brings
 use Rattle.wit_includes.specs.Included.{copies_behind, is_of_world, IsRenamedName, AreRenamedDefs}
 use Rattle.wit_copied_trees.specs.There.{IncludedTypesAreBackward, IncludedSidesAreThere}
 use Rattle.wit_copied_trees.proofs.Members.{get_has}
-use Rattle.wit_order.proofs.Lists.{has_was}
-use Rattle.wit_reach.proofs.Lists.{has_parts, has_append}
+use Rattle.wit_arena.proofs.Passed.wit_order-Lists.{has_was}
+use Rattle.wit_includes.proofs.Passed.wit_reach-Lists.{has_parts, has_append}
 use Rattle.wit_copied_trees.proofs.MovedIds.{has_moved, kind_moved, item_moved}
 
 -- what stands in two lists stands in the first, or behind it

@@ -1,21 +1,21 @@
 -- Types that come with an included world stand for what they stood for, under the names of the world that includes it (WIT, Item: `include`).
 use Rattle.std.specs.Prelude.{◌≡◌, ℕ, ◌+◌, false, List, ◌++◌, Some, length, map, slice_get, string_bytes}
-use Rattle.wit_order.specs.Order.{Has}
-use Rattle.wit_types.specs.declared.kind.TypeDefKind.TheVariants as kind
-use Rattle.wit_types.specs.declared.interface.TypeDef.{TypeDef}
-use Rattle.wit_types.specs.declared.interface.TypeOwner.{TypeOwner}
-use Rattle.wit_types.specs.declared.function.Param.{Param}
-use Rattle.wit_types.specs.declared.function.Function.{Function}
-use Rattle.wit_types.specs.declared.world.IncludeName.{IncludeName}
-use Rattle.wit_types.specs.declared.world.World.{World}
+use Rattle.wit_arena.specs.Passed.wit_order-Order.{Has}
+use Rattle.wit_arena.specs.Passed.wit_types-declared-kind-TypeDefKind-TheVariants as kind
+use Rattle.wit_arena.specs.Passed.wit_types-declared-interface-TypeDef.{TypeDef}
+use Rattle.wit_arena.specs.Passed.wit_types-declared-interface-TypeOwner.{TypeOwner}
+use Rattle.wit_arena.specs.Passed.wit_types-declared-function-Param.{Param}
+use Rattle.wit_arena.specs.Passed.wit_types-declared-function-Function.{Function}
+use Rattle.wit_arena.specs.Passed.wit_types-declared-world-IncludeName.{IncludeName}
+use Rattle.wit_arena.specs.Passed.wit_types-declared-world-World.{World}
 use Rattle.wit_arena.specs.Tree.{Name, Owner, Tree, TreeOption, Trees}
 use Rattle.wit_arena.specs.Unfold.{Owners, part_tree, part_trees, owner_of, trees, IsWhole}
 use Rattle.wit_arena.specs.Standing.{HasTree}
-use Rattle.wit_moves.specs.Moved.{IsMovedFunction}
-use Rattle.wit_reach.specs.Ids.{signature_ids}
-use Rattle.wit_reach.specs.Types.{AreTypesBackward, AreWorldTypes, IsLocalAt, is_local}
-use Rattle.wit_copies.specs.Same.{IsSameFunction}
-use Rattle.wit_copies.specs.Copies.{goes}
+use Rattle.wit_includes.specs.Passed.wit_moves-Moved.{IsMovedFunction}
+use Rattle.wit_includes.specs.Passed.wit_reach-Ids.{signature_ids}
+use Rattle.wit_includes.specs.Passed.wit_reach-Types.{AreTypesBackward, AreWorldTypes, IsLocalAt, is_local}
+use Rattle.wit_includes.specs.Passed.wit_copies-Same.{IsSameFunction}
+use Rattle.wit_includes.specs.Passed.wit_copies-Copies.{goes}
 use Rattle.wit_includes.specs.Included.{AreIncludedTypes, copies_behind}
 use Rattle.wit_copied_trees.specs.Renamed.{IsRenamedTree, IsRenamedPart, AreRenamedTrees}
 

@@ -1,3 +1,4 @@
 pub mod Renamed
 pub mod Law
 pub mod There
+pub mod Passed

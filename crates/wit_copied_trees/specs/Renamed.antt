@@ -1,9 +1,9 @@
 -- Trees in which the names of one world are another's (WIT, Item: `include`).
 use Rattle.std.specs.Prelude.{◌≡◌, ℕ, List}
-use Rattle.wit_types.specs.declared.world.IncludeName.{IncludeName}
+use Rattle.wit_arena.specs.Passed.wit_types-declared-world-IncludeName.{IncludeName}
 use Rattle.wit_arena.specs.Tree as tree
 use Rattle.wit_arena.specs.Tree.{Name, Owner, Tree, TreeOption, Trees}
-use Rattle.wit_sides.specs.Renames.{IsRenamed}
+use Rattle.wit_includes.specs.Passed.wit_sides-Renames.{IsRenamed}
 
 -- what belongs to the one belongs to the other, under its changed name; what is reached by a name of another owner stays as it is
 mutual

@@ -1,12 +1,12 @@
 -- Types that come with an included world are made of earlier ones, and what comes with them of types that are there (WIT, Item: `include`).
 use Rattle.std.specs.Prelude.{◌≡◌, ℕ, List, ◌++◌, length}
-use Rattle.wit_types.specs.declared.interface.TypeDef.{TypeDef}
-use Rattle.wit_types.specs.declared.world.IncludeName.{IncludeName}
-use Rattle.wit_types.specs.declared.world.World.{World}
-use Rattle.wit_types.specs.declared.world.WorldItem.{WorldItem}
-use Rattle.wit_types.specs.declared.world_key.WorldKey.{WorldKey}
-use Rattle.wit_reach.specs.Ids.{side_ids}
-use Rattle.wit_reach.specs.Types.{AreTypesBackward, AreTypesThere, AreWorldTypes}
+use Rattle.wit_arena.specs.Passed.wit_types-declared-interface-TypeDef.{TypeDef}
+use Rattle.wit_arena.specs.Passed.wit_types-declared-world-IncludeName.{IncludeName}
+use Rattle.wit_arena.specs.Passed.wit_types-declared-world-World.{World}
+use Rattle.wit_arena.specs.Passed.wit_types-declared-world-WorldItem.{WorldItem}
+use Rattle.wit_arena.specs.Passed.wit_types-declared-world_key-WorldKey.{WorldKey}
+use Rattle.wit_includes.specs.Passed.wit_reach-Ids.{side_ids}
+use Rattle.wit_includes.specs.Passed.wit_reach-Types.{AreTypesBackward, AreTypesThere, AreWorldTypes}
 use Rattle.wit_includes.specs.Included.{AreIncludedTypes, AreIncludedEntries, copies_behind}
 
 -- one for each type of the world, made of earlier ones

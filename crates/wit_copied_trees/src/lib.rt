@@ -9,3 +9,4 @@ pub use law::{
     law_whole_arenas_are_backward,
 };
 pub use there::{law_included_sides_are_there, law_included_types_are_backward};
+pub use wit_includes::{Include, IncludeFault, Included, SideFault, included_world, joined_side};

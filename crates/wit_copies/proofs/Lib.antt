@@ -1,2 +1,3 @@
 mod Clones
 mod Rising
+pub mod Passed

@@ -4,7 +4,7 @@ use Rattle.std.proofs.lemmas.Bool.{ne_eqb}
 use Rattle.std.proofs.lemmas.List.{take_more}
 use Rattle.std.specs.List.{list_any}
 use Rattle.indexmap.specs.IndexSet.{insert_key}
-use Rattle.wit_order.proofs.Lists.{has_get}
+use Rattle.wit_types.proofs.Passed.wit_order-Lists.{has_get}
 use Rattle.wit_reach.specs.Paths.{AreRising}
 
 is_new : (xs : List ℕ) (k : ℕ) → AreRising xs → k < length xs → list_any (nat_eq (get_or xs k 0)) (take k xs) ≡ false

@@ -4,7 +4,7 @@ use Rattle.std.specs.List.{AllZip}
 use Rattle.std.specs.declared.alloc.Global.{Global}
 use Rattle.semver.specs.declared.Version.{Version}
 use Rattle.semver.specs.Identifiers.{parts_of}
-use Rattle.wit_words.specs.declared.source_map.Span.{Span}
+use Rattle.wit_types.specs.Passed.wit_words-declared-source_map-Span.{Span}
 use Rattle.wit_types.specs.declared.kind.«Type».{«Type» as Ref}
 use Rattle.wit_types.specs.declared.kind.Handle.{Handle}
 use Rattle.wit_types.specs.declared.kind.Field.{Field}

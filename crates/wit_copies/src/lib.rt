@@ -6,3 +6,4 @@ mod sides;
 
 pub use copies::{Copies, copied_defs};
 pub use sides::copied_side;
+pub use wit_reach::world_types;

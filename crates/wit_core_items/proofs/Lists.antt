@@ -2,7 +2,7 @@
 use Rattle.std.proofs.Common.{◌≡◌, ℕ, zero, suc, List, [], ◌∷◌, ◌++◌, Bool, true, false, Some, refl, sym, ap, subst, inl, inr, map, filter, append_assoc, ◌∙◌}
 use Rattle.std.proofs.lemmas.Option.{same_Some}
 use Rattle.std.specs.Prelude.{if◌then◌else◌, slice_get}
-use Rattle.wit_order.specs.Order.{Has}
+use Rattle.wit_types.specs.Passed.wit_order-Order.{Has}
 
 -- what is so of each of a list is so of each of what is made of them
 pub has_map : {A B : Type 0} (f : A → B) (P : B → Type 0) (es : List A) → ((e : A) → Has es e → P (f e)) → (b : B) → Has (map f es) b → P b

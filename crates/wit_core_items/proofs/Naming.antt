@@ -14,7 +14,7 @@ use Rattle.wit_types.specs.declared.«package».Package.{Package}
 use Rattle.wit_types.specs.declared.«package».PackageName.{PackageName}
 use Rattle.wit_types.specs.declared.world_key.WorldKey.{WorldKey}
 use Rattle.wit_types.specs.declared.world_key.WorldKey.TheVariants as key
-use Rattle.wit_names.specs.Names.{ArePackagesKnown, IsKeyText, text_of, named_in, text_at}
+use Rattle.wit_core_names.specs.Passed.wit_names-Names.{ArePackagesKnown, IsKeyText, text_of, named_in, text_at}
 use Rattle.wit_types.specs.CoreName.{core_export_name}
 use Rattle.wit_core_names.specs.Exports.{IsExportName, IsExportNamed, IsTextOf, kind_name, destructor_name}
 use Rattle.wit_core_names.specs.Imports.{IsImportName, IsImportNamed, IsInterfaceNamed, IsModuleOf, side_module, interface_module, intrinsic_name}

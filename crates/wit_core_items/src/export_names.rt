@@ -2,7 +2,7 @@
 
 ghost use Rattle.std.specs.Prelude.{◌≡◌, Some, OnOk, IfOk};
 ghost use Rattle.std.specs.Cow.{cow_str_bytes};
-ghost use Rattle.wit_names.specs.Names.{ArePackagesKnown};
+ghost use Rattle.wit_core_names.specs.Passed.wit_names-Names.{ArePackagesKnown};
 ghost use Rattle.wit_core_names.specs.Exports.{IsExportName};
 ghost use Rattle.wit_core_names.specs.Items.{export_of, CoreExport};
 ghost use Rattle.wit_core_names.specs.Texts.{known};

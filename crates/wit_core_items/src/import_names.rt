@@ -2,7 +2,7 @@
 
 ghost use Rattle.std.specs.Prelude.{◌≡◌, Some, OnOk, IfOk};
 ghost use Rattle.std.specs.Cow.{cow_str_bytes};
-ghost use Rattle.wit_names.specs.Names.{ArePackagesKnown};
+ghost use Rattle.wit_core_names.specs.Passed.wit_names-Names.{ArePackagesKnown};
 ghost use Rattle.wit_core_names.specs.Imports.{IsImportName};
 ghost use Rattle.wit_core_names.specs.Items.{import_of, CoreImport};
 ghost use Rattle.wit_core_names.specs.Texts.{known};

@@ -2,7 +2,7 @@
 
 ghost use Rattle.std.specs.Prelude.{◌≡◌, ◌<◌, Bool, Some, length, slice_get, IfOk};
 ghost use Rattle.wit_types.specs.declared.world.World.{World};
-ghost use Rattle.wit_names.specs.Names.{ArePackagesKnown};
+ghost use Rattle.wit_core_names.specs.Passed.wit_names-Names.{ArePackagesKnown};
 ghost use Rattle.wit_core_names.specs.Items.{import_of};
 ghost use Rattle.wit_core_names.specs.Texts.{Known, known};
 ghost use Rattle.wit_core_items.specs.ImportPlaces as spec;

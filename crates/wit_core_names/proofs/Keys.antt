@@ -2,12 +2,12 @@
 use Rattle.std.proofs.Common.{◌≡◌, ℕ, List, Option, Some, None, ap, sym, ◌∙◌}
 use Rattle.std.proofs.lemmas.Option.{slice_get_within, same_Some}
 use Rattle.std.specs.Prelude.{string_bytes}
-use Rattle.wit_types.specs.Package.{interface_text}
-use Rattle.wit_types.specs.declared.interface.Interface.{Interface}
-use Rattle.wit_types.specs.declared.«package».Package.{Package}
-use Rattle.wit_types.specs.declared.«package».PackageName.{PackageName}
-use Rattle.wit_types.specs.declared.world_key.WorldKey.{WorldKey}
-use Rattle.wit_types.specs.declared.world_key.WorldKey.TheVariants as key
+use Rattle.wit_names.specs.Passed.wit_types-Package.{interface_text}
+use Rattle.wit_names.specs.Passed.wit_types-declared-interface-Interface.{Interface}
+use Rattle.wit_names.specs.Passed.wit_types-declared-package-Package.{Package}
+use Rattle.wit_names.specs.Passed.wit_types-declared-package-PackageName.{PackageName}
+use Rattle.wit_names.specs.Passed.wit_types-declared-world_key-WorldKey.{WorldKey}
+use Rattle.wit_names.specs.Passed.wit_types-declared-world_key-WorldKey-TheVariants as key
 use Rattle.wit_names.specs.Names.{IsKeyText, IsKeyThere, text_of}
 use Rattle.wit_core_names.specs.Texts.{IsKeyNamed}
 

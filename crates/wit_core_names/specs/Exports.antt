@@ -1,9 +1,9 @@
 -- The names by which core modules export (Component Model, Build Targets).
 use Rattle.std.specs.Prelude.{◌≡◌, ℕ, List, ◌++◌, Option, Some, None, codes, string_bytes}
-use Rattle.wit_types.specs.CoreName.{core_export_name}
-use Rattle.wit_types.specs.declared.mangling.Mangling.{Mangling}
-use Rattle.wit_types.specs.declared.mangling.Mangling.TheVariants.{Standard32, Legacy}
-use Rattle.wit_types.specs.declared.world_key.WorldKey.{WorldKey}
+use Rattle.wit_names.specs.Passed.wit_types-CoreName.{core_export_name}
+use Rattle.wit_names.specs.Passed.wit_types-declared-mangling-Mangling.{Mangling}
+use Rattle.wit_names.specs.Passed.wit_types-declared-mangling-Mangling-TheVariants.{Standard32, Legacy}
+use Rattle.wit_names.specs.Passed.wit_types-declared-world_key-WorldKey.{WorldKey}
 use Rattle.wit_names.specs.Names.{IsKeyText}
 use Rattle.wit_core_names.specs.Imports.{IsInterfaceNamed}
 use Rattle.wit_core_names.specs.Items.{CoreExport, func, destructor, memory, initialize, realloc}

@@ -1,8 +1,8 @@
 -- What core modules import and export (Component Model, Build Targets).
 use Rattle.std.specs.Prelude.{ℕ, Option, option_map}
 use Rattle.std.specs.Borrow.{Bor}
-use Rattle.wit_types.specs.declared.function.Function.{Function}
-use Rattle.wit_types.specs.declared.world_key.WorldKey.{WorldKey}
+use Rattle.wit_names.specs.Passed.wit_types-declared-function-Function.{Function}
+use Rattle.wit_names.specs.Passed.wit_types-declared-world_key-WorldKey.{WorldKey}
 use Rattle.wit_core_names.specs.declared.items.ResourceIntrinsic.{ResourceIntrinsic}
 use Rattle.wit_core_names.specs.declared.items.WasmImport.{WasmImport}
 use Rattle.wit_core_names.specs.declared.items.WasmImport.TheVariants as lent_import

@@ -1,14 +1,14 @@
 -- Keys of worlds and names of resources, as core names have them (Component Model, Build Targets).
 use Rattle.std.specs.Prelude.{◌≡◌, ℕ, List, Some, String, string_bytes, slice_get}
 use Rattle.std.specs.declared.alloc.Global.{Global}
-use Rattle.wit_types.specs.Package.{interface_text}
-use Rattle.wit_types.specs.declared.interface.Interface.{Interface}
-use Rattle.wit_types.specs.declared.interface.TypeDef.{TypeDef}
-use Rattle.wit_types.specs.declared.mangling.Mangling.{Mangling}
-use Rattle.wit_types.specs.declared.mangling.Mangling.TheVariants.{Standard32, Legacy}
-use Rattle.wit_types.specs.declared.«package».Package.{Package}
-use Rattle.wit_types.specs.declared.«package».PackageName.{PackageName}
-use Rattle.wit_types.specs.declared.world_key.WorldKey.{WorldKey}
+use Rattle.wit_names.specs.Passed.wit_types-Package.{interface_text}
+use Rattle.wit_names.specs.Passed.wit_types-declared-interface-Interface.{Interface}
+use Rattle.wit_names.specs.Passed.wit_types-declared-interface-TypeDef.{TypeDef}
+use Rattle.wit_names.specs.Passed.wit_types-declared-mangling-Mangling.{Mangling}
+use Rattle.wit_names.specs.Passed.wit_types-declared-mangling-Mangling-TheVariants.{Standard32, Legacy}
+use Rattle.wit_names.specs.Passed.wit_types-declared-package-Package.{Package}
+use Rattle.wit_names.specs.Passed.wit_types-declared-package-PackageName.{PackageName}
+use Rattle.wit_names.specs.Passed.wit_types-declared-world_key-WorldKey.{WorldKey}
 use Rattle.wit_names.specs.Names.{canonical_text, IsKeyText}
 use Rattle.wit_core_names.specs.declared.texts.Tables.{Tables}
 

@@ -1,7 +1,7 @@
 //! The names by which core modules export.
 
 ghost use Rattle.std.specs.Prelude.{◌≡◌, option_map, string_bytes, IfOk};
-ghost use Rattle.wit_types.specs.CoreName.{core_export_name};
+ghost use Rattle.wit_names.specs.Passed.wit_types-CoreName.{core_export_name};
 ghost use Rattle.wit_names.specs.Names.{ArePackagesKnown};
 ghost use Rattle.wit_core_names.specs.Exports as spec;
 ghost use Rattle.wit_core_names.specs.Imports.{IsInterfaceNamed};
@@ -11,7 +11,7 @@ ghost use Rattle.wit_core_names.specs.Texts.{known};
 use crate::items::{WasmExport, WasmExportKind};
 use crate::texts::{Tables, key_text, type_name};
 use std::alloc::{AllocError, Global};
-use wit_types::{Function, Mangling, WorldKey};
+use wit_names::{Function, Mangling, WorldKey};
 
 /// The text of the key of an interface, if there is one.
 fn interface_key(

@@ -9,7 +9,7 @@ ghost use Rattle.wit_core_names.specs.Texts.{IsKeyNamed, known};
 use crate::items::{ResourceIntrinsic, WasmImport};
 use crate::texts::{Tables, key_text, type_name};
 use std::alloc::{AllocError, Global};
-use wit_types::{Mangling, WorldKey};
+use wit_names::{Mangling, WorldKey};
 
 /// The module from which a world's own things are imported.
 fn root_module(alloc: Global, mangling: Mangling) -> Result<String, AllocError>

@@ -1,6 +1,6 @@
 //! What core modules import and export.
 
-use wit_types::{Function, TypeId, WorldKey};
+use wit_names::{Function, TypeId, WorldKey};
 
 /// What a core module imports of a world.
 #[derive(Clone, Copy)]

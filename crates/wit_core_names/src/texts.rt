@@ -5,8 +5,10 @@ ghost use Rattle.wit_names.specs.Names.{ArePackagesKnown, IsKeyText};
 ghost use Rattle.wit_core_names.specs.Texts as spec;
 
 use std::alloc::{AllocError, Global};
-use wit_names::{Known, name_canonicalized_world_key, name_world_key};
-use wit_types::{Arena, Interface, Mangling, Package, TypeDef, TypeId, WorldKey};
+use wit_names::{
+    Arena, Interface, Known, Mangling, Package, TypeDef, TypeId, WorldKey,
+    name_canonicalized_world_key, name_world_key,
+};
 
 /// Where what core names name is known, by its ids.
 #[derive(Clone, Copy)]

@@ -3,14 +3,14 @@ use Rattle.std.proofs.Common.{◌≡◌, ℕ, ◌<◌, Bool, true, false, List, 
 use Rattle.std.proofs.lemmas.Bool.{eqb-true}
 use Rattle.std.specs.Map.{lookup}
 use Rattle.std.specs.Prelude.{nat_eq, if◌then◌else◌, unwrap_or}
-use Rattle.wit_order.specs.Order.{Has}
-use Rattle.wit_order.proofs.Lists.{has_was}
-use Rattle.wit_types.specs.declared.interface.Interface.{Interface}
-use Rattle.wit_types.specs.declared.world.World.{World}
-use Rattle.wit_types.specs.declared.world.WorldItem.{WorldItem}
-use Rattle.wit_types.specs.declared.world.WorldItem.TheVariants as item
-use Rattle.wit_types.specs.declared.world_key.WorldKey.TheVariants as key
-use Rattle.wit_types.specs.WorldKey.{key_eq}
+use Rattle.wit_reach.specs.Passed.wit_order-Order.{Has}
+use Rattle.wit_reach.proofs.Passed.wit_order-Lists.{has_was}
+use Rattle.wit_reach.specs.Passed.wit_types-declared-interface-Interface.{Interface}
+use Rattle.wit_reach.specs.Passed.wit_types-declared-world-World.{World}
+use Rattle.wit_reach.specs.Passed.wit_types-declared-world-WorldItem.{WorldItem}
+use Rattle.wit_reach.specs.Passed.wit_types-declared-world-WorldItem-TheVariants as item
+use Rattle.wit_reach.specs.Passed.wit_types-declared-world_key-WorldKey-TheVariants as key
+use Rattle.wit_reach.specs.Passed.wit_types-WorldKey.{key_eq}
 use Rattle.wit_reach.specs.Ids.{item_ids, side_ids}
 use Rattle.wit_reach.specs.Lists.{item_interface, interfaces_of, ListsAreThere}
 use Rattle.wit_reach.specs.Reach.{AreThere, ElaboratedAreThere}

@@ -7,12 +7,12 @@ use Rattle.std.specs.Map.{lookup}
 use Rattle.std.specs.Prelude.{nat_eq, if◌then◌else◌, unwrap_or}
 use Rattle.std.specs.declared.alloc.Global.{Global}
 use Rattle.indexmap.specs.IndexMap.{insert_entry, insert_all}
-use Rattle.wit_order.specs.Order.{Has}
+use Rattle.wit_reach.specs.Passed.wit_order-Order.{Has}
 use Rattle.wit_reach.specs.Paths.{AreRising}
-use Rattle.wit_types.specs.declared.world.WorldItem.{WorldItem}
-use Rattle.wit_types.specs.declared.world_key.WorldKey.{WorldKey}
-use Rattle.wit_types.specs.declared.world_key.WorldKey.TheVariants as key
-use Rattle.wit_types.specs.WorldKey.{key_eq, key_eq-equivalence}
+use Rattle.wit_reach.specs.Passed.wit_types-declared-world-WorldItem.{WorldItem}
+use Rattle.wit_reach.specs.Passed.wit_types-declared-world_key-WorldKey.{WorldKey}
+use Rattle.wit_reach.specs.Passed.wit_types-declared-world_key-WorldKey-TheVariants as key
+use Rattle.wit_reach.specs.Passed.wit_types-WorldKey.{key_eq, key_eq-equivalence}
 use Rattle.wit_elaborated.specs.Elaborated.{Entry, plain_entries, interface_keys}
 
 abbrev part : (ℕ → WorldItem) → List ℕ → List Entry

@@ -1,8 +1,8 @@
 -- Interfaces that a world lists.
 use Rattle.std.proofs.Common.{ℕ, List, [], ◌∷◌, ◌++◌, inl, inr, sym, subst}
-use Rattle.wit_order.specs.Order.{Has}
-use Rattle.wit_order.proofs.Lists.{has_was}
-use Rattle.wit_types.specs.declared.world_key.WorldKey.TheVariants as key
+use Rattle.wit_reach.specs.Passed.wit_order-Order.{Has}
+use Rattle.wit_reach.proofs.Passed.wit_order-Lists.{has_was}
+use Rattle.wit_reach.specs.Passed.wit_types-declared-world_key-WorldKey-TheVariants as key
 use Rattle.wit_reach.specs.Lists.{item_interface, listed_in}
 use Rattle.wit_reach.proofs.Lists.{has_append}
 use Rattle.wit_elaborated.specs.Elaborated.{Entry, interface_keys}

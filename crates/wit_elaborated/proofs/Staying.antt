@@ -2,15 +2,15 @@
 use Rattle.std.proofs.Common.{◌≡◌, ℕ, ◌<◌, List, [], ◌∷◌, ◌++◌, inl, inr, Option, sym, ap, ◌∙◌, arith, length, map, refl}
 use Rattle.std.specs.Map.{lookup}
 use Rattle.std.specs.Prelude.{option_map, unwrap_or}
-use Rattle.wit_order.specs.Order.{Has, AreDependenciesFirst}
-use Rattle.wit_order.specs.Places.{Rows}
-use Rattle.wit_types.specs.declared.interface.TypeDef.{TypeDef}
-use Rattle.wit_types.specs.declared.interface.Interface.{Interface}
-use Rattle.wit_types.specs.declared.stability.Stability.TheVariants.{Unknown}
-use Rattle.wit_types.specs.declared.world.World.{World}
-use Rattle.wit_types.specs.declared.world.WorldItem.TheVariants as item
-use Rattle.wit_types.specs.declared.world_key.WorldKey.TheVariants as key
-use Rattle.wit_types.specs.WorldKey.{key_eq}
+use Rattle.wit_reach.specs.Passed.wit_order-Order.{Has, AreDependenciesFirst}
+use Rattle.wit_reach.specs.Passed.wit_order-Places.{Rows}
+use Rattle.wit_reach.specs.Passed.wit_types-declared-interface-TypeDef.{TypeDef}
+use Rattle.wit_reach.specs.Passed.wit_types-declared-interface-Interface.{Interface}
+use Rattle.wit_reach.specs.Passed.wit_types-declared-stability-Stability-TheVariants.{Unknown}
+use Rattle.wit_reach.specs.Passed.wit_types-declared-world-World.{World}
+use Rattle.wit_reach.specs.Passed.wit_types-declared-world-WorldItem-TheVariants as item
+use Rattle.wit_reach.specs.Passed.wit_types-declared-world_key-WorldKey-TheVariants as key
+use Rattle.wit_reach.specs.Passed.wit_types-WorldKey.{key_eq}
 use Rattle.wit_reach.specs.Paths.{AreBackward}
 use Rattle.wit_reach.specs.Reach.{Lists, Uses, IsNeededOutside, IsStart, IsElaborated, IsConflict, IsElaboration, AreThere, ElaboratedAreThere}
 use Rattle.wit_reach.specs.Lists.{item_types, IsUsedIn, AreListsOf, AreInterfacesThere, ListsAreThere}

@@ -1,14 +1,14 @@
 -- What a world imports in the end (Component Model, WIT, Worlds).
 use Rattle.std.specs.Prelude.{ℕ, List, [], ◌∷◌, ◌++◌, map, flat_map, slice_get, option_map, unwrap_or}
 use Rattle.std.specs.Map.{lookup}
-use Rattle.wit_words.specs.declared.source_map.Span.{Span}
-use Rattle.wit_types.specs.declared.interface.Interface.{Interface}
-use Rattle.wit_types.specs.declared.stability.Stability.TheVariants.{Unknown}
-use Rattle.wit_types.specs.declared.world.WorldItem.{WorldItem}
-use Rattle.wit_types.specs.declared.world.WorldItem.TheVariants as item
-use Rattle.wit_types.specs.declared.world_key.WorldKey.{WorldKey}
-use Rattle.wit_types.specs.declared.world_key.WorldKey.TheVariants as key
-use Rattle.wit_types.specs.WorldKey.{key_eq}
+use Rattle.wit_reach.specs.Passed.wit_words-declared-source_map-Span.{Span}
+use Rattle.wit_reach.specs.Passed.wit_types-declared-interface-Interface.{Interface}
+use Rattle.wit_reach.specs.Passed.wit_types-declared-stability-Stability-TheVariants.{Unknown}
+use Rattle.wit_reach.specs.Passed.wit_types-declared-world-WorldItem.{WorldItem}
+use Rattle.wit_reach.specs.Passed.wit_types-declared-world-WorldItem-TheVariants as item
+use Rattle.wit_reach.specs.Passed.wit_types-declared-world_key-WorldKey.{WorldKey}
+use Rattle.wit_reach.specs.Passed.wit_types-declared-world_key-WorldKey-TheVariants as key
+use Rattle.wit_reach.specs.Passed.wit_types-WorldKey.{key_eq}
 
 abbrev pub Entry : Type 0
 Entry = WorldKey × WorldItem

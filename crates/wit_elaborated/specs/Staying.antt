@@ -1,9 +1,9 @@
 -- What a world imports in the end is there, and stays so where more comes behind what is there (Component Model, WIT, Worlds).
 use Rattle.std.specs.Prelude.{◌≡◌, List, ◌++◌, length}
-use Rattle.wit_order.specs.Places.{Rows}
-use Rattle.wit_types.specs.declared.interface.TypeDef.{TypeDef}
-use Rattle.wit_types.specs.declared.interface.Interface.{Interface}
-use Rattle.wit_types.specs.declared.world.World.{World}
+use Rattle.wit_reach.specs.Passed.wit_order-Places.{Rows}
+use Rattle.wit_reach.specs.Passed.wit_types-declared-interface-TypeDef.{TypeDef}
+use Rattle.wit_reach.specs.Passed.wit_types-declared-interface-Interface.{Interface}
+use Rattle.wit_reach.specs.Passed.wit_types-declared-world-World.{World}
 use Rattle.wit_reach.specs.Paths.{AreBackward}
 use Rattle.wit_reach.specs.Reach.{Uses}
 use Rattle.wit_reach.specs.Lists.{AreOwnersThere, AreInterfacesThere}

@@ -1,10 +1,10 @@
 -- Worlds with all that they import in the end (Component Model, WIT, Worlds).
 use Rattle.std.specs.Prelude.{◌≡◌, ℕ, List, [], ◌∷◌}
-use Rattle.wit_order.specs.Places.{Rows}
-use Rattle.wit_types.specs.declared.interface.TypeDef.{TypeDef}
-use Rattle.wit_types.specs.declared.interface.Interface.{Interface}
-use Rattle.wit_types.specs.declared.world.World.{World}
-use Rattle.wit_types.specs.declared.world_key.WorldKey.TheVariants as key
+use Rattle.wit_reach.specs.Passed.wit_order-Places.{Rows}
+use Rattle.wit_reach.specs.Passed.wit_types-declared-interface-TypeDef.{TypeDef}
+use Rattle.wit_reach.specs.Passed.wit_types-declared-interface-Interface.{Interface}
+use Rattle.wit_reach.specs.Passed.wit_types-declared-world-World.{World}
+use Rattle.wit_reach.specs.Passed.wit_types-declared-world_key-WorldKey-TheVariants as key
 use Rattle.wit_reach.specs.Reach.{Lists, Uses, IsElaboration, IsConflict}
 use Rattle.wit_reach.specs.Lists.{AreListsOf, item_interface}
 use Rattle.wit_reach.specs.declared.reach.ElaborateFault.{ElaborateFault}

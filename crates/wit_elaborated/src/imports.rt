@@ -2,14 +2,14 @@
 
 ghost use Rattle.std.specs.Prelude.{◌≡◌, ℕ, ◌<◌, [], length, map, IfOk, OnOk};
 ghost use Rattle.indexmap.specs.IndexMap.{insert_all};
-ghost use Rattle.wit_order.specs.Order.{Has};
+ghost use Rattle.wit_reach.specs.Passed.wit_order-Order.{Has};
 ghost use Rattle.wit_reach.specs.Paths.{AreRising};
 ghost use Rattle.wit_elaborated.specs.Elaborated as spec;
 
 use indexmap::IndexMap;
 use std::alloc::{AllocError, Global};
 use std::hash::Hash;
-use wit_types::{Arena, Interface, InterfaceId, Stability, WorldItem, WorldKey};
+use wit_reach::{Arena, Interface, InterfaceId, Stability, WorldItem, WorldKey};
 
 /// Interfaces as a world has them where it doesn't list them.
 fn implied(

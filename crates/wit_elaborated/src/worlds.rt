@@ -1,7 +1,7 @@
 //! Worlds with all that they import in the end.
 
 ghost use Rattle.std.specs.Prelude.{◌≡◌, ℕ, ◌<◌, length, IfOk, IfErr, OnOk};
-ghost use Rattle.wit_order.specs.Order.{Has};
+ghost use Rattle.wit_reach.specs.Passed.wit_order-Order.{Has};
 ghost use Rattle.wit_reach.specs.Paths.{AreRising, AreBackward};
 ghost use Rattle.wit_reach.specs.Reach.{Lists, Uses, IsElaboration};
 ghost use Rattle.wit_reach.specs.Lists.{AreListsOf, AreOwnersThere, AreInterfacesThere};
@@ -15,9 +15,9 @@ use indexmap::IndexMap;
 use std::alloc::Global;
 use std::mem::replace;
 use wit_reach::{
-    ElaborateFault, elaborate, law_elaborated_are_there, law_lists_are_there, world_lists,
+    Arena, ElaborateFault, Interface, InterfaceId, TypeDef, World, elaborate,
+    law_elaborated_are_there, law_lists_are_there, world_lists,
 };
-use wit_types::{Arena, Interface, InterfaceId, TypeDef, World};
 
 /// The interfaces that a world imports in the end, dependencies first.
 fn order_of(

@@ -1,7 +1,7 @@
 -- What is said of the gates of the rest of a list, and with that of all.
 use Rattle.std.proofs.Common.{◌≡◌, true, false, List, [], ◌∷◌, inl, inr, Option, subst, sym, refl}
 use Rattle.semver.specs.declared.Version.{Version}
-use Rattle.wit_words.specs.declared.source_map.Span.{Span}
+use Rattle.wit_types.specs.Passed.wit_words-declared-source_map-Span.{Span}
 use Rattle.wit_features.specs.Features.{breaks_gate}
 use Rattle.wit_types.specs.declared.stability.Stability.{Stability}
 use Rattle.wit_features.specs.Gates.{Gates, gated, IsOf, AreOnTime, IsLate}

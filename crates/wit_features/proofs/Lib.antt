@@ -1,2 +1,3 @@
 mod Lists
 mod Leading
+pub mod Passed

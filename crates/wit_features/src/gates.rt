@@ -1,17 +1,16 @@
 //! The gates of all that a package holds.
 
 ghost use Rattle.std.specs.Prelude.{◌≡◌, true, false, OnOk, IfErr};
-ghost use Rattle.wit_words.specs.declared.source_map.Span.{Span};
+ghost use Rattle.wit_types.specs.Passed.wit_words-declared-source_map-Span.{Span};
 ghost use Rattle.wit_features.specs.Features.{breaks_gate as is_late};
 ghost use Rattle.wit_features.specs.Gates as spec;
 
 use crate::features::breaks_gate;
 use indexmap::IndexMap;
 use wit_types::{
-    Arena, Function, Interface, PackageName, Stability, TypeDef, UnresolvedPackage, World,
+    Arena, Function, Interface, PackageName, Span, Stability, TypeDef, UnresolvedPackage, World,
     WorldInclude, WorldItem, WorldKey,
 };
-use wit_words::Span;
 
 /// Refuses gates of a version that the package hasn't reached, at the place of their item.
 fn check_gate(of: &PackageName, stability: &Stability, at: Span) -> Result<(), Span>

@@ -6,3 +6,9 @@ mod gates;
 
 pub use features::{Features, breaks_gate};
 pub use gates::check_gates;
+pub use wit_types::{
+    Arena, AstItem, Case, Docs, Field, ForeignItems, Function, FunctionKind, Handle, Id, Interface,
+    InterfaceTag, Package, PackageId, PackageName, Param, Record, Result_, Span, Stability, Tuple,
+    Type, TypeDef, TypeDefKind, TypeId, TypeOwner, TypeTag, UnresolvedPackage, Variant, World,
+    WorldInclude, WorldItem, WorldKey, WorldTag,
+};

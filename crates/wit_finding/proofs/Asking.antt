@@ -6,14 +6,14 @@ use Rattle.std.proofs.lemmas.Option.{slice_get_within, slice_get_read}
 use Rattle.std.specs.Prelude.{slice_get}
 use Rattle.std.specs.declared.alloc.Global.{Global}
 use Rattle.indexmap.specs.IndexMap.{IndexMap}
-use Rattle.wit_order.specs.Order.{Has}
+use Rattle.wit_moves.specs.Passed.wit_order-Order.{Has}
 use Rattle.wit_words.specs.declared.source_map.Span.{Span}
-use Rattle.wit_types.specs.declared.interface.Interface.{Interface}
-use Rattle.wit_types.specs.declared.world.World.{World}
-use Rattle.wit_types.specs.declared.«package».AstItem.{AstItem}
-use Rattle.wit_types.specs.declared.«package».Package.{Package}
-use Rattle.wit_types.specs.declared.stability.Stability.{Stability}
-use Rattle.wit_features.specs.Features.{FeatureSet}
+use Rattle.wit_moves.specs.Passed.wit_types-declared-interface-Interface.{Interface}
+use Rattle.wit_moves.specs.Passed.wit_types-declared-world-World.{World}
+use Rattle.wit_moves.specs.Passed.wit_types-declared-package-AstItem.{AstItem}
+use Rattle.wit_moves.specs.Passed.wit_types-declared-package-Package.{Package}
+use Rattle.wit_moves.specs.Passed.wit_types-declared-stability-Stability.{Stability}
+use Rattle.wit_moves.specs.Passed.wit_features-Features.{FeatureSet}
 use Rattle.wit_finding.specs.declared.fault.FindFault.{FindFault}
 use Rattle.wit_finding.specs.declared.fault.FindFault.TheVariants.{PackageNotFound, ItemNotFound, OutOfMemory}
 use Rattle.wit_finding.specs.Asks.{Ask, ask, ItemEntry, asks_of, asks_at, asks_in, items_of, pair_of, finds, found_by, IsMissing, IsMissingAt, IsAskCause, AskBreaks}

@@ -3,3 +3,4 @@ mod Asking
 mod Naming
 mod Placing
 mod Named
+pub mod Passed

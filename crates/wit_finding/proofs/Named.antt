@@ -2,11 +2,11 @@
 use Rattle.std.proofs.Common.{◌≡◌, ℕ, ◌<◌, Bool, true, false, List, [], ◌∷◌, inl, inr, Some, refl, sym, subst, ap, map}
 use Rattle.std.proofs.lemmas.Option.{same_Some}
 use Rattle.std.specs.Map.{lookup}
-use Rattle.wit_order.specs.Order.{Has}
-use Rattle.wit_types.specs.declared.«package».Package.{Package}
-use Rattle.wit_types.specs.declared.«package».PackageName.{PackageName}
-use Rattle.wit_types.specs.declared.«package».UnresolvedPackage.{UnresolvedPackage}
-use Rattle.wit_features.specs.Features.{FeatureSet}
+use Rattle.wit_moves.specs.Passed.wit_order-Order.{Has}
+use Rattle.wit_moves.specs.Passed.wit_types-declared-package-Package.{Package}
+use Rattle.wit_moves.specs.Passed.wit_types-declared-package-PackageName.{PackageName}
+use Rattle.wit_moves.specs.Passed.wit_types-declared-package-UnresolvedPackage.{UnresolvedPackage}
+use Rattle.wit_moves.specs.Passed.wit_features-Features.{FeatureSet}
 use Rattle.wit_finding.specs.declared.fault.FindFault.{FindFault}
 use Rattle.wit_finding.specs.declared.fault.FindFault.TheVariants.{PackageNotFound, ItemNotFound, OutOfMemory}
 use Rattle.wit_finding.specs.Packages.{AreNamed}

@@ -3,7 +3,7 @@ use Rattle.std.proofs.Common.{◌≡◌, ℕ, ◌<◌, ◌+◌, Bool, true, fals
 use Rattle.std.proofs.lemmas.List.{take_more}
 use Rattle.std.proofs.lemmas.Option.{same_Some, slice_get_within}
 use Rattle.std.specs.Prelude.{slice_get, is_some, IsSome}
-use Rattle.wit_order.specs.Order.{Has}
+use Rattle.wit_moves.specs.Passed.wit_order-Order.{Has}
 use Rattle.wit_moves.specs.Moved.{Places, flat}
 use Rattle.wit_finding.specs.Places.{AreKnown, ArePlacedBy, ArePlaced}
 use Rattle.wit_finding.proofs.Having.{has_was, has_last, has_more}

@@ -3,15 +3,15 @@ use Rattle.std.specs.Prelude.{◌≡◌, ◌<◌, ℕ, length, Bool, true, List,
 use Rattle.std.specs.List.{list_any}
 use Rattle.std.specs.declared.alloc.Global.{Global}
 use Rattle.indexmap.specs.IndexMap.{IndexMap, get_by}
-use Rattle.wit_order.specs.Order.{Has}
+use Rattle.wit_moves.specs.Passed.wit_order-Order.{Has}
 use Rattle.wit_words.specs.declared.source_map.Span.{Span}
-use Rattle.wit_types.specs.declared.interface.Interface.{Interface}
-use Rattle.wit_types.specs.declared.world.World.{World}
-use Rattle.wit_types.specs.declared.«package».AstItem.{AstItem}
-use Rattle.wit_types.specs.declared.«package».AstItem.TheVariants as asked
-use Rattle.wit_types.specs.declared.«package».Package.{Package}
-use Rattle.wit_types.specs.declared.stability.Stability.{Stability}
-use Rattle.wit_features.specs.Features.{FeatureSet, stays}
+use Rattle.wit_moves.specs.Passed.wit_types-declared-interface-Interface.{Interface}
+use Rattle.wit_moves.specs.Passed.wit_types-declared-world-World.{World}
+use Rattle.wit_moves.specs.Passed.wit_types-declared-package-AstItem.{AstItem}
+use Rattle.wit_moves.specs.Passed.wit_types-declared-package-AstItem-TheVariants as asked
+use Rattle.wit_moves.specs.Passed.wit_types-declared-package-Package.{Package}
+use Rattle.wit_moves.specs.Passed.wit_types-declared-stability-Stability.{Stability}
+use Rattle.wit_moves.specs.Passed.wit_features-Features.{FeatureSet, stays}
 use Rattle.wit_finding.specs.declared.fault.FindFault.{FindFault}
 use Rattle.wit_finding.specs.declared.fault.FindFault.TheVariants.{PackageNotFound, ItemNotFound, OutOfMemory}
 

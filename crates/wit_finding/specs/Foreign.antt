@@ -2,13 +2,13 @@
 use Rattle.std.specs.Prelude.{ℕ, ◌+◌, Bool, List, [], ◌∷◌, Vec, map}
 use Rattle.std.specs.declared.alloc.Global.{Global}
 use Rattle.wit_words.specs.declared.source_map.Span.{Span}
-use Rattle.wit_types.specs.declared.stability.Stability.{Stability}
-use Rattle.wit_types.specs.declared.«package».AstItem.{AstItem}
-use Rattle.wit_types.specs.declared.«package».AstItem.TheVariants as asked
-use Rattle.wit_types.specs.declared.«package».Package.{Package}
-use Rattle.wit_types.specs.declared.«package».PackageName.{PackageName}
-use Rattle.wit_types.specs.declared.«package».UnresolvedPackage.{UnresolvedPackage}
-use Rattle.wit_features.specs.Features.{FeatureSet}
+use Rattle.wit_moves.specs.Passed.wit_types-declared-stability-Stability.{Stability}
+use Rattle.wit_moves.specs.Passed.wit_types-declared-package-AstItem.{AstItem}
+use Rattle.wit_moves.specs.Passed.wit_types-declared-package-AstItem-TheVariants as asked
+use Rattle.wit_moves.specs.Passed.wit_types-declared-package-Package.{Package}
+use Rattle.wit_moves.specs.Passed.wit_types-declared-package-PackageName.{PackageName}
+use Rattle.wit_moves.specs.Passed.wit_types-declared-package-UnresolvedPackage.{UnresolvedPackage}
+use Rattle.wit_moves.specs.Passed.wit_features-Features.{FeatureSet}
 use Rattle.wit_moves.specs.Moved.{Places}
 use Rattle.wit_finding.specs.declared.counts.Counts.{Counts}
 use Rattle.wit_finding.specs.declared.fault.FindFault.{FindFault}

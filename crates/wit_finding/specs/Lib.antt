@@ -4,3 +4,4 @@ pub mod Places
 pub mod Types
 pub mod Own
 pub mod Foreign
+pub mod Passed

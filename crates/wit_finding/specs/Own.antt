@@ -1,7 +1,7 @@
 -- Where a package's own interfaces and worlds stand in a graph (WIT, Feature Gates).
 use Rattle.std.specs.Prelude.{ℕ, List, [], ◌∷◌}
-use Rattle.wit_types.specs.declared.stability.Stability.{Stability}
-use Rattle.wit_features.specs.Features.{FeatureSet, stays}
+use Rattle.wit_moves.specs.Passed.wit_types-declared-stability-Stability.{Stability}
+use Rattle.wit_moves.specs.Passed.wit_features-Features.{FeatureSet, stays}
 use Rattle.wit_moves.specs.Moved.{Places}
 use Rattle.wit_moves.specs.Plan.{Plan, with_place}
 

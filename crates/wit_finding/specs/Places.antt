@@ -1,8 +1,8 @@
 -- Where interfaces and worlds that are asked for stand in a graph.
 use Rattle.std.specs.Prelude.{◌≡◌, ◌<◌, ℕ, true, List, [], ◌∷◌, Option, Some, None, length, flat_map, IsSome}
-use Rattle.wit_order.specs.Order.{Has}
-use Rattle.wit_types.specs.declared.«package».AstItem.{AstItem}
-use Rattle.wit_types.specs.declared.«package».AstItem.TheVariants.{Interface, World}
+use Rattle.wit_moves.specs.Passed.wit_order-Order.{Has}
+use Rattle.wit_moves.specs.Passed.wit_types-declared-package-AstItem.{AstItem}
+use Rattle.wit_moves.specs.Passed.wit_types-declared-package-AstItem-TheVariants.{Interface, World}
 use Rattle.wit_moves.specs.Moved.{Places, place_of, is_placed}
 
 -- the number of an interface, and of a world

@@ -2,10 +2,10 @@
 use Rattle.std.specs.Prelude.{◌≡◌, ◌<◌, ℕ, List, Option, Some, None, String, length, slice_get, string_bytes, bytes_eq}
 use Rattle.std.specs.declared.alloc.Global.{Global}
 use Rattle.indexmap.specs.IndexMap.{get_by}
-use Rattle.wit_types.specs.declared.interface.Interface.{Interface}
-use Rattle.wit_types.specs.declared.interface.TypeDef.{TypeDef}
-use Rattle.wit_types.specs.declared.interface.TypeOwner.{TypeOwner}
-use Rattle.wit_types.specs.declared.interface.TypeOwner.TheVariants as belongs
+use Rattle.wit_moves.specs.Passed.wit_types-declared-interface-Interface.{Interface}
+use Rattle.wit_moves.specs.Passed.wit_types-declared-interface-TypeDef.{TypeDef}
+use Rattle.wit_moves.specs.Passed.wit_types-declared-interface-TypeOwner.{TypeOwner}
+use Rattle.wit_moves.specs.Passed.wit_types-declared-interface-TypeOwner-TheVariants as belongs
 use Rattle.wit_moves.specs.Moved.{Places, place_of}
 
 -- the type of that name, of an interface

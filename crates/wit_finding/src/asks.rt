@@ -2,17 +2,18 @@
 
 ghost use Rattle.std.specs.Prelude.{◌≡◌, ◌<◌, ℕ, ◌++◌, Some, None, length, map, slice_get, string_bytes, option_map, IfErr, OnOk, IfOk};
 ghost use Rattle.std.specs.List.{list_any};
-ghost use Rattle.wit_order.specs.Order.{Has};
+ghost use Rattle.wit_moves.specs.Passed.wit_order-Order.{Has};
 ghost use Rattle.wit_words.specs.declared.source_map.Span.{Span};
-ghost use Rattle.wit_features.specs.Features.{stays};
+ghost use Rattle.wit_moves.specs.Passed.wit_features-Features.{stays};
 ghost use Rattle.wit_finding.specs.Asks as spec;
 
 use crate::fault::FindFault;
 use indexmap::IndexMap;
 use std::alloc::{AllocError, Global};
 use std::hash::Hash;
-use wit_features::Features;
-use wit_types::{Arena, AstItem, ForeignItems, Interface, Package, PackageId, Stability, World};
+use wit_moves::{
+    Arena, AstItem, Features, ForeignItems, Interface, Package, PackageId, Stability, World,
+};
 use wit_words::Span;
 
 /// What asks: a package, as far as it says where it asks, where these features are active.

@@ -7,7 +7,7 @@ ghost use Rattle.wit_finding.specs.Foreign as spec;
 use indexmap::IndexMap;
 use std::alloc::AllocError;
 use std::hash::Hash;
-use wit_types::{AstItem, ForeignItems};
+use wit_moves::{AstItem, ForeignItems};
 
 /// How many interfaces and worlds are asked for.
 #[derive(Clone, Copy)]

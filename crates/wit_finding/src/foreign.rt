@@ -2,8 +2,8 @@
 
 ghost use Rattle.std.specs.Prelude.{◌≡◌, ◌<◌, ℕ, length, IfOk, IfErr, OnOk};
 ghost use Rattle.wit_words.specs.declared.source_map.Span.{Span};
-ghost use Rattle.wit_types.specs.declared.«package».PackageName.{PackageName};
-ghost use Rattle.wit_order.specs.Order.{Has};
+ghost use Rattle.wit_moves.specs.Passed.wit_types-declared-package-PackageName.{PackageName};
+ghost use Rattle.wit_moves.specs.Passed.wit_order-Order.{Has};
 ghost use Rattle.wit_finding.specs.Asks.{AreDepsThere, AskBreaks, IsAskCause, items_of, found_by};
 ghost use Rattle.wit_finding.specs.Places.{interface_pairs, world_pairs, ArePlaced};
 ghost use Rattle.wit_finding.specs.Foreign as spec;
@@ -15,9 +15,9 @@ use crate::packages::packages_named;
 use crate::places::{found_interfaces, found_worlds};
 use indexmap::IndexMap;
 use std::alloc::{AllocError, Global};
-use wit_features::Features;
-use wit_moves::OwnerPlaces;
-use wit_types::{Arena, AstItem, Package, PackageId, PackageName, UnresolvedPackage};
+use wit_moves::{
+    Arena, AstItem, Features, OwnerPlaces, Package, PackageId, PackageName, UnresolvedPackage,
+};
 
 /// The packages of a graph, and their names.
 #[derive(Clone, Copy)]

@@ -5,9 +5,7 @@ ghost use Rattle.wit_moves.specs.Plan.{with_place};
 ghost use Rattle.wit_finding.specs.Own as spec;
 
 use std::alloc::AllocError;
-use wit_features::Features;
-use wit_moves::{InterfacePlaces, Places, WorldPlaces};
-use wit_types::{Id, Interface, World};
+use wit_moves::{Features, Id, Interface, InterfacePlaces, Places, World, WorldPlaces};
 
 /// Says where the next one stands: at that place, if it stays. Answers the place that is next then.
 fn place_own<T>(places: &mut Places<T>, next: usize, stays: bool) -> Result<usize, AllocError>

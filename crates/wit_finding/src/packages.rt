@@ -7,7 +7,7 @@ use crate::fault::FindFault;
 use indexmap::IndexMap;
 use std::alloc::Global;
 use std::hash::Hash;
-use wit_types::PackageId;
+use wit_moves::PackageId;
 use wit_words::Span;
 
 /// Where the name of a number is said to stand.

@@ -6,8 +6,7 @@ ghost use Rattle.wit_finding.specs.Places as spec;
 
 use indexmap::IndexMap;
 use std::alloc::{AllocError, Global};
-use wit_moves::{InterfacePlaces, Places, WorldPlaces};
-use wit_types::{AstItem, Id};
+use wit_moves::{AstItem, Id, InterfacePlaces, Places, WorldPlaces};
 
 /// The number of an interface.
 fn interface_number(item: &AstItem) -> Option<usize>

@@ -4,8 +4,7 @@ ghost use Rattle.std.specs.Prelude.{◌≡◌, ◌++◌, ◌∷◌, [], Some, ma
 ghost use Rattle.wit_finding.specs.Types as spec;
 
 use std::alloc::{AllocError, Global};
-use wit_moves::{InterfacePlaces, TypePlaces};
-use wit_types::{Arena, Interface, TypeDef, TypeId, TypeOwner};
+use wit_moves::{Arena, Interface, InterfacePlaces, TypeDef, TypeId, TypeOwner, TypePlaces};
 
 /// The type of that name, of an interface.
 fn type_in(interface: &Interface, name: &Option<String>) -> Option<TypeId>

@@ -5,11 +5,11 @@ use Rattle.std.proofs.lemmas.List.{length-map}
 use Rattle.std.specs.Map.{lookup}
 use Rattle.std.specs.Prelude.{Vec, slice_get, option_map}
 use Rattle.std.specs.declared.alloc.Global.{Global}
-use Rattle.wit_rules.proofs.Places.{read_at}
+use Rattle.wit_lookups.proofs.Passed.wit_rules-Places.{read_at}
 use Rattle.wit_types.specs.declared.stability.Stability.{Stability}
 use Rattle.wit_lookups.proofs.Asking.{taken_at}
-use Rattle.wit_arena.specs.Meaning.{Has}
-use Rattle.wit_arena.proofs.Lists.{get_kept, get_last, get_more, has_none, has_here, has_later}
+use Rattle.wit_package_types.specs.Passed.wit_arena-Meaning.{Has}
+use Rattle.wit_package_types.proofs.Passed.wit_arena-Lists.{get_kept, get_last, get_more, has_none, has_here, has_later}
 use Rattle.wit_package_types.specs.Stability.{AreGates, IsStabilityOf}
 use Rattle.wit_foreign.specs.declared.needs.Need.{Need}
 use Rattle.wit_foreign.specs.View as seen

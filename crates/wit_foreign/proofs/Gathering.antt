@@ -5,9 +5,9 @@ use Rattle.std.proofs.lemmas.List.{map_more}
 use Rattle.std.specs.Prelude.{slice_get, option_map}
 use Rattle.wit_types.specs.declared.«package».AstItem.{AstItem}
 use Rattle.wit_types.specs.declared.«package».AstItem.TheVariants as ids
-use Rattle.wit_arena.specs.Tree.{Owner}
-use Rattle.wit_arena.specs.Meaning.{Has}
-use Rattle.wit_arena.proofs.Lists.{get_kept, get_last, get_more, has_left, has_none}
+use Rattle.wit_package_types.specs.Passed.wit_arena-Tree.{Owner}
+use Rattle.wit_package_types.specs.Passed.wit_arena-Meaning.{Has}
+use Rattle.wit_package_types.proofs.Passed.wit_arena-Lists.{get_kept, get_last, get_more, has_left, has_none}
 use Rattle.wit_foreign.specs.declared.needs.Need.{Need}
 use Rattle.wit_foreign.specs.View as seen
 use Rattle.wit_foreign.specs.Needs.{NeedTree}

@@ -10,10 +10,10 @@ use Rattle.std.specs.Prelude.{Vec, slice_get, option_map}
 use Rattle.std.specs.declared.alloc.Global.{Global}
 use Rattle.name_places.specs.FirstPlaces.{place_of}
 use Rattle.name_places.proofs.Places.{place-is_some}
-use Rattle.wit_arena.specs.Tree.{Name}
-use Rattle.wit_arena.specs.Meaning.{Has}
-use Rattle.wit_arena.proofs.Lists.{get_more, has_none, has_cases, has_here, has_later, has_left, has_map, map_has}
-use Rattle.wit_arena.proofs.Unfolding.{option_map_some}
+use Rattle.wit_package_types.specs.Passed.wit_arena-Tree.{Name}
+use Rattle.wit_package_types.specs.Passed.wit_arena-Meaning.{Has}
+use Rattle.wit_package_types.proofs.Passed.wit_arena-Lists.{get_more, has_none, has_cases, has_here, has_later, has_left, has_map, map_has}
+use Rattle.wit_package_types.proofs.Passed.wit_arena-Unfolding.{option_map_some}
 use Rattle.wit_foreign.specs.declared.needs.Need.{Need}
 use Rattle.wit_foreign.specs.declared.groups.PackagePath.{PackagePath}
 use Rattle.wit_foreign.specs.View as seen

@@ -5,10 +5,10 @@ use Rattle.wit_types.specs.declared.«package».AstItem.{AstItem}
 use Rattle.wit_types.specs.declared.«package».AstItem.TheVariants as ids
 use Rattle.wit_lookups.specs.declared.asks.Asked.{Asked}
 use Rattle.wit_lookups.specs.declared.asks.Asked.TheVariants.{Interface, World}
-use Rattle.wit_arena.specs.Tree.{Name, Place, in_interface, in_world, in_listed, Owner}
-use Rattle.wit_arena.specs.Meaning.{Has}
-use Rattle.wit_arena.proofs.Lists.{has_map, map_has}
-use Rattle.wit_arena.proofs.Tables.{keyed_found, keyed_none, keyed_absent}
+use Rattle.wit_package_types.specs.Passed.wit_arena-Tree.{Name, Place, in_interface, in_world, in_listed, Owner}
+use Rattle.wit_package_types.specs.Passed.wit_arena-Meaning.{Has}
+use Rattle.wit_package_types.proofs.Passed.wit_arena-Lists.{has_map, map_has}
+use Rattle.wit_package_types.proofs.Passed.wit_arena-Tables.{keyed_found, keyed_none, keyed_absent}
 use Rattle.wit_foreign.specs.declared.items.ItemPath.{ItemPath}
 use Rattle.wit_foreign.specs.Items.{Items, place_asked, id_asked}
 use Rattle.wit_foreign.specs.ItemView.{path_owner, item_entries}

@@ -11,3 +11,4 @@ mod Grouping
 mod Depending
 mod PackageNames
 mod Parting
+pub mod Passed

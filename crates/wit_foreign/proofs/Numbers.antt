@@ -5,8 +5,8 @@ use Rattle.std.proofs.lemmas.Bool.{cases_lt}
 use Rattle.std.specs.Prelude.{slice_get}
 use Rattle.wit_types.specs.declared.«package».AstItem.{AstItem}
 use Rattle.wit_types.specs.declared.«package».AstItem.TheVariants as ids
-use Rattle.wit_arena.specs.Tree.{Place, in_interface, in_world, in_listed, Owner}
-use Rattle.wit_arena.specs.Meaning.{Has}
+use Rattle.wit_package_types.specs.Passed.wit_arena-Tree.{Place, in_interface, in_world, in_listed, Owner}
+use Rattle.wit_package_types.specs.Passed.wit_arena-Meaning.{Has}
 use Rattle.wit_foreign.specs.Needs.{NeedTree}
 use Rattle.wit_foreign.specs.Items.{Items, interface_count, world_count, interfaces_in, worlds_in, IsNumbered, AreItemsOf}
 

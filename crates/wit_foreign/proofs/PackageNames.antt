@@ -9,11 +9,11 @@ use Rattle.semver.specs.declared.Version.{Version}
 use Rattle.semver.specs.Identifiers.{pre_text, build_text, parts_of, parts_text}
 use Rattle.semver.proofs.Grammar.{version_parts-sound}
 use Rattle.wit_words.specs.Slice.{Slice}
-use Rattle.wit_syntax.specs.Ast.{PackageNameTree}
+use Rattle.wit_lookups.specs.Passed.wit_syntax-Ast.{PackageNameTree}
 use Rattle.wit_types.specs.declared.«package».PackageName.{PackageName}
 use Rattle.wit_types.specs.contracts.«package».PackageNamePartialEq.TheImpl as name_test
-use Rattle.wit_arena.specs.Tree.{Name, PackageText}
-use Rattle.wit_arena.specs.Meaning.{package_text}
+use Rattle.wit_package_types.specs.Passed.wit_arena-Tree.{Name, PackageText}
+use Rattle.wit_package_types.specs.Passed.wit_arena-Meaning.{package_text}
 use Rattle.wit_package_types.specs.Stability.{IsVersionOf, IsVersionWhere, no_version, a_version}
 use Rattle.wit_foreign.specs.Deps.{IsPackageName}
 

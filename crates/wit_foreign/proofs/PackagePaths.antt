@@ -3,7 +3,7 @@ use Rattle.std.proofs.Common.{◌≡◌, Bool, ◌&&◌, Option, Some, None, byt
 use Rattle.std.proofs.lemmas.Bool.{and_parts}
 use Rattle.std.proofs.lemmas.Slice.Eq.{bytes_eq-Decides}
 use Rattle.std.specs.Bool.{Decides}
-use Rattle.wit_arena.specs.Tree.{PackageText}
+use Rattle.wit_package_types.specs.Passed.wit_arena-Tree.{PackageText}
 use Rattle.wit_foreign.specs.GroupView.{path_text}
 use Rattle.wit_foreign.specs.declared.groups.PackagePath.{PackagePath}
 use Rattle.wit_foreign.specs.contracts.groups.PackagePathPartialEq.TheImpl as path_test

@@ -2,8 +2,8 @@
 use Rattle.std.proofs.Common.{◌≡◌, ℕ, ◌+◌, ◌<◌, zero, suc, List, [], ◌∷◌, ◌++◌, ◌⊎◌, inl, inr, length, length-set, Some, set, refl, sym, subst, ap, ◌∙◌, arith}
 use Rattle.std.proofs.lemmas.Option.{same_Some, slice_get_within}
 use Rattle.std.specs.Prelude.{slice_get}
-use Rattle.wit_arena.specs.Meaning.{Has}
-use Rattle.wit_arena.proofs.Lists.{get_kept, get_more, has_left, has_none}
+use Rattle.wit_package_types.specs.Passed.wit_arena-Meaning.{Has}
+use Rattle.wit_package_types.proofs.Passed.wit_arena-Lists.{get_kept, get_more, has_left, has_none}
 use Rattle.wit_foreign.specs.Needs.{NeedTree}
 use Rattle.wit_foreign.specs.Groups.{AddsNeed, joins, begins, AreGroups, no_groups, one_need_more, IsPart, no_part, of_key, of_another, AreParts}
 use Rattle.wit_foreign.proofs.Gathering.{length_more, has_last}

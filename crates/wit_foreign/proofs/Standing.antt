@@ -6,13 +6,13 @@ use Rattle.wit_words.specs.declared.source_map.Span.{Span}
 use Rattle.wit_types.specs.declared.kind.«Type».TheVariants.{Id}
 use Rattle.wit_types.specs.declared.kind.TypeDefKind.TheVariants as kind
 use Rattle.wit_types.specs.declared.interface.TypeDef.{TypeDef}
-use Rattle.wit_rules.proofs.Places.{taken}
-use Rattle.wit_arena.specs.Tree.{Name, in_interface, Owner, Tree}
-use Rattle.wit_arena.specs.Meaning.{Has}
-use Rattle.wit_arena.specs.Unfold.{Owners, owner_of, IsWhole}
-use Rattle.wit_arena.specs.Standing.{HasTree, Grows, IsDefinedAs, StandForTheirMeaning}
-use Rattle.wit_arena.proofs.Growing.{ref_grown}
-use Rattle.wit_arena.proofs.Meanings.{types_stand_for_their_meaning}
+use Rattle.wit_lookups.proofs.Passed.wit_rules-Places.{taken}
+use Rattle.wit_package_types.specs.Passed.wit_arena-Tree.{Name, in_interface, Owner, Tree}
+use Rattle.wit_package_types.specs.Passed.wit_arena-Meaning.{Has}
+use Rattle.wit_package_types.specs.Passed.wit_arena-Unfold.{Owners, owner_of, IsWhole}
+use Rattle.wit_package_types.specs.Passed.wit_arena-Standing.{HasTree, Grows, IsDefinedAs, StandForTheirMeaning}
+use Rattle.wit_package_types.proofs.Passed.wit_arena-Growing.{ref_grown}
+use Rattle.wit_package_types.proofs.Passed.wit_arena-Meanings.{types_stand_for_their_meaning}
 use Rattle.wit_package_types.specs.Foreign.{ForeignName}
 use Rattle.wit_foreign.specs.Needs.{NeedTree}
 use Rattle.wit_foreign.specs.Items.{Items}

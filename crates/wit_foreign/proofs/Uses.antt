@@ -2,13 +2,13 @@
 use Rattle.std.proofs.Common.{◌≡◌, suc, List, [], ◌∷◌, ◌++◌, inl, inr, Option, Some, None, sym, ap, ◌∙◌}
 use Rattle.std.specs.Prelude.{flat_map}
 use Rattle.wit_words.specs.Slice.{Slice}
-use Rattle.wit_items.specs.ItemTree.{AttributeTree}
-use Rattle.wit_scopes.specs.Paths.{TargetTree, own, foreign}
-use Rattle.wit_scopes.specs.Members.{MemberKind, MemberTree, used, defined, function, method, static, constructor}
-use Rattle.wit_scopes.specs.Scopes as scope
-use Rattle.wit_scopes.specs.Scopes.{ExternKind, WorldMemberTree, ItemScope}
+use Rattle.wit_lookups.specs.Passed.wit_items-ItemTree.{AttributeTree}
+use Rattle.wit_lookups.specs.Passed.wit_scopes-Paths.{TargetTree, own, foreign}
+use Rattle.wit_lookups.specs.Passed.wit_scopes-Members.{MemberKind, MemberTree, used, defined, function, method, static, constructor}
+use Rattle.wit_lookups.specs.Passed.wit_scopes-Scopes as scope
+use Rattle.wit_lookups.specs.Passed.wit_scopes-Scopes.{ExternKind, WorldMemberTree, ItemScope}
 use Rattle.wit_lookups.specs.declared.asks.Asked.TheVariants.{Interface, World}
-use Rattle.wit_arena.proofs.Lists.{has_none, has_cases}
+use Rattle.wit_package_types.proofs.Passed.wit_arena-Lists.{has_none, has_cases}
 use Rattle.wit_foreign.specs.Needs.{NeedTree, AreUses, path_needs, kind_needs, member_needs, extern_needs, world_member_needs, item_needs, needs_in}
 
 none_used : AreUses []

@@ -7,10 +7,10 @@ use Rattle.wit_words.specs.Slice.{Slice}
 use Rattle.wit_types.specs.declared.interface.TypeDef.{TypeDef}
 use Rattle.wit_types.specs.declared.«package».AstItem.TheVariants as ids
 use Rattle.wit_lookups.specs.declared.asks.Asked.{Asked}
-use Rattle.wit_arena.specs.Tree.{Owner}
-use Rattle.wit_arena.specs.Meaning.{Has}
-use Rattle.wit_arena.proofs.Lists.{get_kept, get_last, get_more, has_left, has_none}
-use Rattle.wit_arena.proofs.Unfolding.{option_map_some}
+use Rattle.wit_package_types.specs.Passed.wit_arena-Tree.{Owner}
+use Rattle.wit_package_types.specs.Passed.wit_arena-Meaning.{Has}
+use Rattle.wit_package_types.proofs.Passed.wit_arena-Lists.{get_kept, get_last, get_more, has_left, has_none}
+use Rattle.wit_package_types.proofs.Passed.wit_arena-Unfolding.{option_map_some}
 use Rattle.wit_package_types.specs.Foreign.{ForeignName, owner_in}
 use Rattle.wit_foreign.specs.declared.needs.Need.{Need}
 use Rattle.wit_foreign.specs.View as seen

@@ -3,12 +3,12 @@ use Rattle.std.specs.Prelude.{◌≡◌, ℕ, List, [], ◌∷◌, ◌++◌, Vec
 use Rattle.std.specs.declared.alloc.Global.{Global}
 use Rattle.indexmap.specs.IndexMap.{IndexMap}
 use Rattle.wit_words.specs.declared.source_map.Span.{Span}
-use Rattle.wit_syntax.specs.Ast.{PackageNameTree}
+use Rattle.wit_lookups.specs.Passed.wit_syntax-Ast.{PackageNameTree}
 use Rattle.wit_types.specs.declared.«package».AstItem.{AstItem}
 use Rattle.wit_types.specs.declared.«package».PackageName.{PackageName}
 use Rattle.wit_types.specs.declared.stability.Stability.{Stability}
-use Rattle.wit_rules.specs.Facts.{name_span}
-use Rattle.wit_arena.specs.Meaning.{Has}
+use Rattle.wit_lookups.specs.Passed.wit_rules-Facts.{name_span}
+use Rattle.wit_package_types.specs.Passed.wit_arena-Meaning.{Has}
 use Rattle.wit_package_types.specs.Stability.{IsReadWhere, IsVersionWhere, AreGates, IsStabilityOf}
 use Rattle.wit_foreign.specs.Needs.{NeedTree}
 use Rattle.wit_foreign.specs.Items.{Items, need_owner}

@@ -1,7 +1,7 @@
 -- Needs in parts, as values.
 use Rattle.std.specs.Prelude.{List, Vec, map, option_map}
 use Rattle.std.specs.declared.alloc.Global.{Global}
-use Rattle.wit_arena.specs.Tree.{PackageText}
+use Rattle.wit_package_types.specs.Passed.wit_arena-Tree.{PackageText}
 use Rattle.wit_foreign.specs.declared.needs.Need.{Need}
 use Rattle.wit_foreign.specs.declared.groups.PackagePath.{PackagePath}
 use Rattle.wit_foreign.specs.Needs.{NeedTree}

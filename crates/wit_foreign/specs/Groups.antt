@@ -1,7 +1,7 @@
 -- Needs that are parted by what they ask for.
 use Rattle.std.specs.Prelude.{◌≡◌, ℕ, List, [], ◌∷◌, ◌++◌, Some, slice_get, set, ◌<◌, length}
-use Rattle.wit_arena.specs.Tree.{Name, PackageText}
-use Rattle.wit_arena.specs.Meaning.{Has, package_text}
+use Rattle.wit_package_types.specs.Passed.wit_arena-Tree.{Name, PackageText}
+use Rattle.wit_package_types.specs.Passed.wit_arena-Meaning.{Has, package_text}
 use Rattle.wit_foreign.specs.Needs.{NeedTree}
 
 -- one need more: it goes to the end of the part of its key, or begins a part, which goes last

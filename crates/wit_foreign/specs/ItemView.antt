@@ -1,6 +1,6 @@
 -- What paths of items stand for.
 use Rattle.std.specs.Prelude.{ℕ, List, map, option_map}
-use Rattle.wit_arena.specs.Tree.{Owner}
+use Rattle.wit_package_types.specs.Passed.wit_arena-Tree.{Owner}
 use Rattle.wit_foreign.specs.declared.items.ItemPath.{ItemPath}
 use Rattle.wit_foreign.specs.Items.{Items, place_asked, id_asked}
 

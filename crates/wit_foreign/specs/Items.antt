@@ -1,13 +1,13 @@
 -- The interfaces and worlds of other packages that are asked for, each with an id.
 use Rattle.std.specs.Prelude.{◌≡◌, ℕ, ◌+◌, ◌<◌, List, [], ◌∷◌, ◌++◌, Some, take, slice_get}
 use Rattle.wit_words.specs.Slice.{Slice}
-use Rattle.wit_syntax.specs.Ast.{PackageNameTree}
+use Rattle.wit_lookups.specs.Passed.wit_syntax-Ast.{PackageNameTree}
 use Rattle.wit_types.specs.declared.«package».AstItem.{AstItem}
 use Rattle.wit_types.specs.declared.«package».AstItem.TheVariants as ids
 use Rattle.wit_lookups.specs.declared.asks.Asked.{Asked}
 use Rattle.wit_lookups.specs.declared.asks.Asked.TheVariants.{Interface, World}
-use Rattle.wit_arena.specs.Tree.{Name, Place, in_interface, in_world, in_listed, Owner}
-use Rattle.wit_arena.specs.Meaning.{Has, package_text}
+use Rattle.wit_package_types.specs.Passed.wit_arena-Tree.{Name, Place, in_interface, in_world, in_listed, Owner}
+use Rattle.wit_package_types.specs.Passed.wit_arena-Meaning.{Has, package_text}
 use Rattle.wit_foreign.specs.Needs.{NeedTree}
 
 -- ---- whose it is

@@ -6,3 +6,4 @@ pub mod Unknown
 pub mod Deps
 pub mod Groups
 pub mod GroupView
+pub mod Passed

@@ -1,15 +1,15 @@
 -- What a package asks of other packages (WIT, Use, Item: `world`).
 use Rattle.std.specs.Prelude.{◌≡◌, List, [], ◌∷◌, flat_map, Option, Some, None}
 use Rattle.wit_words.specs.Slice.{Slice}
-use Rattle.wit_items.specs.ItemTree.{AttributeTree}
-use Rattle.wit_syntax.specs.Ast.{PackageNameTree}
-use Rattle.wit_scopes.specs.Paths.{TargetTree, own, foreign}
-use Rattle.wit_scopes.specs.Members.{MemberKind, MemberTree, used, defined, function, method, static, constructor}
-use Rattle.wit_scopes.specs.Scopes as scope
-use Rattle.wit_scopes.specs.Scopes.{ExternKind, WorldMemberTree, ItemScope}
+use Rattle.wit_lookups.specs.Passed.wit_items-ItemTree.{AttributeTree}
+use Rattle.wit_lookups.specs.Passed.wit_syntax-Ast.{PackageNameTree}
+use Rattle.wit_lookups.specs.Passed.wit_scopes-Paths.{TargetTree, own, foreign}
+use Rattle.wit_lookups.specs.Passed.wit_scopes-Members.{MemberKind, MemberTree, used, defined, function, method, static, constructor}
+use Rattle.wit_lookups.specs.Passed.wit_scopes-Scopes as scope
+use Rattle.wit_lookups.specs.Passed.wit_scopes-Scopes.{ExternKind, WorldMemberTree, ItemScope}
 use Rattle.wit_lookups.specs.declared.asks.Asked.{Asked}
 use Rattle.wit_lookups.specs.declared.asks.Asked.TheVariants.{Interface, World}
-use Rattle.wit_arena.specs.Meaning.{Has}
+use Rattle.wit_package_types.specs.Passed.wit_arena-Meaning.{Has}
 
 -- an interface or a world of another package, and the type that is used from it, by its name there, with what stands in front of what asks for it
 pub record NeedTree : Type 0 where

@@ -8,10 +8,10 @@ use Rattle.wit_types.specs.declared.interface.TypeOwner.TheVariants as belongs
 use Rattle.wit_types.specs.declared.stability.Stability.TheVariants as stability
 use Rattle.wit_types.specs.declared.«package».AstItem.{AstItem}
 use Rattle.wit_types.specs.declared.«package».AstItem.TheVariants as ids
-use Rattle.wit_arena.specs.Tree.{Name, Owner, Tree}
-use Rattle.wit_arena.specs.Meaning.{Has}
-use Rattle.wit_arena.specs.Unfold.{Owners, IsWhole}
-use Rattle.wit_arena.specs.Standing.{HasTree}
+use Rattle.wit_package_types.specs.Passed.wit_arena-Tree.{Name, Owner, Tree}
+use Rattle.wit_package_types.specs.Passed.wit_arena-Meaning.{Has}
+use Rattle.wit_package_types.specs.Passed.wit_arena-Unfold.{Owners, IsWhole}
+use Rattle.wit_package_types.specs.Passed.wit_arena-Standing.{HasTree}
 use Rattle.wit_package_types.specs.Foreign.{ForeignName, foreign_name}
 use Rattle.wit_foreign.specs.Needs.{NeedTree}
 use Rattle.wit_foreign.specs.Items.{Items}

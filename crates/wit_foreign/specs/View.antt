@@ -1,6 +1,6 @@
 -- What is asked of other packages, as values.
 use Rattle.std.specs.Prelude.{List, map, option_map}
-use Rattle.wit_syntax.specs.AstView as view
+use Rattle.wit_lookups.specs.Passed.wit_syntax-AstView as view
 use Rattle.wit_foreign.specs.declared.needs.Need.{Need}
 use Rattle.wit_foreign.specs.Needs.{NeedTree}
 

@@ -1,10 +1,10 @@
 //! What is asked of each other package.
 
 ghost use Rattle.std.specs.Prelude.{◌≡◌, ℕ, ◌∷◌, ◌++◌, [], List, map, length, string_bytes, IfOk, OnOk};
-ghost use Rattle.wit_syntax.specs.Ast.{PackageNameTree};
+ghost use Rattle.wit_lookups.specs.Passed.wit_syntax-Ast.{PackageNameTree};
 ghost use Rattle.wit_types.specs.declared.«package».AstItem.{AstItem};
-ghost use Rattle.wit_syntax.specs.AstView as view;
-ghost use Rattle.wit_arena.specs.Meaning.{Has, package_text};
+ghost use Rattle.wit_lookups.specs.Passed.wit_syntax-AstView as view;
+ghost use Rattle.wit_package_types.specs.Passed.wit_arena-Meaning.{Has, package_text};
 ghost use Rattle.wit_package_types.specs.Stability.{IsReadWhere};
 ghost use Rattle.wit_foreign.specs.Needs.{NeedTree};
 ghost use Rattle.wit_foreign.specs.View as seen;
@@ -18,9 +18,8 @@ use crate::items::ForeignItems;
 use crate::needs::Need;
 use indexmap::IndexMap;
 use std::alloc::{AllocError, Global};
+use wit_lookups::{Span, name_span};
 use wit_package_types::{optional_version, stability_in};
-use wit_rules::name_span;
-use wit_syntax::Span;
 use wit_types::{AstItem, PackageName, Stability};
 
 /// What is asked of other packages.
@@ -117,7 +116,7 @@ fn item_deps<'a>(
 /// The name of a package, whose version `semver` reads.
 pub fn package_name(
     alloc: Global,
-    name: &wit_syntax::PackageName<'_>,
+    name: &wit_lookups::PackageName<'_>,
 ) -> Result<PackageName, AllocError>
     requires { IsReadWhere (view.package_name name.now).version }
     ensures { IfOk result (spec.IsPackageName (view.package_name name.now)) }

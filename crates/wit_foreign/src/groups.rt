@@ -1,8 +1,8 @@
 //! Needs that are parted by what they ask for.
 
 ghost use Rattle.std.specs.Prelude.{◌≡◌, ℕ, ◌<◌, List, ◌∷◌, ◌++◌, [], Some, slice_get, set, map, length, IfOk, OnOk, IfSome, IfNone};
-ghost use Rattle.wit_syntax.specs.AstView as view;
-ghost use Rattle.wit_arena.specs.Meaning.{Has, package_text};
+ghost use Rattle.wit_lookups.specs.Passed.wit_syntax-AstView as view;
+ghost use Rattle.wit_package_types.specs.Passed.wit_arena-Meaning.{Has, package_text};
 ghost use Rattle.wit_foreign.specs.Needs.{NeedTree};
 ghost use Rattle.wit_foreign.specs.View as seen;
 ghost use Rattle.wit_foreign.specs.GroupView as parts;
@@ -12,7 +12,7 @@ use crate::needs::Need;
 use indexmap::IndexSet;
 use name_places::FirstPlaces;
 use std::alloc::{AllocError, Global};
-use wit_syntax::PackageName;
+use wit_lookups::PackageName;
 
 /// Needs in parts, in the order in which each first comes.
 #[derive(Drop)]

@@ -2,9 +2,9 @@
 
 ghost use Rattle.std.specs.Prelude.{◌≡◌, ℕ, ◌+◌, ◌^◌, ◌<◌, ◌∷◌, ◌++◌, [], length, OnErr, OnOk, IfOk, IfSome, IfNone};
 ghost use Rattle.wit_types.specs.declared.«package».AstItem.{AstItem};
-ghost use Rattle.wit_syntax.specs.AstView as view;
-ghost use Rattle.wit_arena.specs.Tree.{Name};
-ghost use Rattle.wit_arena.specs.Meaning.{Has};
+ghost use Rattle.wit_lookups.specs.Passed.wit_syntax-AstView as view;
+ghost use Rattle.wit_package_types.specs.Passed.wit_arena-Tree.{Name};
+ghost use Rattle.wit_package_types.specs.Passed.wit_arena-Meaning.{Has};
 ghost use Rattle.wit_foreign.specs.View as seen;
 ghost use Rattle.wit_foreign.specs.ItemView.{path_owner};
 ghost use Rattle.wit_foreign.specs.Items as spec;
@@ -13,8 +13,7 @@ use crate::needs::Need;
 use indexmap::IndexMap;
 use std::alloc::{AllocError, Global};
 use std::marker::Model;
-use wit_lookups::Asked;
-use wit_syntax::{Id, PackageName};
+use wit_lookups::{Asked, Id, PackageName};
 use wit_types::{AstItem, InterfaceId, WorldId};
 
 /// An interface or a world of another package, by its texts. `==` compares these.

@@ -14,3 +14,5 @@ pub use items::{ForeignItems, ItemPath, foreign_items};
 pub use law::law_unknown_types_stand_for_what_is_given;
 pub use needs::{Need, foreign_needs};
 pub use unknown::{Unknown, add_unknown_types};
+pub use wit_lookups::Asked;
+pub use wit_package_types::{Known, stability_in};

@@ -1,16 +1,17 @@
 //! What is asked for of other packages.
 
 ghost use Rattle.std.specs.Prelude.{◌≡◌, ◌++◌, map, flat_map, option_map, IfOk, OnOk};
-ghost use Rattle.wit_syntax.specs.AstView as view;
-ghost use Rattle.wit_scopes.specs.View as scope_view;
+ghost use Rattle.wit_lookups.specs.Passed.wit_syntax-AstView as view;
+ghost use Rattle.wit_lookups.specs.Passed.wit_scopes-View as scope_view;
 ghost use Rattle.wit_foreign.specs.Needs as spec;
 ghost use Rattle.wit_foreign.specs.View as seen;
 
 use std::alloc::{AllocError, Global};
 use std::rc::Rc;
-use wit_lookups::Asked;
-use wit_scopes::{ExternKind, Front, ItemScope, Listed, Member, MemberKind, Target, WorldMember};
-use wit_syntax::{Id, PackageName};
+use wit_lookups::{
+    Asked, ExternKind, Front, Id, ItemScope, Listed, Member, MemberKind, PackageName, Target,
+    WorldMember,
+};
 
 /// An interface or a world of another package that is asked for.
 #[derive(Drop)]

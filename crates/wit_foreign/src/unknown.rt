@@ -4,8 +4,8 @@ ghost use Rattle.std.specs.Prelude.{◌≡◌, ℕ, ◌∷◌, ◌++◌, [], Som
 ghost use Rattle.wit_types.specs.declared.interface.TypeDef.{TypeDef};
 ghost use Rattle.wit_types.specs.declared.«package».AstItem.TheVariants as ids;
 ghost use Rattle.wit_words.specs.Slice.{Slice};
-ghost use Rattle.wit_syntax.specs.AstView as view;
-ghost use Rattle.wit_arena.specs.Meaning.{Has};
+ghost use Rattle.wit_lookups.specs.Passed.wit_syntax-AstView as view;
+ghost use Rattle.wit_package_types.specs.Passed.wit_arena-Meaning.{Has};
 ghost use Rattle.wit_package_types.specs.Foreign.{owner_in, path_name};
 ghost use Rattle.wit_foreign.specs.Needs.{AreUses};
 ghost use Rattle.wit_foreign.specs.View as seen;
@@ -15,10 +15,8 @@ ghost use Rattle.wit_foreign.specs.Unknown as spec;
 use crate::items::ForeignItems;
 use crate::needs::Need;
 use std::alloc::{AllocError, Global};
-use wit_arena::Types;
-use wit_lookups::Asked;
-use wit_package_types::{ForeignTypes, TypePath};
-use wit_syntax::{Id, Span};
+use wit_lookups::{Asked, Id, Span};
+use wit_package_types::{ForeignTypes, TypePath, Types};
 use wit_types::{AstItem, Docs, InterfaceId, Stability, TypeDef, TypeDefKind, TypeOwner};
 
 /// Types of other packages of which nothing is known but their names.

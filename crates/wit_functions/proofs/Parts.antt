@@ -5,16 +5,16 @@ use Rattle.wit_words.specs.Slice.{Slice}
 use Rattle.wit_types.specs.declared.kind.«Type».{«Type» as Ref}
 use Rattle.wit_types.specs.declared.function.Param.{Param}
 use Rattle.wit_types.specs.declared.interface.TypeDef.{TypeDef}
-use Rattle.wit_productions.specs.TypeTree as written
-use Rattle.wit_productions.specs.TypeTree.{TypeTree, TypeOption, standing, opt, a_type}
-use Rattle.wit_items.specs.ItemTree.{ParamTree}
-use Rattle.wit_type_names.specs.TypeNames.{names_in_part, names_in_parts, param_parts, signature_parts}
-use Rattle.wit_scopes.proofs.Lists.{flat_map-push}
-use Rattle.wit_arena.specs.Table.{Entries}
-use Rattle.wit_arena.specs.Lower.{AreThere, Lowers, LowersPart, lowers_a_type, LowersParts, lowers_none, lowers_more}
-use Rattle.wit_arena.specs.LowerKind.{Label}
-use Rattle.wit_arena.specs.LowerParams.{written_param, param_label, LowersParams}
-use Rattle.wit_arena.proofs.Lists.{has_left, has_right, has_later}
+use Rattle.wit_package_types.specs.Passed.wit_productions-TypeTree as written
+use Rattle.wit_package_types.specs.Passed.wit_productions-TypeTree.{TypeTree, TypeOption, standing, opt, a_type}
+use Rattle.wit_package_types.specs.Passed.wit_items-ItemTree.{ParamTree}
+use Rattle.wit_package_types.specs.Passed.wit_type_names-TypeNames.{names_in_part, names_in_parts, param_parts, signature_parts}
+use Rattle.wit_package_types.proofs.Passed.wit_scopes-Lists.{flat_map-push}
+use Rattle.wit_package_types.specs.Passed.wit_arena-Table.{Entries}
+use Rattle.wit_package_types.specs.Passed.wit_arena-Lower.{AreThere, Lowers, LowersPart, lowers_a_type, LowersParts, lowers_none, lowers_more}
+use Rattle.wit_package_types.specs.Passed.wit_arena-LowerKind.{Label}
+use Rattle.wit_package_types.specs.Passed.wit_arena-LowerParams.{written_param, param_label, LowersParams}
+use Rattle.wit_package_types.proofs.Passed.wit_arena-Lists.{has_left, has_right, has_later}
 use Rattle.wit_functions.specs.Signature.{with_self, behind, LowersSignature}
 
 module _ (table : Entries) where

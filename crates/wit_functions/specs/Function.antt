@@ -2,10 +2,10 @@
 use Rattle.std.specs.Prelude.{◌≡◌, List, string_bytes}
 use Rattle.wit_types.specs.declared.function.Function.{Function}
 use Rattle.wit_types.specs.declared.interface.TypeDef.{TypeDef}
-use Rattle.wit_scopes.specs.Members.{MemberTree}
-use Rattle.wit_rules.specs.Labels.{full_name}
-use Rattle.wit_arena.specs.Table.{Entries}
-use Rattle.wit_arena.specs.Docs.{said, contents_of}
+use Rattle.wit_package_types.specs.Passed.wit_scopes-Members.{MemberTree}
+use Rattle.wit_package_types.specs.Passed.wit_rules-Labels.{full_name}
+use Rattle.wit_package_types.specs.Passed.wit_arena-Table.{Entries}
+use Rattle.wit_package_types.specs.Passed.wit_arena-Docs.{said, contents_of}
 use Rattle.wit_package_types.specs.Stability.{IsStabilityOf}
 use Rattle.wit_functions.specs.Signature.{all_params, all_result, IsKindOf, LowersSignature}
 

@@ -1,2 +1,3 @@
 pub mod Signature
 pub mod Function
+pub mod Passed

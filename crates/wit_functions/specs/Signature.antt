@@ -5,15 +5,15 @@ use Rattle.wit_words.specs.Slice.{Slice}
 use Rattle.wit_types.specs.declared.function.FunctionKind.{FunctionKind}
 use Rattle.wit_types.specs.declared.function.FunctionKind.TheVariants as kind
 use Rattle.wit_types.specs.declared.interface.TypeDef.{TypeDef}
-use Rattle.wit_productions.specs.TypeTree as written
-use Rattle.wit_productions.specs.TypeTree.{TypeTree, standing}
-use Rattle.wit_items.specs.ItemTree.{ParamTree}
-use Rattle.wit_scopes.specs.Members.{MemberKind, MemberTree, used, defined, function, method, static, constructor}
-use Rattle.wit_type_names.specs.TypeNames.{signature_parts, names_in_member}
-use Rattle.wit_arena.specs.Table.{Entries}
-use Rattle.wit_arena.specs.Meaning.{Has}
-use Rattle.wit_arena.specs.Lower.{LowersParts}
-use Rattle.wit_arena.specs.LowerParams.{written_param, param_label}
+use Rattle.wit_package_types.specs.Passed.wit_productions-TypeTree as written
+use Rattle.wit_package_types.specs.Passed.wit_productions-TypeTree.{TypeTree, standing}
+use Rattle.wit_package_types.specs.Passed.wit_items-ItemTree.{ParamTree}
+use Rattle.wit_package_types.specs.Passed.wit_scopes-Members.{MemberKind, MemberTree, used, defined, function, method, static, constructor}
+use Rattle.wit_package_types.specs.Passed.wit_type_names-TypeNames.{signature_parts, names_in_member}
+use Rattle.wit_package_types.specs.Passed.wit_arena-Table.{Entries}
+use Rattle.wit_package_types.specs.Passed.wit_arena-Meaning.{Has}
+use Rattle.wit_package_types.specs.Passed.wit_arena-Lower.{LowersParts}
+use Rattle.wit_package_types.specs.Passed.wit_arena-LowerParams.{written_param, param_label}
 use Rattle.wit_functions.specs.declared.signature.Signature.{Signature}
 
 abbrev pub IsFunction : MemberKind → Type 0

@@ -1,21 +1,18 @@
 //! Functions.
 
 ghost use Rattle.std.specs.Prelude.{◌≡◌, [], ◌∷◌, string_bytes, IfOk};
-ghost use Rattle.wit_syntax.specs.AstView as view;
-ghost use Rattle.wit_scopes.specs.View as scope_view;
-ghost use Rattle.wit_rules.specs.Labels.{full_name};
-ghost use Rattle.wit_arena.specs.Meaning.{Has};
-ghost use Rattle.wit_arena.specs.Lower.{AreThere};
+ghost use Rattle.wit_package_types.specs.Passed.wit_syntax-AstView as view;
+ghost use Rattle.wit_package_types.specs.Passed.wit_scopes-View as scope_view;
+ghost use Rattle.wit_package_types.specs.Passed.wit_rules-Labels.{full_name};
+ghost use Rattle.wit_package_types.specs.Passed.wit_arena-Meaning.{Has};
+ghost use Rattle.wit_package_types.specs.Passed.wit_arena-Lower.{AreThere};
 ghost use Rattle.wit_package_types.specs.Stability.{AreGates};
 ghost use Rattle.wit_functions.specs.Function as spec;
 ghost use Rattle.wit_functions.specs.Signature.{IsFunction, function_names, IsKindOf};
 
 use crate::signature::{Signature, lower_signature};
 use std::alloc::{AllocError, Global};
-use wit_arena::{Table, Types, docs_of};
-use wit_package_types::stability_in;
-use wit_scopes::{Member, MemberKind};
-use wit_syntax::Id;
+use wit_package_types::{Id, Member, MemberKind, Table, Types, docs_of, stability_in};
 use wit_types::{Function, FunctionKind, TypeId};
 
 /// The name by which a function is known in its scope.

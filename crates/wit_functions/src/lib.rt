@@ -6,3 +6,4 @@ mod signature;
 
 pub use function::lower_function;
 pub use signature::Signature;
+pub use wit_package_types::{Known, fill_types, stability_in};

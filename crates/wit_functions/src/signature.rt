@@ -1,18 +1,19 @@
 //! What functions take and give.
 
 ghost use Rattle.std.specs.Prelude.{◌≡◌, Option, map, option_map, IfOk};
-ghost use Rattle.wit_productions.specs.NameView.{id};
-ghost use Rattle.wit_syntax.specs.AstView as view;
-ghost use Rattle.wit_syntax.specs.TypeView.{type_tree};
-ghost use Rattle.wit_scopes.specs.View as scope_view;
-ghost use Rattle.wit_type_names.specs.TypeNames.{names_in_parts, signature_parts};
-ghost use Rattle.wit_arena.specs.Lower.{AreThere};
+ghost use Rattle.wit_package_types.specs.Passed.wit_productions-NameView.{id};
+ghost use Rattle.wit_package_types.specs.Passed.wit_syntax-AstView as view;
+ghost use Rattle.wit_package_types.specs.Passed.wit_productions-TypeView.{type_tree};
+ghost use Rattle.wit_package_types.specs.Passed.wit_scopes-View as scope_view;
+ghost use Rattle.wit_package_types.specs.Passed.wit_type_names-TypeNames.{names_in_parts, signature_parts};
+ghost use Rattle.wit_package_types.specs.Passed.wit_arena-Lower.{AreThere};
 ghost use Rattle.wit_functions.specs.Signature as spec;
 
 use std::alloc::AllocError;
-use wit_arena::{Table, Types, lower_borrow, lower_own, lower_params, lower_result};
-use wit_scopes::{Member, MemberKind};
-use wit_syntax::{Func, Id, Span};
+use wit_package_types::{
+    Func, Id, Member, MemberKind, Span, Table, Types, lower_borrow, lower_own, lower_params,
+    lower_result,
+};
 use wit_types::{Param, Type};
 
 /// What a function takes and gives.
@@ -28,8 +29,8 @@ pub struct Signature {
 fn lower_written(
     types: &mut Types,
     table: &Table<'_>,
-    params: &[wit_syntax::Param<'_>],
-    ty: &Option<wit_syntax::Type<'_>>,
+    params: &[wit_package_types::Param<'_>],
+    ty: &Option<wit_package_types::Type<'_>>,
 ) -> Result<Signature, AllocError>
     requires { AreThere table.now (names_in_parts (signature_parts (map view.param params.now) (option_map type_tree ty.now))) }
     ensures { IfOk result (spec.LowersSignature table.now types.old (map view.param params.now) (option_map type_tree ty.now) types.new) }
@@ -81,8 +82,8 @@ fn lower_constructor(
     table: &Table<'_>,
     span: Span,
     resource: &Id<'_>,
-    params: &[wit_syntax::Param<'_>],
-    ty: &Option<wit_syntax::Type<'_>>,
+    params: &[wit_package_types::Param<'_>],
+    ty: &Option<wit_package_types::Type<'_>>,
 ) -> Result<Signature, AllocError>
     requires { AreThere table.now (spec.behind (id resource.now) (names_in_parts (signature_parts (map view.param params.now) (option_map type_tree ty.now)))) }
     ensures { IfOk result (spec.LowersSignature table.now types.old (map view.param params.now) (spec.or_resource (id resource.now) span (option_map type_tree ty.now)) types.new) }

@@ -19,8 +19,8 @@ use Rattle.wit_reach.proofs.Lists.{has_parts}
 use Rattle.wit_reach.proofs.There.{used_within}
 use Rattle.wit_elaborated.specs.Staying.{ElaboratedWorldsAreThere}
 use Rattle.wit_names.specs.Names.{ArePackagesKnown}
-use Rattle.wit_arena.proofs.Lists.{get_more}
-use Rattle.wit_graph_worlds.specs.Sound.{IsElaborationOf}
+use Rattle.wit_graph_parts.proofs.Passed.wit_arena-Lists.{get_more}
+use Rattle.wit_graph_parts.specs.Passed.wit_graph_worlds-Sound.{IsElaborationOf}
 use Rattle.wit_graph.specs.Graph.{AreWhole, IsNamedIn, in_interface, in_world, IsPackageDep}
 use Rattle.wit_graph.specs.declared.tables.Tables.{Tables}
 use Rattle.wit_graph.proofs.Keeping.{get_has, rows_long, uses_backward}

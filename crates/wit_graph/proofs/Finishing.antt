@@ -26,17 +26,17 @@ use Rattle.wit_names.specs.Names.{ArePackagesKnown}
 use Rattle.wit_plans.specs.Moves.{AreMovedInterfaces, no_interfaces, interface_goes, interface_stays}
 use Rattle.wit_plans.specs.Plans.{Parts, standing, IsPlanned, IsPlanCause}
 use Rattle.wit_plans.specs.declared.moves.MovedWorld.{MovedWorld}
-use Rattle.wit_placed.specs.Found.{IsPackageThere, ArePackagesThere, FoundAreThere}
-use Rattle.wit_placed.specs.Listed.{AreOwnersBehind}
-use Rattle.wit_placed.specs.There.{AreBelow}
-use Rattle.wit_resources.specs.Natures.{kind_nature, natures_from}
-use Rattle.wit_resources.specs.declared.natures.Nature.{Nature}
-use Rattle.wit_graph_worlds.specs.Added as worlds
-use Rattle.wit_graph_worlds.specs.Worlds.{State}
+use Rattle.wit_graph_parts.specs.Passed.wit_placed-Found.{IsPackageThere, ArePackagesThere, FoundAreThere}
+use Rattle.wit_graph_parts.specs.Passed.wit_placed-Listed.{AreOwnersBehind}
+use Rattle.wit_graph_parts.specs.Passed.wit_placed-There.{AreBelow}
+use Rattle.wit_graph_parts.specs.Passed.wit_resources-Natures.{kind_nature, natures_from}
+use Rattle.wit_graph_parts.specs.Passed.wit_resources-declared-natures-Nature.{Nature}
+use Rattle.wit_graph_parts.specs.Passed.wit_graph_worlds-Added as worlds
+use Rattle.wit_graph_parts.specs.Passed.wit_graph_worlds-Worlds.{State}
 use Rattle.wit_graph_parts.specs.Faults.{of_moved}
 use Rattle.wit_graph.specs.Graph.{Graph, IsGraph, Items, items_of, AreWhole, nothing, sizes}
 use Rattle.wit_graph_parts.specs.Interfaces.{no_rows}
-use Rattle.wit_graph_worlds.specs.Names.{Pair, by_bytes, name_at, interface_names, world_names, AreNames}
+use Rattle.wit_graph_parts.specs.Passed.wit_graph_worlds-Names.{Pair, by_bytes, name_at, interface_names, world_names, AreNames}
 use Rattle.wit_graph_parts.specs.Own.{asked, own_parts, parts_behind, IsWellFormed}
 use Rattle.wit_graph.specs.Push.{IsReady, ArePartsAdded, HaveGrown, HasMore, HasMorePackages, mark_of, cut, IsPartsCause, ArePlaces, IsPushCause, left_out, not_included}
 use Rattle.wit_graph_parts.specs.declared.fault.PushFault.{PushFault}

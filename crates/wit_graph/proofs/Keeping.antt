@@ -14,8 +14,8 @@ use Rattle.wit_reach.specs.Paths.{AreBackward}
 use Rattle.wit_reach.specs.Reach.{Uses}
 use Rattle.wit_reach.specs.Types.{AreTypesBackward, AreTypesThere, AreSidesThere}
 use Rattle.wit_reach.proofs.Growing.{used_more, used_was}
-use Rattle.wit_placed.specs.Order.{AreInOrder}
-use Rattle.wit_placed.specs.There.{IsInterfaceThere}
+use Rattle.wit_graph_parts.specs.Passed.wit_placed-Order.{AreInOrder}
+use Rattle.wit_graph_parts.specs.Passed.wit_placed-There.{IsInterfaceThere}
 use Rattle.wit_graph_parts.specs.Interfaces.{IsRow, AreRows, no_rows, rows_and}
 
 -- ---- lists

@@ -5,3 +5,4 @@ pub mod Finishing
 mod Closing
 pub mod Depending
 mod Rising
+pub mod Passed

@@ -9,27 +9,27 @@ use Rattle.wit_features.specs.Features.{FeatureSet}
 use Rattle.wit_moves.specs.Breaks.{AnyOf, IsKept}
 use Rattle.wit_moves.specs.Moved.{Places}
 use Rattle.wit_moves.specs.Plan.{OwnerPlaces, AreMovedDefs}
-use Rattle.wit_moved_trees.specs.There.{AreWithin, MovedTypesAreBackward}
+use Rattle.wit_graph_parts.specs.Passed.wit_moved_trees-There.{AreWithin, MovedTypesAreBackward}
 use Rattle.wit_reach.specs.Holding.{AreNamedOwned, AreListed, HoldTheirTypes}
 use Rattle.wit_reach.specs.Lists.{AreOwnersThere}
 use Rattle.wit_reach.proofs.Holding.{held_in_order, held_more}
-use Rattle.wit_placed.proofs.Holding.{functions_there}
+use Rattle.wit_graph_parts.proofs.Passed.wit_placed-Holding.{functions_there}
 use Rattle.wit_reach.specs.Paths.{AreBackward}
 use Rattle.wit_reach.specs.Reach.{Uses}
 use Rattle.wit_reach.specs.Types.{AreTypesBackward, AreSidesThere}
 use Rattle.wit_plans.specs.Plans.{Parts, found_of, standing}
 use Rattle.wit_plans.specs.Checks.{InterfaceBreaks}
-use Rattle.wit_placed.specs.Found.{FoundTypesAreThere}
-use Rattle.wit_placed.specs.Order.{AreInOrder, AreBehind, AreNamelessFree, InterfacesTakePlaces, MovedTypesBelong, MovedInterfacesHoldTheirTypes, MovedNamelessAreFree}
-use Rattle.wit_placed.specs.Listed.{MovedTypesAreListed}
-use Rattle.wit_placed.specs.Naming.{HasNamesApart, HaveNamesApart, MovedInterfacesHaveNamesApart}
-use Rattle.wit_placed.specs.There.{AreBelow, IsInterfaceThere, MovedInterfacesAreThere}
+use Rattle.wit_graph_parts.specs.Passed.wit_placed-Found.{FoundTypesAreThere}
+use Rattle.wit_graph_parts.specs.Passed.wit_placed-Order.{AreInOrder, AreBehind, AreNamelessFree, InterfacesTakePlaces, MovedTypesBelong, MovedInterfacesHoldTheirTypes, MovedNamelessAreFree}
+use Rattle.wit_graph_parts.specs.Passed.wit_placed-Listed.{MovedTypesAreListed}
+use Rattle.wit_graph_parts.specs.Passed.wit_placed-Naming.{HasNamesApart, HaveNamesApart, MovedInterfacesHaveNamesApart}
+use Rattle.wit_graph_parts.specs.Passed.wit_placed-There.{AreBelow, IsInterfaceThere, MovedInterfacesAreThere}
 use Rattle.wit_elaborated.specs.Staying.{ElaboratedWorldsStay}
-use Rattle.wit_graph_worlds.specs.Sound.{AreSound, AreElaborated}
-use Rattle.wit_graph_worlds.proofs.Whole.{elaborated_stay}
-use Rattle.wit_graph_worlds.specs.Worlds.{Worlds}
-use Rattle.wit_resources.specs.Natures.{natures}
-use Rattle.wit_resources.specs.declared.natures.Nature.{Nature}
+use Rattle.wit_graph_parts.specs.Passed.wit_graph_worlds-Sound.{AreSound, AreElaborated}
+use Rattle.wit_graph_parts.proofs.Passed.wit_graph_worlds-Whole.{elaborated_stay}
+use Rattle.wit_graph_parts.specs.Passed.wit_graph_worlds-Worlds.{Worlds}
+use Rattle.wit_graph_parts.specs.Passed.wit_resources-Natures.{natures}
+use Rattle.wit_graph_parts.specs.Passed.wit_resources-declared-natures-Nature.{Nature}
 use Rattle.wit_graph_parts.specs.Interfaces.{Interfaces, AreRows}
 use Rattle.wit_graph.specs.Graph.{Items, items, AreItemsWhole}
 use Rattle.wit_graph_parts.specs.Parts.{AreTypesAdded, AreInterfacesAdded}

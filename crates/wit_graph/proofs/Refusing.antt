@@ -6,8 +6,8 @@ use Rattle.wit_features.specs.Features.{FeatureSet}
 use Rattle.wit_moves.specs.Moved.{Places}
 use Rattle.wit_moves.specs.Plan.{OwnerPlaces}
 use Rattle.wit_plans.specs.Plans.{Parts, standing}
-use Rattle.wit_resources.specs.Natures.{natures, AreOfFirst}
-use Rattle.wit_resources.specs.declared.natures.Nature.{Nature}
+use Rattle.wit_graph_parts.specs.Passed.wit_resources-Natures.{natures, AreOfFirst}
+use Rattle.wit_graph_parts.specs.Passed.wit_resources-declared-natures-Nature.{Nature}
 use Rattle.wit_graph.specs.Graph.{Items}
 use Rattle.wit_graph_parts.specs.Interfaces.{Interfaces}
 use Rattle.wit_graph_parts.specs.Parts.{AreTypesAdded, AreInterfacesAdded, InterfacesBreak, IsShapeCause, IsWorldsCause}

@@ -14,14 +14,14 @@ use Rattle.wit_types.specs.declared.«package».Package.{Package}
 use Rattle.wit_types.specs.declared.«package».PackageName.{PackageName}
 use Rattle.wit_names.specs.Names.{ArePackagesKnown}
 use Rattle.wit_plans.specs.declared.plans.Sizes.{Sizes}
-use Rattle.wit_placed.specs.Found.{ArePackagesThere}
-use Rattle.wit_placed.specs.Naming.{HaveNamesApart}
-use Rattle.wit_placed.specs.Order.{AreNamelessFree}
-use Rattle.wit_placed.specs.There.{IsInterfaceThere}
-use Rattle.wit_resources.specs.Natures.{natures}
-use Rattle.wit_resources.specs.declared.natures.Nature.{Nature}
-use Rattle.wit_graph_worlds.specs.Sound.{AreSound, AreElaborated, IsElaborationOf}
-use Rattle.wit_graph_worlds.specs.Worlds.{Worlds}
+use Rattle.wit_graph_parts.specs.Passed.wit_placed-Found.{ArePackagesThere}
+use Rattle.wit_graph_parts.specs.Passed.wit_placed-Naming.{HaveNamesApart}
+use Rattle.wit_graph_parts.specs.Passed.wit_placed-Order.{AreNamelessFree}
+use Rattle.wit_graph_parts.specs.Passed.wit_placed-There.{IsInterfaceThere}
+use Rattle.wit_graph_parts.specs.Passed.wit_resources-Natures.{natures}
+use Rattle.wit_graph_parts.specs.Passed.wit_resources-declared-natures-Nature.{Nature}
+use Rattle.wit_graph_parts.specs.Passed.wit_graph_worlds-Sound.{AreSound, AreElaborated, IsElaborationOf}
+use Rattle.wit_graph_parts.specs.Passed.wit_graph_worlds-Worlds.{Worlds}
 use Rattle.wit_graph_parts.specs.Interfaces.{Interfaces, AreRows}
 use Rattle.wit_graph.specs.declared.tables.Tables.{Tables}
 

@@ -1,3 +1,4 @@
 pub mod Graph
 pub mod Push
 pub mod Packages
+pub mod Passed

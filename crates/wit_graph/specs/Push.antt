@@ -21,18 +21,18 @@ use Rattle.wit_elaborated.specs.Worlds.{AreKeysOfItems}
 use Rattle.wit_finding.specs.Foreign.{AreForeignPlaces, ItemsBreak}
 use Rattle.wit_finding.specs.Packages.{PackagesBreak}
 use Rattle.wit_plans.specs.Plans.{Parts, standing, IsPlanned, PlanBreaks}
-use Rattle.wit_placed.specs.There.{AreBelow}
-use Rattle.wit_placed.specs.Order.{AreNamelessFree}
-use Rattle.wit_placed.specs.Listed.{AreOwnersBehind}
-use Rattle.wit_placed.specs.Naming.{HaveNamesApart}
-use Rattle.wit_resources.specs.Natures.{natures}
-use Rattle.wit_resources.specs.declared.natures.Nature.{Nature}
+use Rattle.wit_graph_parts.specs.Passed.wit_placed-There.{AreBelow}
+use Rattle.wit_graph_parts.specs.Passed.wit_placed-Order.{AreNamelessFree}
+use Rattle.wit_graph_parts.specs.Passed.wit_placed-Listed.{AreOwnersBehind}
+use Rattle.wit_graph_parts.specs.Passed.wit_placed-Naming.{HaveNamesApart}
+use Rattle.wit_graph_parts.specs.Passed.wit_resources-Natures.{natures}
+use Rattle.wit_graph_parts.specs.Passed.wit_resources-declared-natures-Nature.{Nature}
 use Rattle.wit_plans.specs.declared.plans.Sizes.{Sizes}
-use Rattle.wit_graph_worlds.specs.declared.worlds.WorldFault.{WorldFault}
-use Rattle.wit_graph_worlds.specs.declared.worlds.WorldFault.TheVariants as world
+use Rattle.wit_graph_parts.specs.Passed.wit_graph_worlds-declared-worlds-WorldFault.{WorldFault}
+use Rattle.wit_graph_parts.specs.Passed.wit_graph_worlds-declared-worlds-WorldFault-TheVariants as world
 use Rattle.wit_graph_parts.specs.Own.{own_parts}
 use Rattle.wit_graph_parts.specs.Interfaces.{Interfaces}
-use Rattle.wit_graph_worlds.specs.Names.{IsSameName}
+use Rattle.wit_graph_parts.specs.Passed.wit_graph_worlds-Names.{IsSameName}
 use Rattle.wit_graph_parts.specs.Parts.{AreTypesAdded, TypesBreak, AreInterfacesAdded, InterfacesBreak, AreWorldsAdded, WorldsBreak, AreWorldsRefused}
 use Rattle.wit_graph.specs.Graph.{Graph, Items, items_of, AreItemsWhole, sizes}
 use Rattle.wit_graph.specs.declared.tables.Tables.{Tables}

@@ -10,7 +10,7 @@ ghost use Rattle.wit_types.specs.declared.interface.TypeDef.{TypeDef};
 ghost use Rattle.wit_types.specs.declared.world.World.{World};
 ghost use Rattle.wit_moves.specs.Plan.{OwnerPlaces};
 ghost use Rattle.wit_moves.specs.View.{owners};
-ghost use Rattle.wit_resources.specs.declared.natures.Nature.{Nature};
+ghost use Rattle.wit_graph_parts.specs.Passed.wit_resources-declared-natures-Nature.{Nature};
 ghost use Rattle.wit_graph_parts.specs.Own.{parts};
 ghost use Rattle.wit_graph_parts.specs.Interfaces.{HasGrown};
 ghost use Rattle.wit_graph.specs.Graph.{AreItemsWhole, AreWhole, items, items_of};
@@ -23,16 +23,12 @@ use std::alloc::Global;
 use wit_closures::{Closures, law_reached_stay};
 use wit_elaborated::{law_elaborated_worlds_are_there, law_elaborated_worlds_stay};
 use wit_graph_parts::{
-    Interfaces, Move, Own, OwnParts, PushFault, add_interfaces, add_own_worlds, add_types,
+    Interfaces, Move, Natures, Own, OwnParts, PushFault, Worlds, add_interfaces, add_own_worlds,
+    add_types, law_found_types_are_there, law_interfaces_take_places,
+    law_moved_interfaces_are_there, law_moved_interfaces_have_names_apart,
+    law_moved_interfaces_hold_their_types, law_moved_nameless_are_free,
+    law_moved_types_are_backward, law_moved_types_are_listed, law_moved_types_belong,
 };
-use wit_graph_worlds::Worlds;
-use wit_moved_trees::law_moved_types_are_backward;
-use wit_placed::{
-    law_found_types_are_there, law_interfaces_take_places, law_moved_interfaces_are_there,
-    law_moved_interfaces_have_names_apart, law_moved_interfaces_hold_their_types,
-    law_moved_nameless_are_free, law_moved_types_are_listed, law_moved_types_belong,
-};
-use wit_resources::Natures;
 use wit_types::{Arena, Docs, InterfaceId, Package, PackageName, TypeDef, WorldId};
 
 /// What a package names.

@@ -6,10 +6,8 @@ ghost use Rattle.wit_graph.specs.Push as push;
 
 use std::alloc::Global;
 use wit_closures::Closures;
-use wit_graph_parts::Interfaces;
-use wit_graph_worlds::Worlds;
+use wit_graph_parts::{Interfaces, Natures, Worlds};
 use wit_plans::Sizes;
-use wit_resources::Natures;
 use wit_types::{Arena, Package, TypeDef};
 
 /// What the packages of a graph hold, by ids.

@@ -1,3 +1,4 @@
 pub mod Taking
 pub mod Rows
 mod Shaped
+pub mod Passed

@@ -4,8 +4,8 @@ use Rattle.std.specs.declared.result.Result.{Result}
 use Rattle.wit_words.specs.declared.source_map.Span.{Span}
 use Rattle.wit_types.specs.declared.interface.TypeDef.{TypeDef}
 use Rattle.wit_moves.specs.Breaks.{Breaks}
-use Rattle.wit_resources.specs.Natures.{kind_nature, natures_from, natures}
-use Rattle.wit_resources.specs.declared.natures.Nature.{Nature}
+use Rattle.wit_shapes.specs.Passed.wit_resources-Natures.{kind_nature, natures_from, natures}
+use Rattle.wit_shapes.specs.Passed.wit_resources-declared-natures-Nature.{Nature}
 use Rattle.wit_graph_parts.specs.declared.fault.PushFault.{PushFault}
 use Rattle.wit_graph_parts.specs.declared.fault.PushFault.TheVariants.{ForeignShape}
 use Rattle.wit_graph_parts.specs.Parts.{shape_checked, IsShapeCause}

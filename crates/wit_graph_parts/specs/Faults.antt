@@ -1,6 +1,6 @@
 -- Refusals of parts of a push.
-use Rattle.wit_finding.specs.declared.fault.FindFault.{FindFault}
-use Rattle.wit_finding.specs.declared.fault.FindFault.TheVariants as found
+use Rattle.wit_graph_worlds.specs.Passed.wit_finding-declared-fault-FindFault.{FindFault}
+use Rattle.wit_graph_worlds.specs.Passed.wit_finding-declared-fault-FindFault-TheVariants as found
 use Rattle.wit_moves.specs.declared.plan.MoveFault.{MoveFault}
 use Rattle.wit_moves.specs.declared.plan.MoveFault.TheVariants as moved
 use Rattle.wit_graph_worlds.specs.declared.worlds.WorldFault.{WorldFault}

@@ -4,14 +4,14 @@ use Rattle.wit_order.specs.Order.{Has}
 use Rattle.wit_types.specs.declared.world.World.{World}
 use Rattle.wit_types.specs.declared.«package».UnresolvedPackage.{UnresolvedPackage}
 use Rattle.wit_reach.specs.Holding.{AreListed, HoldTheirTypes}
-use Rattle.wit_elaborated.specs.Worlds.{AreKeysOfItems}
-use Rattle.wit_finding.specs.Asks.{AreDepsThere, items_of}
-use Rattle.wit_finding.specs.Foreign.{counts_of}
-use Rattle.wit_finding.specs.declared.counts.Counts.{Counts}
-use Rattle.wit_placed.specs.Order.{AreNamelessFree}
-use Rattle.wit_placed.specs.Listed.{AreOwnersBehind}
-use Rattle.wit_placed.specs.Naming.{HaveNamesApart}
-use Rattle.wit_plans.specs.Plans.{Parts}
+use Rattle.wit_graph_worlds.specs.Passed.wit_elaborated-Worlds.{AreKeysOfItems}
+use Rattle.wit_graph_worlds.specs.Passed.wit_finding-Asks.{AreDepsThere, items_of}
+use Rattle.wit_graph_worlds.specs.Passed.wit_finding-Foreign.{counts_of}
+use Rattle.wit_graph_worlds.specs.Passed.wit_finding-declared-counts-Counts.{Counts}
+use Rattle.wit_graph_worlds.specs.Passed.wit_placed-Order.{AreNamelessFree}
+use Rattle.wit_graph_worlds.specs.Passed.wit_placed-Listed.{AreOwnersBehind}
+use Rattle.wit_graph_worlds.specs.Passed.wit_placed-Naming.{HaveNamesApart}
+use Rattle.wit_graph_worlds.specs.Passed.wit_plans-Plans.{Parts}
 use Rattle.wit_graph_parts.specs.declared.own.OwnParts.{OwnParts}
 
 -- how many interfaces and worlds it asks of others, and how many types; they come first

@@ -10,11 +10,11 @@ use Rattle.wit_features.specs.Features.{FeatureSet}
 use Rattle.wit_moves.specs.Breaks.{Breaks, AnyOf, IsKept}
 use Rattle.wit_moves.specs.Moved.{Places}
 use Rattle.wit_moves.specs.Plan.{OwnerPlaces, AreMovedDefs}
-use Rattle.wit_plans.specs.Checks.{Standing}
-use Rattle.wit_plans.specs.Moves.{AreMovedInterfaces, AreMovedWorlds}
-use Rattle.wit_plans.specs.declared.moves.MovedWorld.{MovedWorld}
-use Rattle.wit_resources.specs.Natures.{natures}
-use Rattle.wit_resources.specs.declared.natures.Nature.{Nature}
+use Rattle.wit_graph_worlds.specs.Passed.wit_plans-Checks.{Standing}
+use Rattle.wit_graph_worlds.specs.Passed.wit_plans-Moves.{AreMovedInterfaces, AreMovedWorlds}
+use Rattle.wit_graph_worlds.specs.Passed.wit_plans-declared-moves-MovedWorld.{MovedWorld}
+use Rattle.wit_shapes.specs.Passed.wit_resources-Natures.{natures}
+use Rattle.wit_shapes.specs.Passed.wit_resources-declared-natures-Nature.{Nature}
 use Rattle.wit_shapes.specs.Shapes.{TypeBreaks, FunctionsBreak, SideBreaks}
 use Rattle.wit_graph_worlds.specs.Added as worlds
 use Rattle.wit_graph_worlds.specs.Worlds.{Worlds, state}

@@ -3,8 +3,7 @@
 ghost use Rattle.std.specs.Prelude.{◌≡◌};
 
 use std::alloc::{AllocError, AllocFailed};
-use wit_finding::FindFault;
-use wit_graph_worlds::WorldFault;
+use wit_graph_worlds::{FindFault, WorldFault};
 use wit_moves::MoveFault;
 use wit_types::InterfaceId;
 use wit_words::Span;

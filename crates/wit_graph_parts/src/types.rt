@@ -4,16 +4,15 @@ ghost use Rattle.std.specs.Prelude.{◌≡◌, ◌++◌, List, IfOk, IfErr, OnOk
 ghost use Rattle.wit_types.specs.declared.interface.TypeDef.{TypeDef};
 ghost use Rattle.wit_moves.specs.View.{owners};
 ghost use Rattle.wit_moves.specs.Plan.{AreMovedDefs};
-ghost use Rattle.wit_resources.specs.Natures.{natures as natures_of};
-ghost use Rattle.wit_resources.specs.declared.natures.Nature.{Nature};
+ghost use Rattle.wit_shapes.specs.Passed.wit_resources-Natures.{natures as natures_of};
+ghost use Rattle.wit_shapes.specs.Passed.wit_resources-declared-natures-Nature.{Nature};
 ghost use Rattle.wit_graph_parts.specs.Parts as spec;
 
 use crate::fault::PushFault;
 use std::alloc::{AllocError, Global};
+use wit_graph_worlds::Plan;
 use wit_moves::moved_defs;
-use wit_plans::Plan;
-use wit_resources::Natures;
-use wit_shapes::check_types;
+use wit_shapes::{Natures, check_types};
 use wit_types::{Arena, TypeDef};
 use wit_words::Span;
 

@@ -7,15 +7,15 @@ ghost use Rattle.wit_types.specs.declared.world.World.{World};
 ghost use Rattle.wit_reach.specs.Paths.{AreBackward};
 ghost use Rattle.wit_reach.specs.Reach.{Uses};
 ghost use Rattle.wit_reach.specs.Types.{AreTypesBackward};
-ghost use Rattle.wit_elaborated.specs.Worlds.{AreKeysOfItems};
+ghost use Rattle.wit_graph_worlds.specs.Passed.wit_elaborated-Worlds.{AreKeysOfItems};
 ghost use Rattle.wit_moves.specs.Breaks.{AnyOf, IsKept};
 ghost use Rattle.wit_moves.specs.View.{owners};
-ghost use Rattle.wit_plans.specs.Checks.{WorldBreaks, InterfaceBreaks};
-ghost use Rattle.wit_plans.specs.Moves.{AreMovedInterfaces, AreMovedWorlds};
-ghost use Rattle.wit_plans.specs.Plans.{standing};
-ghost use Rattle.wit_placed.specs.There.{AreBelow};
-ghost use Rattle.wit_resources.specs.Natures.{natures as natures_of};
-ghost use Rattle.wit_resources.specs.declared.natures.Nature.{Nature};
+ghost use Rattle.wit_graph_worlds.specs.Passed.wit_plans-Checks.{WorldBreaks, InterfaceBreaks};
+ghost use Rattle.wit_graph_worlds.specs.Passed.wit_plans-Moves.{AreMovedInterfaces, AreMovedWorlds};
+ghost use Rattle.wit_graph_worlds.specs.Passed.wit_plans-Plans.{standing};
+ghost use Rattle.wit_graph_worlds.specs.Passed.wit_placed-There.{AreBelow};
+ghost use Rattle.wit_shapes.specs.Passed.wit_resources-Natures.{natures as natures_of};
+ghost use Rattle.wit_shapes.specs.Passed.wit_resources-declared-natures-Nature.{Nature};
 ghost use Rattle.wit_graph_worlds.specs.Sound.{AreElaborated, AreSound};
 ghost use Rattle.wit_graph_parts.specs.Interfaces.{HasGrown};
 ghost use Rattle.wit_graph_parts.specs.Parts as spec;
@@ -26,11 +26,12 @@ use crate::types::shape_checked;
 use indexmap::IndexMap;
 use std::alloc::{AllocError, Global};
 use wit_features::Features;
-use wit_graph_worlds::{Worlds, add_worlds, interface_names, world_names};
-use wit_placed::{law_moved_interfaces_are_there, law_moved_worlds_are_there};
-use wit_plans::{MovedWorld, Plan, Standing, moved_interfaces, moved_worlds};
-use wit_resources::Natures;
-use wit_shapes::{check_functions, check_side};
+use wit_graph_worlds::{
+    MovedWorld, Plan, Standing, Worlds, add_worlds, interface_names,
+    law_moved_interfaces_are_there, law_moved_worlds_are_there, moved_interfaces, moved_worlds,
+    world_names,
+};
+use wit_shapes::{Natures, check_functions, check_side};
 use wit_types::{Arena, Interface, InterfaceId, PackageId, TypeDef, World, WorldId};
 use wit_words::Span;
 

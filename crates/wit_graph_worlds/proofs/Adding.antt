@@ -1,7 +1,7 @@
 -- One world more.
 use Rattle.std.proofs.Common.{◌≡◌, ℕ, ◌<◌, ◌+◌, ◌⊎◌, List, [], ◌∷◌, ◌++◌, inl, inr, refl, sym, ap, ◌∙◌, subst, arith, length, length-append, append_assoc}
-use Rattle.wit_order.specs.Order.{Has}
-use Rattle.wit_order.specs.Places.{Rows}
+use Rattle.wit_types.specs.Passed.wit_order-Order.{Has}
+use Rattle.wit_types.specs.Passed.wit_order-Places.{Rows}
 use Rattle.wit_types.specs.declared.interface.Interface.{Interface}
 use Rattle.wit_types.specs.declared.interface.TypeDef.{TypeDef}
 use Rattle.wit_types.specs.declared.world.World.{World}
@@ -11,9 +11,9 @@ use Rattle.wit_reach.specs.Types.{AreTypesBackward, AreTypesThere, AreSidesThere
 use Rattle.wit_reach.specs.declared.reach.ElaborateFault.{ElaborateFault}
 use Rattle.wit_reach.specs.declared.reach.ElaborateFault.TheVariants as conflict
 use Rattle.wit_elaborated.specs.Worlds.{AreKeysOfItems, IsElaboratedCause}
-use Rattle.wit_plans.specs.declared.moves.MovedWorld.{MovedWorld}
-use Rattle.wit_placed.specs.There.{IsOwnThere}
-use Rattle.wit_joined.specs.Joined.{AreWorldsThere, IsJoinedWorld}
+use Rattle.wit_uses.specs.Passed.wit_plans-declared-moves-MovedWorld.{MovedWorld}
+use Rattle.wit_uses.specs.Passed.wit_placed-There.{IsOwnThere}
+use Rattle.wit_uses.specs.Passed.wit_joined-Joined.{AreWorldsThere, IsJoinedWorld}
 use Rattle.wit_graph_worlds.specs.Worlds.{State, Worlds}
 use Rattle.wit_graph_worlds.specs.Sound.{AreSound, IsWorldThere}
 use Rattle.wit_graph_worlds.specs.Added.{fault_at, IsPut, IsPutCause, IsAddCause}

@@ -2,14 +2,14 @@
 use Rattle.std.proofs.Common.{◌≡◌, ℕ, List, [], ◌∷◌, ◌++◌, refl, ap, ◌∙◌, subst}
 use Rattle.std.specs.Prelude.{flat_map, map}
 use Rattle.std.specs.List.{AllZip}
-use Rattle.wit_order.specs.Order.{Has}
+use Rattle.wit_types.specs.Passed.wit_order-Order.{Has}
 use Rattle.wit_types.specs.declared.interface.TypeDef.{TypeDef}
 use Rattle.wit_types.specs.declared.function.Param.{Param}
 use Rattle.wit_types.specs.declared.function.Function.{Function}
 use Rattle.wit_types.specs.declared.world.World.{World}
 use Rattle.wit_types.specs.declared.world.WorldItem.{WorldItem}
 use Rattle.wit_types.specs.declared.world_key.WorldKey.{WorldKey}
-use Rattle.wit_copies.specs.Same as same
+use Rattle.wit_uses.specs.Passed.wit_copies-Same as same
 use Rattle.wit_reach.specs.Ids.{ref_ids, function_ids, item_ids, side_ids}
 use Rattle.wit_reach.specs.Lists.{item_interface, interfaces_of, item_type, AreInterfacesThere}
 use Rattle.wit_reach.specs.Types.{AreTypesThere, AreSidesThere}

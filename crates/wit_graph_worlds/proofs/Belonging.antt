@@ -1,6 +1,6 @@
 -- With worlds more types belong where they do, and are listed there.
 use Rattle.std.proofs.Common.{List, ℕ, ◌++◌, sym, subst}
-use Rattle.wit_order.specs.Places.{Rows}
+use Rattle.wit_types.specs.Passed.wit_order-Places.{Rows}
 use Rattle.wit_types.specs.declared.interface.Interface.{Interface}
 use Rattle.wit_types.specs.declared.interface.TypeDef.{TypeDef}
 use Rattle.wit_types.specs.declared.world.IncludeName.{IncludeName}
@@ -8,11 +8,11 @@ use Rattle.wit_types.specs.declared.world.World.{World}
 use Rattle.wit_types.specs.declared.world.WorldInclude.{WorldInclude}
 use Rattle.wit_reach.specs.Holding.{AreNamedOwned, AreListed}
 use Rattle.wit_reach.specs.Types.{AreWorldTypes}
-use Rattle.wit_includes.specs.Included.{AreIncludedTypes}
-use Rattle.wit_plans.specs.declared.moves.MovedWorld.{MovedWorld}
-use Rattle.wit_placed.specs.Order.{AreNamelessFree}
-use Rattle.wit_joined.specs.Joined as joined
-use Rattle.wit_joined.specs.Joined.{Includes, includes_none, includes_one}
+use Rattle.wit_uses.specs.Passed.wit_includes-Included.{AreIncludedTypes}
+use Rattle.wit_uses.specs.Passed.wit_plans-declared-moves-MovedWorld.{MovedWorld}
+use Rattle.wit_uses.specs.Passed.wit_placed-Order.{AreNamelessFree}
+use Rattle.wit_uses.specs.Passed.wit_joined-Joined as joined
+use Rattle.wit_uses.specs.Passed.wit_joined-Joined.{Includes, includes_none, includes_one}
 use Rattle.wit_graph_worlds.specs.Added.{AreAdded, none_added, one_added}
 use Rattle.wit_graph_worlds.specs.Worlds.{State}
 use Rattle.wit_graph_worlds.proofs.Owners.{included_named, included_listed, included_nameless}

@@ -1,21 +1,21 @@
 -- What an included world brings names the interfaces that it names, under the same keys.
 use Rattle.std.proofs.Common.{◌≡◌, ℕ, List, [], ◌∷◌, ◌++◌, inl, inr, refl, sym, ap, ◌∙◌, subst, append_assoc}
-use Rattle.wit_order.specs.Order.{Has}
-use Rattle.wit_order.proofs.Lists.{has_was}
+use Rattle.wit_types.specs.Passed.wit_order-Order.{Has}
+use Rattle.wit_types.proofs.Passed.wit_order-Lists.{has_was}
 use Rattle.wit_types.specs.declared.world.IncludeName.{IncludeName}
 use Rattle.wit_types.specs.declared.world.WorldItem.{WorldItem}
 use Rattle.wit_types.specs.declared.world.WorldItem.TheVariants as item
 use Rattle.wit_types.specs.declared.world_key.WorldKey.{WorldKey}
 use Rattle.wit_types.specs.declared.world_key.WorldKey.TheVariants as key
 use Rattle.wit_types.specs.WorldKey.{key_eq}
-use Rattle.wit_moves.specs.Worlds as moved
-use Rattle.wit_moves.specs.Worlds.{IsMovedItem}
-use Rattle.wit_copies.specs.Copies.{Copies, goes, IsCopiedItem, AreCopiedEntries, no_entries, one_entry_more}
-use Rattle.wit_sides.specs.Renames as renamed
-use Rattle.wit_sides.specs.Renames.{IsRenamedKey, IsRenamedItem, AreRenamed}
-use Rattle.wit_sides.specs.Sides as sides
-use Rattle.wit_sides.specs.Sides.{AreUnited}
-use Rattle.wit_includes.specs.Included.{AreIncludedEntries}
+use Rattle.wit_uses.specs.Passed.wit_moves-Worlds as moved
+use Rattle.wit_uses.specs.Passed.wit_moves-Worlds.{IsMovedItem}
+use Rattle.wit_uses.specs.Passed.wit_copies-Copies.{Copies, goes, IsCopiedItem, AreCopiedEntries, no_entries, one_entry_more}
+use Rattle.wit_uses.specs.Passed.wit_sides-Renames as renamed
+use Rattle.wit_uses.specs.Passed.wit_sides-Renames.{IsRenamedKey, IsRenamedItem, AreRenamed}
+use Rattle.wit_uses.specs.Passed.wit_sides-Sides as sides
+use Rattle.wit_uses.specs.Passed.wit_sides-Sides.{AreUnited}
+use Rattle.wit_uses.specs.Passed.wit_includes-Included.{AreIncludedEntries}
 use Rattle.wit_reach.specs.Lists.{item_interface, interfaces_of}
 use Rattle.wit_reach.proofs.Lists.{has_parts, has_append}
 use Rattle.wit_elaborated.specs.Worlds.{IsKeyOfItem, AreKeysOfItems}

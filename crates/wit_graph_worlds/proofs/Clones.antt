@@ -26,7 +26,7 @@ use Rattle.wit_types.specs.contracts.function.ParamClone.TheImpl.{is_clone-value
 use Rattle.wit_types.specs.contracts.function.FunctionClone.TheImpl.{is_clone-value as function_clone}
 use Rattle.wit_types.specs.contracts.world.WorldItemClone.TheImpl.{is_clone-value as item_clone}
 use Rattle.wit_types.specs.contracts.world_key.WorldKeyClone.TheImpl.{is_clone-value as key_clone}
-use Rattle.wit_copies.specs.Same as same
+use Rattle.wit_uses.specs.Passed.wit_copies-Same as same
 use Rattle.wit_graph_worlds.specs.Copies.{IsSameEntry, AreSameEntries}
 
 zip_weaker : {X Y : Type 0} {P Q : X → Y → Type 0} → ((x : X) (y : Y) → P x y → Q x y) → (xs : List X) (ys : List Y) → AllZip P xs ys → AllZip Q xs ys

@@ -2,19 +2,19 @@
 use Rattle.std.proofs.Common.{◌≡◌, ℕ, ◌<◌, List, [], ◌∷◌, ◌++◌, zero, suc, inl, inr, Some, sym, subst}
 use Rattle.std.proofs.lemmas.Option.{same_Some}
 use Rattle.std.specs.Prelude.{slice_get}
-use Rattle.wit_order.specs.Order.{Has}
+use Rattle.wit_types.specs.Passed.wit_order-Order.{Has}
 use Rattle.wit_types.specs.declared.interface.TypeDef.{TypeDef}
 use Rattle.wit_types.specs.declared.world.World.{World}
 use Rattle.wit_types.specs.declared.world.WorldInclude.{WorldInclude}
 use Rattle.wit_types.specs.WorldKey.{key_eq}
 use Rattle.wit_reach.specs.Lists.{interfaces_of, AreOwnersThere, AreInterfacesThere}
 use Rattle.wit_reach.proofs.Lists.{has_parts}
-use Rattle.wit_sides.specs.Sides.{AreUnited}
-use Rattle.wit_includes.specs.Included.{copies_behind}
+use Rattle.wit_uses.specs.Passed.wit_sides-Sides.{AreUnited}
+use Rattle.wit_uses.specs.Passed.wit_includes-Included.{copies_behind}
 use Rattle.wit_elaborated.specs.Worlds.{AreKeysOfItems}
-use Rattle.wit_plans.specs.declared.moves.MovedWorld.{MovedWorld}
-use Rattle.wit_placed.specs.There.{IsOwnThere}
-use Rattle.wit_joined.specs.Joined.{State, Includes, includes_none, includes_one, own_state, IsJoinedWorld}
+use Rattle.wit_uses.specs.Passed.wit_plans-declared-moves-MovedWorld.{MovedWorld}
+use Rattle.wit_uses.specs.Passed.wit_placed-There.{IsOwnThere}
+use Rattle.wit_uses.specs.Passed.wit_joined-Joined.{State, Includes, includes_none, includes_one, own_state, IsJoinedWorld}
 use Rattle.wit_graph_worlds.proofs.Brought.{Entries, brought_interfaces, brought_keys, interfaces_append, keys_append, united_has, united_keys}
 use Rattle.wit_graph_worlds.proofs.Owners.{included_owners}
 

@@ -8,3 +8,4 @@ pub mod Adding
 pub mod Whole
 mod Named
 pub mod Taking
+pub mod Passed

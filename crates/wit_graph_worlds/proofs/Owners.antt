@@ -4,7 +4,7 @@ use Rattle.std.proofs.lemmas.Bool.{cases_lt}
 use Rattle.std.proofs.lemmas.Option.{same_Some}
 use Rattle.std.specs.Prelude.{slice_get}
 use Rattle.std.specs.declared.alloc.Global.{Global}
-use Rattle.wit_order.specs.Order.{Has}
+use Rattle.wit_types.specs.Passed.wit_order-Order.{Has}
 use Rattle.wit_types.specs.declared.interface.Interface.{Interface}
 use Rattle.wit_types.specs.declared.interface.TypeDef.{TypeDef}
 use Rattle.wit_types.specs.declared.interface.TypeOwner.{TypeOwner}
@@ -17,11 +17,11 @@ use Rattle.wit_reach.specs.Lists.{AreOwnersThere}
 use Rattle.wit_reach.specs.Types.{AreWorldTypes, is_local}
 use Rattle.wit_reach.proofs.Growing.{get_same}
 use Rattle.wit_reach.proofs.Local.{stays_local}
-use Rattle.wit_copies.specs.Copies.{Copies, copied_owner, IsCopiedDef, AreCopied, no_types, one_more}
-use Rattle.wit_copies.specs.Same.{text_of}
-use Rattle.wit_includes.specs.Included as renamed
-use Rattle.wit_placed.specs.Order.{AreNamelessFree}
-use Rattle.wit_includes.specs.Included.{is_of_world, IsRenamedName, IsRenamedDef, AreRenamedDefs, AreIncludedTypes, copies_behind}
+use Rattle.wit_uses.specs.Passed.wit_copies-Copies.{Copies, copied_owner, IsCopiedDef, AreCopied, no_types, one_more}
+use Rattle.wit_uses.specs.Passed.wit_copies-Same.{text_of}
+use Rattle.wit_uses.specs.Passed.wit_includes-Included as renamed
+use Rattle.wit_uses.specs.Passed.wit_placed-Order.{AreNamelessFree}
+use Rattle.wit_uses.specs.Passed.wit_includes-Included.{is_of_world, IsRenamedName, IsRenamedDef, AreRenamedDefs, AreIncludedTypes, copies_behind}
 
 -- ---- what holds of each type holds of each copy
 

@@ -2,23 +2,23 @@
 use Rattle.std.proofs.Common.{◌≡◌, ℕ, ◌+◌, ◌<◌, List, [], ◌∷◌, ◌++◌, ◌⊎◌, inl, inr, Some, sym, subst, ap, ◌∙◌, arith, length, length-append}
 use Rattle.std.proofs.lemmas.List.{append-nil}
 use Rattle.std.specs.Prelude.{slice_get}
-use Rattle.wit_order.specs.Order.{Has}
-use Rattle.wit_order.specs.Places.{Rows}
+use Rattle.wit_types.specs.Passed.wit_order-Order.{Has}
+use Rattle.wit_types.specs.Passed.wit_order-Places.{Rows}
 use Rattle.wit_types.specs.declared.interface.Interface.{Interface}
 use Rattle.wit_types.specs.declared.interface.TypeDef.{TypeDef}
 use Rattle.wit_types.specs.declared.interface.TypeOwner.TheVariants as belongs
 use Rattle.wit_types.specs.declared.world.World.{World}
 use Rattle.wit_types.specs.declared.world.WorldInclude.{WorldInclude}
-use Rattle.wit_arena.proofs.Lists.{get_kept, get_last, get_more}
-use Rattle.wit_plans.specs.declared.moves.MovedWorld.{MovedWorld}
+use Rattle.wit_uses.proofs.Passed.wit_arena-Lists.{get_kept, get_last, get_more}
+use Rattle.wit_uses.specs.Passed.wit_plans-declared-moves-MovedWorld.{MovedWorld}
 use Rattle.wit_reach.specs.Ids.{item_ids}
 use Rattle.wit_reach.specs.Lists.{item_type, type_items}
 use Rattle.wit_reach.specs.Types.{AreTypesBackward, IsOfItem}
-use Rattle.wit_copied_trees.specs.There.{IncludedTypesAreBackward, IncludedSidesAreThere}
-use Rattle.wit_joined.specs.Joined.{Includes, includes_none, includes_one, own_state}
-use Rattle.wit_joined.specs.Joined as joined
-use Rattle.wit_placed.specs.There.{IsOwnThere}
-use Rattle.wit_placed.proofs.Members.{has_at, has_get}
+use Rattle.wit_uses.specs.Passed.wit_copied_trees-There.{IncludedTypesAreBackward, IncludedSidesAreThere}
+use Rattle.wit_uses.specs.Passed.wit_joined-Joined.{Includes, includes_none, includes_one, own_state}
+use Rattle.wit_uses.specs.Passed.wit_joined-Joined as joined
+use Rattle.wit_uses.specs.Passed.wit_placed-There.{IsOwnThere}
+use Rattle.wit_uses.proofs.Passed.wit_placed-Members.{has_at, has_get}
 use Rattle.wit_uses.specs.Included.{BroughtTakesByUse}
 use Rattle.wit_uses.specs.Moved.{moved_types, IsOfMoved}
 use Rattle.wit_uses.specs.Uses.{IsOwn, IsUse, TakesByUse, WorldsTakeByUse}

@@ -3,7 +3,7 @@ use Rattle.std.proofs.Common.{◌≡◌, ℕ, ◌<◌, ◌+◌, List, [], ◌++�
 use Rattle.std.proofs.lemmas.List.{append-nil}
 use Rattle.std.proofs.lemmas.Option.{slice_get_within}
 use Rattle.std.specs.Prelude.{slice_get}
-use Rattle.wit_order.specs.Places.{Rows}
+use Rattle.wit_types.specs.Passed.wit_order-Places.{Rows}
 use Rattle.wit_types.specs.declared.interface.Interface.{Interface}
 use Rattle.wit_types.specs.declared.interface.TypeDef.{TypeDef}
 use Rattle.wit_types.specs.declared.world.World.{World}
@@ -11,7 +11,7 @@ use Rattle.wit_reach.specs.Lists.{AreInterfacesThere}
 use Rattle.wit_reach.specs.Paths.{AreBackward}
 use Rattle.wit_reach.specs.Reach.{Uses}
 use Rattle.wit_elaborated.specs.Staying.{ElaboratedWorldsStay}
-use Rattle.wit_arena.proofs.Lists.{get_more}
+use Rattle.wit_uses.proofs.Passed.wit_arena-Lists.{get_more}
 use Rattle.wit_graph_worlds.specs.Added.{IsPut}
 use Rattle.wit_graph_worlds.specs.Sound.{AreSound, IsWorldThere, IsElaborationOf, AreElaborated}
 use Rattle.wit_graph_worlds.specs.Worlds.{Worlds}

@@ -1,16 +1,16 @@
 -- Worlds that come to a graph, with all that they include and with all that they import in the end (WIT, Item: `include`; Component Model, WIT, Worlds).
 use Rattle.std.specs.Prelude.{◌≡◌, ℕ, List, [], ◌∷◌, ◌++◌, length}
-use Rattle.wit_order.specs.Places.{Rows}
+use Rattle.wit_types.specs.Passed.wit_order-Places.{Rows}
 use Rattle.wit_types.specs.declared.interface.Interface.{Interface}
 use Rattle.wit_types.specs.declared.interface.TypeDef.{TypeDef}
 use Rattle.wit_types.specs.declared.world.World.{World}
 use Rattle.wit_words.specs.declared.source_map.Span.{Span}
 use Rattle.wit_reach.specs.declared.reach.ElaborateFault.{ElaborateFault}
 use Rattle.wit_reach.specs.declared.reach.ElaborateFault.TheVariants as conflict
-use Rattle.wit_plans.specs.declared.moves.MovedWorld.{MovedWorld}
-use Rattle.wit_joined.specs.Joined.{IsJoinedWorld, IsWorldCause}
-use Rattle.wit_joined.specs.declared.includes.JoinFault.{JoinFault}
-use Rattle.wit_joined.specs.declared.includes.JoinFault.TheVariants as join
+use Rattle.wit_uses.specs.Passed.wit_plans-declared-moves-MovedWorld.{MovedWorld}
+use Rattle.wit_uses.specs.Passed.wit_joined-Joined.{IsJoinedWorld, IsWorldCause}
+use Rattle.wit_uses.specs.Passed.wit_joined-declared-includes-JoinFault.{JoinFault}
+use Rattle.wit_uses.specs.Passed.wit_joined-declared-includes-JoinFault-TheVariants as join
 use Rattle.wit_elaborated.specs.Worlds.{IsElaboratedWorld, IsElaboratedCause}
 use Rattle.wit_graph_worlds.specs.Copies.{IsSameWorld}
 use Rattle.wit_graph_worlds.specs.Worlds.{Worlds, State}

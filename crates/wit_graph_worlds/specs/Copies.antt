@@ -4,7 +4,7 @@ use Rattle.std.specs.List.{AllZip}
 use Rattle.wit_types.specs.declared.world.World.{World}
 use Rattle.wit_types.specs.declared.world.WorldItem.{WorldItem}
 use Rattle.wit_types.specs.declared.world_key.WorldKey.{WorldKey}
-use Rattle.wit_copies.specs.Same.{IsSameDocs, IsSameStability, IsSameItem, IsSameKey}
+use Rattle.wit_uses.specs.Passed.wit_copies-Same.{IsSameDocs, IsSameStability, IsSameItem, IsSameKey}
 
 abbrev pub IsSameEntry : WorldKey × WorldItem → WorldKey × WorldItem → Type 0
 IsSameEntry e f = IsSameKey e.0 f.0 × IsSameItem e.1 f.1

@@ -4,3 +4,4 @@ pub mod Sound
 pub mod Added
 pub mod Names
 pub mod Uses
+pub mod Passed

@@ -5,7 +5,7 @@ use Rattle.semver.specs.Identifiers.{parts_of}
 use Rattle.indexmap.specs.IndexMap.{insert_all}
 use Rattle.wit_types.specs.declared.interface.Interface.{Interface}
 use Rattle.wit_types.specs.declared.«package».PackageName.{PackageName}
-use Rattle.wit_plans.specs.declared.moves.MovedWorld.{MovedWorld}
+use Rattle.wit_uses.specs.Passed.wit_plans-declared-moves-MovedWorld.{MovedWorld}
 
 abbrev pub Pair : Type 0
 Pair = List ℕ × ℕ

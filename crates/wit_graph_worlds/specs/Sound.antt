@@ -1,14 +1,14 @@
 -- What worlds are made of is there (WIT, Item: `world`).
 use Rattle.std.specs.Prelude.{◌≡◌, ℕ, List, Some, length, slice_get}
-use Rattle.wit_order.specs.Order.{Has}
-use Rattle.wit_order.specs.Places.{Rows}
+use Rattle.wit_types.specs.Passed.wit_order-Order.{Has}
+use Rattle.wit_types.specs.Passed.wit_order-Places.{Rows}
 use Rattle.wit_types.specs.declared.interface.Interface.{Interface}
 use Rattle.wit_types.specs.declared.interface.TypeDef.{TypeDef}
 use Rattle.wit_types.specs.declared.world.World.{World}
 use Rattle.wit_reach.specs.Lists.{AreOwnersThere, AreInterfacesThere}
 use Rattle.wit_reach.specs.Types.{AreTypesBackward, AreSidesThere}
 use Rattle.wit_elaborated.specs.Worlds.{AreKeysOfItems, IsElaboratedWorld}
-use Rattle.wit_joined.specs.Joined.{AreWorldsThere}
+use Rattle.wit_uses.specs.Passed.wit_joined-Joined.{AreWorldsThere}
 use Rattle.wit_graph_worlds.specs.Copies.{IsSameWorld}
 use Rattle.wit_graph_worlds.specs.Worlds.{Worlds}
 

@@ -1,16 +1,16 @@
 -- Worlds that come to a graph take types of other interfaces by use, too (WIT, Use, Item: `world`).
 use Rattle.std.specs.Prelude.{◌≡◌, ℕ, ◌+◌, List, Some, length, slice_get}
-use Rattle.wit_order.specs.Order.{Has}
-use Rattle.wit_order.specs.Places.{Rows}
+use Rattle.wit_types.specs.Passed.wit_order-Order.{Has}
+use Rattle.wit_types.specs.Passed.wit_order-Places.{Rows}
 use Rattle.wit_types.specs.declared.interface.Interface.{Interface}
 use Rattle.wit_types.specs.declared.interface.TypeDef.{TypeDef}
 use Rattle.wit_types.specs.declared.interface.TypeOwner.{TypeOwner}
 use Rattle.wit_types.specs.declared.interface.TypeOwner.TheVariants as belongs
 use Rattle.wit_types.specs.declared.world.World.{World}
-use Rattle.wit_plans.specs.declared.moves.MovedWorld.{MovedWorld}
+use Rattle.wit_uses.specs.Passed.wit_plans-declared-moves-MovedWorld.{MovedWorld}
 use Rattle.wit_reach.specs.Lists.{type_items}
 use Rattle.wit_reach.specs.Types.{IsOfItem}
-use Rattle.wit_placed.specs.There.{IsOwnThere}
+use Rattle.wit_uses.specs.Passed.wit_placed-There.{IsOwnThere}
 use Rattle.wit_uses.specs.Uses.{TakesByUse, WorldsTakeByUse}
 use Rattle.wit_uses.specs.Moved.{moved_types, IsOfMoved}
 use Rattle.wit_graph_worlds.specs.Added.{AreAdded}

@@ -2,8 +2,9 @@
 
 ghost use Rattle.wit_graph_worlds.specs.Uses.{AddedWorldsTakeByUse, SameWorldTakesByUse};
 
-use wit_copied_trees::{law_included_sides_are_there, law_included_types_are_backward};
-use wit_uses::law_brought_takes_by_use;
+use wit_uses::{
+    law_brought_takes_by_use, law_included_sides_are_there, law_included_types_are_backward,
+};
 
 /// Where a world takes types of others by use alone, so does one that says the same (WIT, Use, Item: `world`).
 pub fn law_same_world_takes_by_use()

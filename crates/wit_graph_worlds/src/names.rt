@@ -6,8 +6,8 @@ ghost use Rattle.wit_graph_worlds.specs.Names as spec;
 
 use indexmap::IndexMap;
 use std::alloc::{AllocError, Global};
-use wit_plans::MovedWorld;
 use wit_types::{Id, Interface, InterfaceId, PackageName, WorldId};
+use wit_uses::MovedWorld;
 
 /// The name of a package once more.
 pub fn copied_name(name: &PackageName) -> Result<PackageName, AllocError>

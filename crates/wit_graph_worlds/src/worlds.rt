@@ -1,11 +1,11 @@
 //! Worlds that come to a graph.
 
 ghost use Rattle.std.specs.Prelude.{◌≡◌, ◌++◌, ◌∷◌, [], List, length, take, IfErr, OnOk};
-ghost use Rattle.wit_order.specs.Order.{Has};
+ghost use Rattle.wit_types.specs.Passed.wit_order-Order.{Has};
 ghost use Rattle.wit_types.specs.declared.interface.TypeDef.{TypeDef};
 ghost use Rattle.wit_types.specs.declared.world.World.{World};
-ghost use Rattle.wit_plans.specs.declared.moves.MovedWorld.{MovedWorld};
-ghost use Rattle.wit_placed.specs.There.{IsOwnThere};
+ghost use Rattle.wit_uses.specs.Passed.wit_plans-declared-moves-MovedWorld.{MovedWorld};
+ghost use Rattle.wit_uses.specs.Passed.wit_placed-There.{IsOwnThere};
 ghost use Rattle.wit_reach.specs.Paths.{AreBackward};
 ghost use Rattle.wit_reach.specs.Reach.{Uses};
 ghost use Rattle.wit_reach.specs.Lists.{AreOwnersThere};
@@ -18,10 +18,9 @@ use crate::copies::copied_world;
 use std::alloc::{AllocError, Global};
 use std::marker::Model;
 use wit_elaborated::{elaborated_world, law_elaborated_worlds_stay};
-use wit_joined::{JoinFault, joined_world};
-use wit_plans::MovedWorld;
 use wit_reach::ElaborateFault;
 use wit_types::{Arena, Interface, InterfaceId, PackageId, TypeDef, World, WorldId};
+use wit_uses::{JoinFault, MovedWorld, joined_world};
 use wit_words::Span;
 
 /// The interfaces of a graph, and of which of them each uses types.

@@ -7,7 +7,7 @@ use Rattle.wit_types.specs.declared.«package».PackageName.{PackageName}
 use Rattle.wit_types.specs.declared.«package».UnresolvedPackage.{UnresolvedPackage}
 use Rattle.wit_features.specs.Features.{FeatureSet}
 use Rattle.wit_order.specs.Order.{Has}
-use Rattle.wit_graph_parts.specs.declared.fault.PushFault.{PushFault}
+use Rattle.wit_graph.specs.Passed.wit_graph_parts-declared-fault-PushFault.{PushFault}
 use Rattle.wit_graph.specs.Graph.{Graph, IsGraph}
 use Rattle.wit_graph.specs.declared.tables.Tables.{Tables}
 use Rattle.wit_graph.specs.Push.{HasMore, HasMorePackages, IsPushed, IsPushCause}

@@ -4,8 +4,8 @@ use Rattle.wit_words.specs.declared.source_map.Span.{Span}
 use Rattle.wit_types.specs.declared.«package».PackageName.{PackageName}
 use Rattle.wit_types.specs.declared.«package».UnresolvedPackage.{UnresolvedPackage}
 use Rattle.wit_features.specs.Features.{FeatureSet}
-use Rattle.wit_graph_parts.specs.declared.fault.PushFault.{PushFault}
-use Rattle.wit_graph_parts.specs.declared.fault.PushFault.TheVariants.{OutOfMemory}
+use Rattle.wit_graph.specs.Passed.wit_graph_parts-declared-fault-PushFault.{PushFault}
+use Rattle.wit_graph.specs.Passed.wit_graph_parts-declared-fault-PushFault-TheVariants.{OutOfMemory}
 use Rattle.wit_graph.specs.Graph.{Graph, IsGraph}
 use Rattle.wit_graph.specs.Push.{IsPushed, IsPushCause}
 use Rattle.wit_package_order.specs.Packages.{ClosesCircle, IsOrder, AreAt}

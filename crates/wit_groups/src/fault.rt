@@ -43,7 +43,7 @@ impl From<PackageOrderFault> for GroupFault {
 }
 
 impl From<AllocError> for GroupFault {
-    ghost use Rattle.wit_graph_parts.specs.declared.fault.PushFault.TheVariants.{OutOfMemory};
+    ghost use Rattle.wit_graph.specs.Passed.wit_graph_parts-declared-fault-PushFault-TheVariants.{OutOfMemory};
     ghost use Rattle.wit_groups.specs.declared.fault.GroupFault.TheVariants.{Push};
 
     ghost from_gives = { λ _ e. e ≡ Push OutOfMemory };
@@ -54,7 +54,7 @@ impl From<AllocError> for GroupFault {
 }
 
 impl<T: Drop> From<AllocFailed<T>> for GroupFault {
-    ghost use Rattle.wit_graph_parts.specs.declared.fault.PushFault.TheVariants.{OutOfMemory};
+    ghost use Rattle.wit_graph.specs.Passed.wit_graph_parts-declared-fault-PushFault-TheVariants.{OutOfMemory};
     ghost use Rattle.wit_groups.specs.declared.fault.GroupFault.TheVariants.{Push};
 
     ghost from_gives = { λ _ e. e ≡ Push OutOfMemory };

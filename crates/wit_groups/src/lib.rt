@@ -6,3 +6,4 @@ mod push;
 
 pub use fault::GroupFault;
 pub use push::push_together;
+pub use wit_graph::{Graph, PushFault};

@@ -4,7 +4,7 @@ ghost use Rattle.std.specs.Prelude.{◌≡◌, ◌<◌, ℕ, Some, length, slice
 ghost use Rattle.wit_order.specs.Order.{Has};
 ghost use Rattle.wit_types.specs.declared.«package».UnresolvedPackage.{UnresolvedPackage};
 ghost use Rattle.wit_graph.specs.Push.{HasMorePackages};
-ghost use Rattle.wit_graph_parts.specs.Own.{IsWellFormed};
+ghost use Rattle.wit_graph.specs.Passed.wit_graph_parts-Own.{IsWellFormed};
 ghost use Rattle.wit_groups.specs.Pushed as spec;
 
 use crate::fault::GroupFault;

@@ -1,1 +1,2 @@
 mod Own
+pub mod Passed

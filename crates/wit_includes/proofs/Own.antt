@@ -3,8 +3,8 @@ use Rattle.std.proofs.Common.{ℕ, List}
 use Rattle.std.proofs.lemmas.Option.{slice_get_within}
 use Rattle.wit_types.specs.declared.interface.TypeDef.{TypeDef}
 use Rattle.wit_types.specs.declared.world.World.{World}
-use Rattle.wit_reach.specs.Types.{AreWorldTypes, AreTypesThere}
-use Rattle.wit_reach.proofs.Local.{stays_local}
+use Rattle.wit_copies.specs.Passed.wit_reach-Types.{AreWorldTypes, AreTypesThere}
+use Rattle.wit_copies.proofs.Passed.wit_reach-Local.{stays_local}
 
 pub own_there : (w : ℕ) (ds : List TypeDef) (world : World) (own : List ℕ) → AreWorldTypes w ds world own → AreTypesThere ds own
 own_there w ds world own are = λ i h.

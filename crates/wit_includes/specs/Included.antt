@@ -9,7 +9,7 @@ use Rattle.wit_types.specs.declared.world.IncludeName.{IncludeName}
 use Rattle.wit_types.specs.declared.world.World.{World}
 use Rattle.wit_types.specs.declared.world.WorldItem.{WorldItem}
 use Rattle.wit_types.specs.declared.world_key.WorldKey.{WorldKey}
-use Rattle.wit_reach.specs.Types.{AreWorldTypes}
+use Rattle.wit_copies.specs.Passed.wit_reach-Types.{AreWorldTypes}
 use Rattle.wit_copies.specs.Copies.{Copies, AreCopied, AreCopiedEntries}
 use Rattle.wit_sides.specs.Known.{are_there}
 use Rattle.wit_sides.specs.Renames.{IsRenamed, AreRenamed}

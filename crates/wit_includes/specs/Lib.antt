@@ -1,1 +1,2 @@
 pub mod Included
+pub mod Passed

@@ -4,4 +4,5 @@
 mod names;
 mod worlds;
 
+pub use wit_sides::{SideFault, joined_side};
 pub use worlds::{Include, IncludeFault, Included, included_world};

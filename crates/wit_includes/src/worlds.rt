@@ -1,15 +1,14 @@
 //! A world that is included.
 
 ghost use Rattle.std.specs.Prelude.{◌≡◌, IfOk, IfErr, length};
-ghost use Rattle.wit_reach.specs.Paths.{AreRising};
-ghost use Rattle.wit_reach.specs.Types.{AreTypesBackward, AreTypesThere, AreSidesThere};
+ghost use Rattle.wit_copies.specs.Passed.wit_reach-Paths.{AreRising};
+ghost use Rattle.wit_copies.specs.Passed.wit_reach-Types.{AreTypesBackward, AreTypesThere, AreSidesThere};
 ghost use Rattle.wit_includes.specs.Included as spec;
 
 use crate::names::renamed_defs;
 use indexmap::IndexMap;
 use std::alloc::{AllocError, Global};
-use wit_copies::{Copies, copied_defs, copied_side};
-use wit_reach::world_types;
+use wit_copies::{Copies, copied_defs, copied_side, world_types};
 use wit_sides::{Renames, are_there};
 use wit_types::{Arena, IncludeName, TypeDef, TypeId, World, WorldId, WorldItem, WorldKey};
 use wit_words::Span;

@@ -10,13 +10,13 @@ use Rattle.wit_resolved_scopes.proofs.Eaches.{each_right}
 use Rattle.wit_resolved_scopes.proofs.Following.{functions_extend}
 use Rattle.wit_resolved_scopes.proofs.Placing.{functions_put}
 use Rattle.wit_arena.proofs.Extending.{Extends, extends_through}
-use Rattle.wit_package_types.proofs.Filling.{filled_extends}
+use Rattle.wit_resolved_scopes.proofs.Passed.wit_package_types-Filling.{filled_extends}
 use Rattle.wit_types.specs.declared.interface.TypeDef.{TypeDef}
 use Rattle.wit_types.specs.declared.interface.TypeOwner.{TypeOwner}
 use Rattle.wit_scopes.specs.Members.{MemberTree}
-use Rattle.wit_orders.specs.Needs.{types_of}
+use Rattle.wit_resolved_scopes.specs.Passed.wit_orders-Needs.{types_of}
 use Rattle.wit_arena.specs.Tree.{Place, resource_leaf}
-use Rattle.wit_package_types.specs.Known.{KnownTypes}
+use Rattle.wit_resolved_scopes.specs.Passed.wit_package_types-Known.{KnownTypes}
 use Rattle.wit_resolved_scopes.specs.Faults.{MayBeFilled}
 use Rattle.wit_resolved_scopes.specs.InArena.{Context, IsFunctionOf}
 use Rattle.wit_interfaces.specs.Adding.{MayBring}

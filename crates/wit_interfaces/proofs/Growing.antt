@@ -15,7 +15,7 @@ use Rattle.wit_arena.proofs.Lists.{get_more}
 use Rattle.wit_arena.proofs.Extending.{Extends}
 use Rattle.wit_arena.proofs.Growing.{grows_self, grows_through}
 use Rattle.wit_resolved_scopes.specs.InArena.{Context, IsTypeIn, IsScopeIn, GrowsFor, IsBuilt}
-use Rattle.wit_package_types.specs.Known.{KnownTypes}
+use Rattle.wit_resolved_scopes.specs.Passed.wit_package_types-Known.{KnownTypes}
 use Rattle.wit_resolved_scopes.specs.Texts.{InterfaceText}
 use Rattle.wit_resolved_scopes.proofs.Eaches.{each_right}
 use Rattle.wit_resolved_scopes.proofs.Placing.{scope_grown}

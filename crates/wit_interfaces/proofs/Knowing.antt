@@ -12,7 +12,7 @@ use Rattle.wit_arena.specs.Tree.{Name}
 use Rattle.wit_arena.specs.Table.{Entries}
 use Rattle.wit_arena.specs.Meaning.{Has}
 use Rattle.wit_arena.proofs.Lists.{get_kept, get_last, get_more}
-use Rattle.wit_package_types.specs.Known.{KnownTypes, with_interface, FindsOwn}
+use Rattle.wit_resolved_scopes.specs.Passed.wit_package_types-Known.{KnownTypes, with_interface, FindsOwn}
 use Rattle.wit_resolved_scopes.specs.Each.{AreApartBy}
 use Rattle.wit_resolved_scopes.specs.Fit.{type_names, KnowsInterfaces}
 use Rattle.wit_resolved_scopes.proofs.Orders.{at_taken}

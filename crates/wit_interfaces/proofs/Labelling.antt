@@ -24,7 +24,7 @@ use Rattle.wit_arena.specs.Tree.{Name}
 use Rattle.wit_arena.specs.Table.{Entries}
 use Rattle.wit_arena.specs.Meaning.{Has}
 use Rattle.wit_arena.proofs.Lists.{has_none, has_here, has_cases}
-use Rattle.wit_package_types.specs.Known.{KnownTypes}
+use Rattle.wit_resolved_scopes.specs.Passed.wit_package_types-Known.{KnownTypes}
 use Rattle.wit_resolved_scopes.specs.InArena.{Context, IsBuilt, IsIdOf}
 use Rattle.wit_resolved_scopes.specs.Texts.{InterfaceText, listed_text, extern_texts, member_texts, labelled_texts}
 use Rattle.wit_resolved_scopes.proofs.Listing.{none_new}

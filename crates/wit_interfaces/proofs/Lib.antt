@@ -7,3 +7,4 @@ pub mod Pairs
 pub mod Viewing
 pub mod Behind
 pub mod Labelling
+pub mod Passed

@@ -8,12 +8,12 @@ use Rattle.wit_types.specs.declared.interface.TypeDef.{TypeDef}
 use Rattle.wit_types.specs.declared.interface.TypeOwner.{TypeOwner}
 use Rattle.wit_types.specs.declared.interface.TypeOwner.TheVariants as belongs
 use Rattle.wit_types.specs.declared.world.World.{World}
-use Rattle.wit_orders.specs.Needs.{types_of}
+use Rattle.wit_resolved_scopes.specs.Passed.wit_orders-Needs.{types_of}
 use Rattle.wit_arena.specs.Tree.{Name}
 use Rattle.wit_arena.specs.Table.{Entries}
 use Rattle.wit_arena.specs.Meaning.{Has}
 use Rattle.wit_arena.proofs.Lists.{get_kept, get_last, map_has}
-use Rattle.wit_package_types.specs.Known.{KnownTypes}
+use Rattle.wit_resolved_scopes.specs.Passed.wit_package_types-Known.{KnownTypes}
 use Rattle.wit_resolved_scopes.specs.Listed.{IsListedIn}
 use Rattle.wit_resolved_scopes.specs.Texts.{InterfaceText}
 use Rattle.wit_resolved_scopes.proofs.Listing.{new_through, resolved_listed}

@@ -11,10 +11,10 @@ use Rattle.wit_rules.specs.Breaks.{IsKept}
 use Rattle.wit_rules.proofs.Breaking.{AreKept, kept_more}
 use Rattle.wit_rules.proofs.Places.{taken}
 use Rattle.wit_arena.proofs.Lists.{has_none}
-use Rattle.wit_orders.specs.Needs.{types_of}
+use Rattle.wit_resolved_scopes.specs.Passed.wit_orders-Needs.{types_of}
 use Rattle.wit_arena.specs.Tree.{in_interface}
 use Rattle.wit_arena.specs.Meaning.{interface_declares}
-use Rattle.wit_package_types.specs.Known.{KnownTypes}
+use Rattle.wit_resolved_scopes.specs.Passed.wit_package_types-Known.{KnownTypes}
 use Rattle.wit_resolved_scopes.specs.Each.{AreApartBy}
 use Rattle.wit_resolved_scopes.specs.InArena.{Context, IsBuilt}
 use Rattle.wit_resolved_scopes.specs.Texts.{interface_text}

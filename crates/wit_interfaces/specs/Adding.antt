@@ -10,13 +10,13 @@ use Rattle.wit_scopes.specs.Scopes as scope
 use Rattle.wit_scopes.specs.Scopes.{InterfaceScope}
 use Rattle.wit_rules.specs.Breaks.{Breaks, AnyBreaks}
 use Rattle.wit_rules.specs.Labels.{full_name}
-use Rattle.wit_orders.specs.Needs.{types_of}
+use Rattle.wit_resolved_scopes.specs.Passed.wit_orders-Needs.{types_of}
 use Rattle.wit_arena.specs.Tree.{Place, in_interface}
 use Rattle.wit_arena.specs.Table.{Entries}
 use Rattle.wit_arena.specs.Meaning.{Has}
-use Rattle.wit_package_types.specs.Known.{KnownTypes, with_interface}
-use Rattle.wit_package_types.specs.Stability.{AreGates}
-use Rattle.wit_package_types.specs.Standing.{AreOfScope}
+use Rattle.wit_resolved_scopes.specs.Passed.wit_package_types-Known.{KnownTypes, with_interface}
+use Rattle.wit_resolved_scopes.specs.Passed.wit_package_types-Stability.{AreGates}
+use Rattle.wit_resolved_scopes.specs.Passed.wit_package_types-Standing.{AreOfScope}
 use Rattle.wit_resolved_scopes.specs.Each.{AreApartBy}
 use Rattle.wit_resolved_scopes.specs.Scope.{functions_among, AreReady, ResolvesScope}
 use Rattle.wit_resolved_scopes.specs.Faults.{ScopeBreaks}

@@ -7,7 +7,7 @@ use Rattle.wit_types.specs.declared.interface.TypeDef.{TypeDef}
 use Rattle.wit_types.specs.declared.interface.TypeOwner.TheVariants as belongs
 use Rattle.wit_arena.specs.Table.{Entries}
 use Rattle.wit_arena.specs.Docs.{said, contents_of}
-use Rattle.wit_package_types.specs.Stability.{IsStabilityOf}
+use Rattle.wit_resolved_scopes.specs.Passed.wit_package_types-Stability.{IsStabilityOf}
 use Rattle.wit_resolved_scopes.specs.InArena.{Context, IsScopeIn}
 use Rattle.wit_resolved_scopes.specs.Texts.{InterfaceText}
 

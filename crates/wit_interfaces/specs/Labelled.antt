@@ -4,9 +4,9 @@ use Rattle.wit_types.specs.declared.interface.Interface.{Interface}
 use Rattle.wit_types.specs.declared.interface.TypeDef.{TypeDef}
 use Rattle.wit_scopes.specs.Members.{MemberTree}
 use Rattle.wit_rules.specs.Breaks.{Breaks, AnyBreaks}
-use Rattle.wit_orders.specs.Needs.{types_of}
+use Rattle.wit_resolved_scopes.specs.Passed.wit_orders-Needs.{types_of}
 use Rattle.wit_arena.specs.Meaning.{Has, Declares}
-use Rattle.wit_package_types.specs.Known.{KnownTypes}
+use Rattle.wit_resolved_scopes.specs.Passed.wit_package_types-Known.{KnownTypes}
 use Rattle.wit_resolved_scopes.specs.Each.{Each}
 use Rattle.wit_resolved_scopes.specs.InArena.{Context, IsIdOf, GrowsFor, IsBuilt}
 use Rattle.wit_resolved_scopes.specs.Texts.{InterfaceText}

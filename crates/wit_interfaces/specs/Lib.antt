@@ -4,3 +4,4 @@ pub mod Listed
 pub mod Adding
 pub mod Labelled
 pub mod Places
+pub mod Passed

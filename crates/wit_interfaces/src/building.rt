@@ -2,14 +2,14 @@
 
 ghost use Rattle.std.specs.Prelude.{◌≡◌, ℕ, ◌+◌, [], ◌∷◌, ◌++◌, length, map, slice_get, Some, OnOk, IfErr};
 ghost use Rattle.wit_rules.specs.declared.fault.PackageFault.TheVariants.{OutOfMemory};
-ghost use Rattle.wit_package_types.specs.Known.{with_interface};
+ghost use Rattle.wit_resolved_scopes.specs.Passed.wit_package_types-Known.{with_interface};
 ghost use Rattle.wit_rules.specs.Breaks.{IsKept, IsFaultOf};
 ghost use Rattle.wit_scopes.specs.Scopes as scope;
 ghost use Rattle.wit_scopes.specs.Scopes.{InterfaceScope as InterfaceTree};
 ghost use Rattle.wit_scopes.specs.View as scope_view;
 ghost use Rattle.wit_types.specs.declared.interface.TypeOwner.TheVariants as belongs;
 ghost use Rattle.wit_arena.specs.Tree.{in_interface};
-ghost use Rattle.wit_resources.specs.Natures.{natures as natures_of};
+ghost use Rattle.wit_resolved_scopes.specs.Passed.wit_resources-Natures.{natures as natures_of};
 ghost use Rattle.wit_resolved_scopes.specs.InArena.{Context};
 ghost use Rattle.wit_resolved_scopes.specs.Texts.{interface_text};
 ghost use Rattle.wit_resolved_scopes.specs.Fit.{Foreign, AreInterfacesReady, KnowsInterfaces};
@@ -19,8 +19,7 @@ ghost use Rattle.wit_interfaces.specs.Places.{interfaces_at, AreInterfacePlaces}
 use crate::interface::{Made, make_interface};
 use crate::text::text_of;
 use wit_arena::Types;
-use wit_package_types::Known;
-use wit_resources::Natures;
+use wit_resolved_scopes::{Known, Natures};
 use wit_rules::PackageFault;
 use wit_scopes::{InterfaceScope, ItemScope};
 use wit_types::{Arena, Interface, InterfaceId};

@@ -12,7 +12,7 @@ ghost use Rattle.wit_types.specs.declared.interface.TypeOwner.TheVariants as bel
 ghost use Rattle.wit_arena.specs.Meaning.{Has};
 ghost use Rattle.wit_arena.specs.Tree.{Name, Place, in_listed};
 ghost use Rattle.wit_arena.specs.Table.{Entries};
-ghost use Rattle.wit_resources.specs.Natures.{natures as natures_of};
+ghost use Rattle.wit_resolved_scopes.specs.Passed.wit_resources-Natures.{natures as natures_of};
 ghost use Rattle.wit_resolved_scopes.specs.InArena.{Context};
 ghost use Rattle.wit_resolved_scopes.specs.Texts.{InterfaceText as Text, listed_text, member_texts, labelled_texts};
 ghost use Rattle.wit_interfaces.specs.Adding as adding;

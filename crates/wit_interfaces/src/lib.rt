@@ -12,3 +12,4 @@ pub use interface::{Made, make_interface};
 pub use labelled::add_labelled;
 pub use members::bring_members;
 pub use text::InterfaceText;
+pub use wit_resolved_scopes::{Natures, ResolvedScope, item_order};

@@ -3,18 +3,15 @@
 ghost use Rattle.std.specs.Prelude.{◌≡◌, IfOk, OnOk, IfErr};
 ghost use Rattle.wit_scopes.specs.View as scope_view;
 ghost use Rattle.wit_rules.specs.Breaks.{IsKept, IsFaultOf};
-ghost use Rattle.wit_orders.specs.Needs.{types_of};
+ghost use Rattle.wit_resolved_scopes.specs.Passed.wit_orders-Needs.{types_of};
 ghost use Rattle.wit_arena.specs.Tree.{Place};
-ghost use Rattle.wit_resources.specs.Natures.{natures as natures_of};
+ghost use Rattle.wit_resolved_scopes.specs.Passed.wit_resources-Natures.{natures as natures_of};
 ghost use Rattle.wit_resolved_scopes.specs.Scope.{AreReady, ResolvesScope};
 ghost use Rattle.wit_resolved_scopes.specs.InArena.{Context};
 ghost use Rattle.wit_interfaces.specs.Adding as spec;
 
 use wit_arena::Types;
-use wit_orders::{are_types, scope_types};
-use wit_package_types::Known;
-use wit_resolved_scopes::{ResolvedScope, resolve_scope};
-use wit_resources::Natures;
+use wit_resolved_scopes::{Known, Natures, ResolvedScope, are_types, resolve_scope, scope_types};
 use wit_rules::PackageFault;
 use wit_scopes::Member;
 use wit_types::TypeOwner;

@@ -11,9 +11,9 @@ use Rattle.wit_types.specs.declared.world.World.{World}
 use Rattle.wit_types.specs.declared.world.WorldInclude.{WorldInclude}
 use Rattle.wit_types.specs.declared.«package».Package.{Package}
 use Rattle.wit_types.specs.WorldKey.{key_eq}
-use Rattle.wit_plans.specs.declared.moves.MovedWorld.{MovedWorld}
-use Rattle.wit_sides.specs.Sides.{AreUnited, no_entries, first_of_its_key, key_again}
-use Rattle.wit_includes.specs.Included.{copies_behind}
+use Rattle.wit_labels.specs.Passed.wit_plans-declared-moves-MovedWorld.{MovedWorld}
+use Rattle.wit_labels.specs.Passed.wit_sides-Sides.{AreUnited, no_entries, first_of_its_key, key_again}
+use Rattle.wit_labels.specs.Passed.wit_includes-Included.{copies_behind}
 use Rattle.wit_reach.specs.Deps.{AreUsed}
 use Rattle.wit_reach.specs.Ids.{side_ids}
 use Rattle.wit_reach.specs.Lists.{item_type, type_items, listed, listed_in}
@@ -21,15 +21,15 @@ use Rattle.wit_reach.specs.Types.{AreTypesBackward, AreTypesThere}
 use Rattle.wit_reach.proofs.Growing.{used_was}
 use Rattle.wit_reach.proofs.Lists.{has_append, has_parts}
 use Rattle.wit_elaborated.specs.Worlds.{AreKeysOfItems}
-use Rattle.wit_copied_trees.specs.There.{IncludedTypesAreBackward, IncludedSidesAreThere}
-use Rattle.wit_joined.specs.Joined as joined
-use Rattle.wit_joined.specs.Joined.{Includes, includes_none, includes_one, own_state}
-use Rattle.wit_placed.specs.There.{IsOwnThere}
-use Rattle.wit_placed.proofs.Members.{has_get}
-use Rattle.wit_uses.specs.Included.{BroughtTakesByUse}
-use Rattle.wit_uses.specs.Moved.{moved_types, IsOfMoved}
-use Rattle.wit_uses.specs.Uses.{TakesByUse, WorldsTakeByUse}
-use Rattle.wit_uses.proofs.Joining.{IsSoFar, includes_so_far, of_parts, united_was}
+use Rattle.wit_labels.specs.Passed.wit_copied_trees-There.{IncludedTypesAreBackward, IncludedSidesAreThere}
+use Rattle.wit_labels.specs.Passed.wit_joined-Joined as joined
+use Rattle.wit_labels.specs.Passed.wit_joined-Joined.{Includes, includes_none, includes_one, own_state}
+use Rattle.wit_labels.specs.Passed.wit_placed-There.{IsOwnThere}
+use Rattle.wit_labels.proofs.Passed.wit_placed-Members.{has_get}
+use Rattle.wit_graph_worlds.specs.Passed.wit_uses-Included.{BroughtTakesByUse}
+use Rattle.wit_graph_worlds.specs.Passed.wit_uses-Moved.{moved_types, IsOfMoved}
+use Rattle.wit_graph_worlds.specs.Passed.wit_uses-Uses.{TakesByUse, WorldsTakeByUse}
+use Rattle.wit_graph_worlds.proofs.Passed.wit_uses-Joining.{IsSoFar, includes_so_far, of_parts, united_was}
 use Rattle.wit_graph_worlds.specs.Added.{IsAdded}
 use Rattle.wit_graph_worlds.specs.Copies.{AreSameEntries, IsSameWorld}
 use Rattle.wit_graph_worlds.specs.Sound.{AreSound}

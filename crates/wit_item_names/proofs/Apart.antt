@@ -7,15 +7,15 @@ use Rattle.wit_types.specs.Package.{package_text}
 use Rattle.wit_types.specs.declared.interface.Interface.{Interface}
 use Rattle.wit_types.specs.declared.«package».Package.{Package}
 use Rattle.wit_features.specs.Features.{FeatureSet}
-use Rattle.wit_arena.proofs.Lists.{get_more}
+use Rattle.wit_labels.proofs.Passed.wit_arena-Lists.{get_more}
 use Rattle.wit_moves.specs.Moved.{place_of}
 use Rattle.wit_names.specs.Names.{ArePackagesKnown}
-use Rattle.wit_plans.specs.Checks.{Standing}
-use Rattle.wit_plans.specs.Moves.{AreMovedInterfaces}
-use Rattle.wit_placed.specs.Order.{interface_places}
-use Rattle.wit_placed.proofs.Own.{interface_from, IsFrom}
-use Rattle.wit_uses.proofs.Moving.{get_either}
-use Rattle.wit_plain_texts.specs.Plain.{IsPlain}
+use Rattle.wit_labels.specs.Passed.wit_plans-Checks.{Standing}
+use Rattle.wit_labels.specs.Passed.wit_plans-Moves.{AreMovedInterfaces}
+use Rattle.wit_labels.specs.Passed.wit_placed-Order.{interface_places}
+use Rattle.wit_labels.proofs.Passed.wit_placed-Own.{interface_from, IsFrom}
+use Rattle.wit_graph_worlds.proofs.Passed.wit_uses-Moving.{get_either}
+use Rattle.wit_labels.specs.Passed.wit_plain_texts-Plain.{IsPlain}
 use Rattle.wit_item_names.specs.Apart.{AreNamedApart, AreOwnNamedApart}
 use Rattle.wit_item_names.specs.Placed.{IsNewName, PlacedAreNamedApart}
 

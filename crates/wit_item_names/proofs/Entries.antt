@@ -12,12 +12,12 @@ use Rattle.wit_types.specs.declared.world_key.WorldKey.{WorldKey}
 use Rattle.wit_types.specs.declared.world_key.WorldKey.TheVariants as key
 use Rattle.wit_moves.specs.Worlds as worlds
 use Rattle.wit_moves.specs.Worlds.{IsMovedItem}
-use Rattle.wit_copies.specs.Copies.{Copies, IsCopiedItem, AreCopiedEntries, no_entries, one_entry_more}
-use Rattle.wit_copies.specs.Same as copy
-use Rattle.wit_copies.specs.Same.{IsSameItem, IsSameKey}
-use Rattle.wit_sides.specs.Renames as renamed
-use Rattle.wit_sides.specs.Renames.{IsRenamed, IsRenamedKey, IsRenamedItem, AreRenamed}
-use Rattle.wit_includes.specs.Included.{AreIncludedEntries}
+use Rattle.wit_labels.specs.Passed.wit_copies-Copies.{Copies, IsCopiedItem, AreCopiedEntries, no_entries, one_entry_more}
+use Rattle.wit_labels.specs.Passed.wit_copies-Same as copy
+use Rattle.wit_labels.specs.Passed.wit_copies-Same.{IsSameItem, IsSameKey}
+use Rattle.wit_labels.specs.Passed.wit_sides-Renames as renamed
+use Rattle.wit_labels.specs.Passed.wit_sides-Renames.{IsRenamed, IsRenamedKey, IsRenamedItem, AreRenamed}
+use Rattle.wit_labels.specs.Passed.wit_includes-Included.{AreIncludedEntries}
 use Rattle.wit_item_names.proofs.Sides.{Entry}
 
 abbrev pub text_of_key : WorldKey → List ℕ

@@ -17,13 +17,13 @@ use Rattle.wit_types.specs.declared.world_key.WorldKey.{WorldKey}
 use Rattle.wit_types.specs.declared.world_key.WorldKey.TheVariants as key
 use Rattle.wit_moves.specs.Worlds as worlds
 use Rattle.wit_moves.specs.Worlds.{IsMovedItem}
-use Rattle.wit_copies.specs.Copies.{Copies, goes, copied_owner, AreCopiedEntries, no_entries, one_entry_more}
-use Rattle.wit_copies.specs.Same as copy
-use Rattle.wit_copies.specs.Same.{IsSameItem, IsSameKey}
-use Rattle.wit_sides.specs.Renames as renamed
-use Rattle.wit_sides.specs.Renames.{IsRenamedKey, IsRenamedItem, AreRenamed}
-use Rattle.wit_includes.specs.Included.{copies_behind, AreIncludedEntries, IsIncluded}
-use Rattle.wit_includes.specs.declared.worlds.Included.{Included}
+use Rattle.wit_labels.specs.Passed.wit_copies-Copies.{Copies, goes, copied_owner, AreCopiedEntries, no_entries, one_entry_more}
+use Rattle.wit_labels.specs.Passed.wit_copies-Same as copy
+use Rattle.wit_labels.specs.Passed.wit_copies-Same.{IsSameItem, IsSameKey}
+use Rattle.wit_labels.specs.Passed.wit_sides-Renames as renamed
+use Rattle.wit_labels.specs.Passed.wit_sides-Renames.{IsRenamedKey, IsRenamedItem, AreRenamed}
+use Rattle.wit_labels.specs.Passed.wit_includes-Included.{copies_behind, AreIncludedEntries, IsIncluded}
+use Rattle.wit_labels.specs.Passed.wit_includes-declared-worlds-Included.{Included}
 use Rattle.wit_reach.specs.Deps.{is_of_interface, IsDepOf, AreUsed}
 use Rattle.wit_reach.specs.Ids.{kind_ids, item_ids, side_ids}
 use Rattle.wit_reach.specs.Lists.{item_type, item_types, type_items, item_interface, listed, listed_in}
@@ -31,9 +31,9 @@ use Rattle.wit_reach.specs.Types.{AreTypesBackward, AreTypesThere, AreSidesThere
 use Rattle.wit_reach.proofs.Growing.{get_same, dep_same}
 use Rattle.wit_reach.proofs.Holding.{alias_of, of_alias, got}
 use Rattle.wit_reach.proofs.Lists.{has_append, has_parts}
-use Rattle.wit_copied_trees.proofs.Members.{goes_else}
-use Rattle.wit_copied_trees.proofs.MovedIds.{has_moved}
-use Rattle.wit_uses.proofs.Brought.{is_copied, own_at, included_sides}
+use Rattle.wit_labels.proofs.Passed.wit_copied_trees-Members.{goes_else}
+use Rattle.wit_labels.proofs.Passed.wit_copied_trees-MovedIds.{has_moved}
+use Rattle.wit_graph_worlds.proofs.Passed.wit_uses-Brought.{is_copied, own_at, included_sides}
 use Rattle.wit_item_names.proofs.Sides.{Entry}
 
 -- ---- types of a side

@@ -13,3 +13,4 @@ mod Plain
 mod PlainMoved
 mod Tables
 mod Whole
+pub mod Passed

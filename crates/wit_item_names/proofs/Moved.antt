@@ -17,10 +17,10 @@ use Rattle.wit_features.specs.Features.{FeatureSet}
 use Rattle.wit_moves.specs.Breaks.{IsKept}
 use Rattle.wit_moves.specs.Moved.{Places, place_of, to}
 use Rattle.wit_moves.specs.Plan.{OwnerPlaces, moved_owner}
-use Rattle.wit_finding.specs.Types.{type_found}
-use Rattle.wit_plans.specs.Checks.{Standing, SidesBreak}
-use Rattle.wit_plans.specs.Moves.{IsMovedWorld}
-use Rattle.wit_plans.specs.declared.moves.MovedWorld.{MovedWorld}
+use Rattle.wit_labels.specs.Passed.wit_finding-Types.{type_found}
+use Rattle.wit_labels.specs.Passed.wit_plans-Checks.{Standing, SidesBreak}
+use Rattle.wit_labels.specs.Passed.wit_plans-Moves.{IsMovedWorld}
+use Rattle.wit_labels.specs.Passed.wit_plans-declared-moves-MovedWorld.{MovedWorld}
 use Rattle.wit_reach.specs.Deps.{interface_of, is_of_interface, IsDepOf, AreUsed, IsInterfaceDep}
 use Rattle.wit_reach.specs.Holding.{HoldTheirTypes}
 use Rattle.wit_reach.specs.Ids.{kind_ids}
@@ -29,17 +29,17 @@ use Rattle.wit_reach.specs.Types.{AreTypesBackward}
 use Rattle.wit_reach.proofs.Growing.{get_same, dep_same, used_was}
 use Rattle.wit_reach.proofs.Holding.{alias_of, of_alias, got, has_mapped, mapped_has}
 use Rattle.wit_reach.proofs.Lists.{has_append, has_parts}
-use Rattle.wit_arena.proofs.Lists.{get_kept}
-use Rattle.wit_placed.specs.Order.{AreBehind, interface_places}
-use Rattle.wit_placed.specs.There.{IsInterfaceThere}
-use Rattle.wit_placed.proofs.Holding.{goes_to, name_was}
-use Rattle.wit_placed.proofs.Members.{has_at, has_get}
-use Rattle.wit_placed.proofs.Own.{interface_from, interfaces_from, interfaces_take_places, only_one, others_stay, worlds_take_places_alone}
-use Rattle.wit_placed.proofs.Sources.{owner_stands}
-use Rattle.wit_uses.proofs.Behind.{Comes, sources, other_found, other_stands, was_at}
-use Rattle.wit_uses.proofs.Brought.{alias_came}
-use Rattle.wit_uses.proofs.Moving.{get_either}
-use Rattle.wit_uses.proofs.Worlds.{sides_kept}
+use Rattle.wit_labels.proofs.Passed.wit_arena-Lists.{get_kept}
+use Rattle.wit_labels.specs.Passed.wit_placed-Order.{AreBehind, interface_places}
+use Rattle.wit_labels.specs.Passed.wit_placed-There.{IsInterfaceThere}
+use Rattle.wit_labels.proofs.Passed.wit_placed-Holding.{goes_to, name_was}
+use Rattle.wit_labels.proofs.Passed.wit_placed-Members.{has_at, has_get}
+use Rattle.wit_labels.proofs.Passed.wit_placed-Own.{interface_from, interfaces_from, interfaces_take_places, only_one, others_stay, worlds_take_places_alone}
+use Rattle.wit_labels.proofs.Passed.wit_placed-Sources.{owner_stands}
+use Rattle.wit_graph_worlds.proofs.Passed.wit_uses-Behind.{Comes, sources, other_found, other_stands, was_at}
+use Rattle.wit_graph_worlds.proofs.Passed.wit_uses-Brought.{alias_came}
+use Rattle.wit_graph_worlds.proofs.Passed.wit_uses-Moving.{get_either}
+use Rattle.wit_graph_worlds.proofs.Passed.wit_uses-Worlds.{sides_kept}
 use Rattle.wit_item_names.specs.Used.{IsNamed, IsOwnNamed, SidesUseNamed}
 use Rattle.wit_item_names.specs.Placed.{PlacedUseNamed}
 use Rattle.wit_item_names.proofs.Named.{named_more, new_named}

@@ -5,7 +5,7 @@ use Rattle.std.specs.declared.alloc.Global.{Global}
 use Rattle.wit_types.specs.Package.{interface_text}
 use Rattle.wit_types.specs.declared.interface.Interface.{Interface}
 use Rattle.wit_types.specs.declared.«package».Package.{Package}
-use Rattle.wit_arena.proofs.Lists.{get_kept, get_last}
+use Rattle.wit_labels.proofs.Passed.wit_arena-Lists.{get_kept, get_last}
 use Rattle.wit_names.specs.Names.{text_at, named_in}
 use Rattle.wit_item_names.specs.Used.{IsNamed}
 

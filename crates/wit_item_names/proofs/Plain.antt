@@ -17,31 +17,31 @@ use Rattle.wit_types.specs.declared.world.WorldItem.TheVariants as item
 use Rattle.wit_types.specs.declared.world_key.WorldKey.{WorldKey}
 use Rattle.wit_types.specs.declared.world_key.WorldKey.TheVariants as key
 use Rattle.wit_types.specs.WorldKey.{key_eq}
-use Rattle.wit_plans.specs.declared.moves.MovedWorld.{MovedWorld}
-use Rattle.wit_copies.specs.Copies.{Copies, goes}
-use Rattle.wit_copies.specs.Same as copy
-use Rattle.wit_copies.specs.Same.{IsSameItem}
-use Rattle.wit_sides.specs.Renames.{IsRenamed}
-use Rattle.wit_sides.specs.Sides.{AreUnited, no_entries, first_of_its_key, key_again}
-use Rattle.wit_includes.specs.Included.{copies_behind, IsIncluded}
-use Rattle.wit_includes.specs.declared.worlds.Included.{Included}
+use Rattle.wit_labels.specs.Passed.wit_plans-declared-moves-MovedWorld.{MovedWorld}
+use Rattle.wit_labels.specs.Passed.wit_copies-Copies.{Copies, goes}
+use Rattle.wit_labels.specs.Passed.wit_copies-Same as copy
+use Rattle.wit_labels.specs.Passed.wit_copies-Same.{IsSameItem}
+use Rattle.wit_labels.specs.Passed.wit_sides-Renames.{IsRenamed}
+use Rattle.wit_labels.specs.Passed.wit_sides-Sides.{AreUnited, no_entries, first_of_its_key, key_again}
+use Rattle.wit_labels.specs.Passed.wit_includes-Included.{copies_behind, IsIncluded}
+use Rattle.wit_labels.specs.Passed.wit_includes-declared-worlds-Included.{Included}
 use Rattle.wit_reach.specs.Holding.{AreNamedOwned}
 use Rattle.wit_reach.specs.Lists.{item_type, type_items}
 use Rattle.wit_reach.specs.Types.{AreTypesBackward, AreSidesThere, IsOfItem}
 use Rattle.wit_reach.proofs.Holding.{mapped_has, flat_has}
 use Rattle.wit_elaborated.specs.Worlds.{AreKeysOfItems}
-use Rattle.wit_copied_trees.specs.There.{IncludedTypesAreBackward, IncludedSidesAreThere}
+use Rattle.wit_labels.specs.Passed.wit_copied_trees-There.{IncludedTypesAreBackward, IncludedSidesAreThere}
 use Rattle.wit_core_names.specs.Texts.{IsNameOf}
-use Rattle.wit_arena.proofs.Lists.{get_kept, get_last}
-use Rattle.wit_joined.specs.Joined as joined
-use Rattle.wit_joined.specs.Joined.{Includes, includes_none, includes_one, own_state}
-use Rattle.wit_placed.specs.There.{IsOwnThere}
-use Rattle.wit_placed.proofs.Members.{has_at, has_get}
-use Rattle.wit_uses.specs.Included.{BroughtTakesByUse}
-use Rattle.wit_uses.specs.Moved.{moved_types, IsOfMoved}
-use Rattle.wit_uses.specs.Uses.{TakesByUse, WorldsTakeByUse}
-use Rattle.wit_uses.proofs.Brought.{is_copied, own_local}
-use Rattle.wit_uses.proofs.Joining.{IsClear, clear_front, clash_of, IsSoFar, includes_so_far}
+use Rattle.wit_labels.proofs.Passed.wit_arena-Lists.{get_kept, get_last}
+use Rattle.wit_labels.specs.Passed.wit_joined-Joined as joined
+use Rattle.wit_labels.specs.Passed.wit_joined-Joined.{Includes, includes_none, includes_one, own_state}
+use Rattle.wit_labels.specs.Passed.wit_placed-There.{IsOwnThere}
+use Rattle.wit_labels.proofs.Passed.wit_placed-Members.{has_at, has_get}
+use Rattle.wit_graph_worlds.specs.Passed.wit_uses-Included.{BroughtTakesByUse}
+use Rattle.wit_graph_worlds.specs.Passed.wit_uses-Moved.{moved_types, IsOfMoved}
+use Rattle.wit_graph_worlds.specs.Passed.wit_uses-Uses.{TakesByUse, WorldsTakeByUse}
+use Rattle.wit_graph_worlds.proofs.Passed.wit_uses-Brought.{is_copied, own_local}
+use Rattle.wit_graph_worlds.proofs.Passed.wit_uses-Joining.{IsClear, clear_front, clash_of, IsSoFar, includes_so_far}
 use Rattle.wit_graph_worlds.specs.Added.{IsAdded}
 use Rattle.wit_graph_worlds.specs.Copies.{AreSameEntries}
 use Rattle.wit_graph_worlds.specs.Sound.{AreSound}
@@ -50,7 +50,7 @@ use Rattle.wit_graph_worlds.proofs.Adding.{each_of}
 use Rattle.wit_graph_worlds.proofs.Belonging.{includes_named}
 use Rattle.wit_graph_worlds.proofs.Taking.{begins, all_keep}
 use Rattle.wit_item_names.specs.Added.{ArePlainWorlds, IsPlainWorld, AddedWorldsArePlain}
-use Rattle.wit_plain_texts.specs.Plain.{IsPlain}
+use Rattle.wit_labels.specs.Passed.wit_plain_texts-Plain.{IsPlain}
 use Rattle.wit_labels.specs.Plain.{ArePlainApart}
 use Rattle.wit_item_names.specs.Plain.{ArePlainlyNamed, AreUnderPlainNames, ArePlainRenames, ArePlainIncludes}
 use Rattle.wit_item_names.proofs.Entries.{text_of_item, same_name, named_from, function_from, renamed_function, type_from, renamed_type}

@@ -22,23 +22,23 @@ use Rattle.wit_moves.specs.Moved.{Places, place_of, is_placed, to}
 use Rattle.wit_moves.specs.Interfaces.{no_entries, one_goes, one_stays}
 use Rattle.wit_moves.specs.Plan.{OwnerPlaces}
 use Rattle.wit_moves.specs.Worlds.{item_stays, IsMovedItem, moved_interface, moved_function, moved_type, moved_key, moved_entry, AreMovedItems, IsMovedSide}
-use Rattle.wit_finding.specs.Types.{type_found}
-use Rattle.wit_plans.specs.Checks.{Standing}
-use Rattle.wit_plans.specs.Moves.{moved_include, IsMovedWorld}
-use Rattle.wit_plans.specs.declared.moves.MovedWorld.{MovedWorld}
+use Rattle.wit_labels.specs.Passed.wit_finding-Types.{type_found}
+use Rattle.wit_labels.specs.Passed.wit_plans-Checks.{Standing}
+use Rattle.wit_labels.specs.Passed.wit_plans-Moves.{moved_include, IsMovedWorld}
+use Rattle.wit_labels.specs.Passed.wit_plans-declared-moves-MovedWorld.{MovedWorld}
 use Rattle.wit_reach.specs.Holding.{HoldTheirTypes}
 use Rattle.wit_reach.specs.Lists.{item_type, type_items}
 use Rattle.wit_reach.specs.Types.{IsOfItem}
 use Rattle.wit_reach.proofs.Holding.{has_mapped, mapped_has, flat_has}
-use Rattle.wit_arena.proofs.Lists.{get_kept}
+use Rattle.wit_labels.proofs.Passed.wit_arena-Lists.{get_kept}
 use Rattle.wit_core_names.specs.Texts.{IsNameOf}
-use Rattle.wit_placed.specs.Order.{AreBehind}
-use Rattle.wit_placed.proofs.Finding as finding
-use Rattle.wit_placed.proofs.Holding.{goes_to}
-use Rattle.wit_placed.proofs.Members.{has_at, has_get}
-use Rattle.wit_placed.proofs.Own.{worlds_take_places_alone}
-use Rattle.wit_uses.specs.Uses.{IsOwn, TakesByUse}
-use Rattle.wit_uses.proofs.Behind.{sources, other_found, was_at}
+use Rattle.wit_labels.specs.Passed.wit_placed-Order.{AreBehind}
+use Rattle.wit_labels.proofs.Passed.wit_placed-Finding as finding
+use Rattle.wit_labels.proofs.Passed.wit_placed-Holding.{goes_to}
+use Rattle.wit_labels.proofs.Passed.wit_placed-Members.{has_at, has_get}
+use Rattle.wit_labels.proofs.Passed.wit_placed-Own.{worlds_take_places_alone}
+use Rattle.wit_graph_worlds.specs.Passed.wit_uses-Uses.{IsOwn, TakesByUse}
+use Rattle.wit_graph_worlds.proofs.Passed.wit_uses-Behind.{sources, other_found, was_at}
 use Rattle.wit_item_names.specs.Plain.{AreUnderPlainNames, ArePlainIncludes}
 use Rattle.wit_item_names.specs.Placed.{PlacedWorldsArePlain}
 use Rattle.wit_item_names.proofs.Entries.{text_of_item}

@@ -11,11 +11,11 @@ use Rattle.wit_reach.specs.Deps.{IsInterfaceDep}
 use Rattle.wit_reach.specs.Lists.{item_types}
 use Rattle.wit_reach.specs.Types.{AreTypesBackward, AreTypesThere, AreSidesThere}
 use Rattle.wit_reach.proofs.Growing.{used_was}
-use Rattle.wit_arena.proofs.Lists.{get_kept}
-use Rattle.wit_copied_trees.specs.There.{IncludedTypesAreBackward, IncludedSidesAreThere}
-use Rattle.wit_placed.proofs.Members.{has_at, has_get}
-use Rattle.wit_uses.specs.Included.{BroughtTakesByUse}
-use Rattle.wit_uses.proofs.Moving.{get_either}
+use Rattle.wit_labels.proofs.Passed.wit_arena-Lists.{get_kept}
+use Rattle.wit_labels.specs.Passed.wit_copied_trees-There.{IncludedTypesAreBackward, IncludedSidesAreThere}
+use Rattle.wit_labels.proofs.Passed.wit_placed-Members.{has_at, has_get}
+use Rattle.wit_graph_worlds.specs.Passed.wit_uses-Included.{BroughtTakesByUse}
+use Rattle.wit_graph_worlds.proofs.Passed.wit_uses-Moving.{get_either}
 use Rattle.wit_graph_worlds.specs.Worlds.{state}
 use Rattle.wit_graph_worlds.proofs.Adding.{types_more}
 use Rattle.wit_graph_worlds.proofs.Taking.{all_go}

@@ -4,8 +4,8 @@ use Rattle.std.proofs.lemmas.List.{append_cancel_left}
 use Rattle.std.specs.Prelude.{codes, string_bytes, bytes_eq, if◌then◌else◌}
 use Rattle.wit_order.specs.Order.{Has}
 use Rattle.wit_types.specs.declared.world.IncludeName.{IncludeName}
-use Rattle.wit_sides.specs.Renames.{through, IsRenamedFunction, of_resource, of_none, IsRenamed, constructor_of, method_of, static_of, plain}
-use Rattle.wit_plain_texts.specs.Plain.{IsWithout, IsPlain}
+use Rattle.wit_labels.specs.Passed.wit_sides-Renames.{through, IsRenamedFunction, of_resource, of_none, IsRenamed, constructor_of, method_of, static_of, plain}
+use Rattle.wit_labels.specs.Passed.wit_plain_texts-Plain.{IsWithout, IsPlain}
 use Rattle.wit_item_names.proofs.Texts.{split_mark, has_mark, no_dot_without, without_both, without_first, without_second, without_by}
 
 -- marks differ by it

@@ -13,9 +13,9 @@ use Rattle.wit_moves.specs.Interfaces.{no_entries, one_goes, one_stays}
 use Rattle.wit_moves.specs.Worlds.{item_stays, is_item_placed, IsMovedItem, moved_interface, moved_function, moved_type, moved_entry, AreMovedItems, IsMovedSide, SideBreaks}
 use Rattle.wit_reach.specs.Lists.{item_type, type_items, listed, listed_in}
 use Rattle.wit_reach.proofs.Lists.{has_append, has_parts}
-use Rattle.wit_placed.proofs.Holding.{goes_to}
-use Rattle.wit_placed.proofs.Members.{has_at}
-use Rattle.wit_placed.proofs.Sides.{holds}
+use Rattle.wit_labels.proofs.Passed.wit_placed-Holding.{goes_to}
+use Rattle.wit_labels.proofs.Passed.wit_placed-Members.{has_at}
+use Rattle.wit_labels.proofs.Passed.wit_placed-Sides.{holds}
 
 abbrev pub Entry : Type 0
 Entry = WorldKey × WorldItem

@@ -7,11 +7,11 @@ use Rattle.wit_order.specs.Order.{Has}
 use Rattle.wit_types.specs.declared.interface.Interface.{Interface}
 use Rattle.wit_types.specs.declared.«package».Package.{Package}
 use Rattle.wit_features.specs.Features.{FeatureSet}
-use Rattle.wit_plans.specs.Checks.{Standing}
-use Rattle.wit_plans.specs.Moves.{AreMovedInterfaces}
+use Rattle.wit_labels.specs.Passed.wit_plans-Checks.{Standing}
+use Rattle.wit_labels.specs.Passed.wit_plans-Moves.{AreMovedInterfaces}
 use Rattle.wit_reach.proofs.Holding.{mapped_has}
-use Rattle.wit_placed.proofs.Finding.{has_or, found_so}
-use Rattle.wit_placed.proofs.Own.{interface_from}
+use Rattle.wit_labels.proofs.Passed.wit_placed-Finding.{has_or, found_so}
+use Rattle.wit_labels.proofs.Passed.wit_placed-Own.{interface_from}
 use Rattle.wit_graph_worlds.specs.Names.{Pair, by_bytes, name_at, interface_names, AreNames}
 use Rattle.wit_item_names.specs.Tables.{TablesNameNamed, FoundAreNamed, PlacedTablesNameNamed}
 use Rattle.wit_item_names.specs.Used.{IsNamed}

@@ -7,7 +7,7 @@ use Rattle.wit_order.specs.Order.{Has}
 use Rattle.wit_order.proofs.Lists.{has_was}
 use Rattle.wit_reach.proofs.Lists.{has_append, has_parts}
 use Rattle.wit_types.specs.Function.{HasNoDot}
-use Rattle.wit_plain_texts.specs.Plain.{IsWithout}
+use Rattle.wit_labels.specs.Passed.wit_plain_texts-Plain.{IsWithout}
 
 -- the mark is where it first stands
 pub split_mark : (mark : ℕ) (xs ys more rest : List ℕ) → IsWithout mark xs → IsWithout mark ys → xs ++ mark ∷ more ≡ ys ++ mark ∷ rest → (xs ≡ ys) × (more ≡ rest)

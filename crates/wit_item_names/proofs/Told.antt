@@ -12,7 +12,7 @@ use Rattle.wit_types.specs.declared.world_key.WorldKey.TheVariants as key
 use Rattle.wit_types.specs.declared.«package».Package.{Package}
 use Rattle.wit_types.specs.declared.«package».PackageName.{PackageName}
 use Rattle.wit_names.specs.Names.{named_in, text_at}
-use Rattle.wit_plain_texts.specs.Plain.{IsWithout, IsPlain}
+use Rattle.wit_labels.specs.Passed.wit_plain_texts-Plain.{IsWithout, IsPlain}
 use Rattle.wit_item_names.specs.Apart.{AreNamedApart}
 use Rattle.wit_item_names.specs.Used.{HasText}
 use Rattle.wit_item_names.proofs.Texts.{split_mark, has_mark}

@@ -9,19 +9,19 @@ use Rattle.wit_types.specs.declared.«package».Package.{Package}
 use Rattle.wit_features.specs.Features.{FeatureSet}
 use Rattle.wit_moves.specs.Moved.{Places}
 use Rattle.wit_moves.specs.Plan.{OwnerPlaces}
-use Rattle.wit_plans.specs.Checks.{Standing}
-use Rattle.wit_plans.specs.declared.moves.MovedWorld.{MovedWorld}
+use Rattle.wit_labels.specs.Passed.wit_plans-Checks.{Standing}
+use Rattle.wit_labels.specs.Passed.wit_plans-declared-moves-MovedWorld.{MovedWorld}
 use Rattle.wit_reach.specs.Ids.{function_ids}
 use Rattle.wit_reach.specs.Types.{AreTypesBackward}
-use Rattle.wit_arena.proofs.Lists.{get_kept}
-use Rattle.wit_copied_trees.specs.There.{IncludedTypesAreBackward, IncludedSidesAreThere}
-use Rattle.wit_placed.specs.There.{IsInterfaceThere}
-use Rattle.wit_placed.proofs.Finding.{has_or}
-use Rattle.wit_placed.proofs.Members.{has_at, has_get}
-use Rattle.wit_uses.specs.Included.{BroughtTakesByUse}
-use Rattle.wit_uses.specs.Moved.{MovedInterfacesTakeByUse, InterfacesStillTakeByUse, PlacedWorldsTakeByUse}
-use Rattle.wit_uses.specs.Uses.{InterfacesTakeByUse}
-use Rattle.wit_uses.proofs.Joining.{worlds_still}
+use Rattle.wit_labels.proofs.Passed.wit_arena-Lists.{get_kept}
+use Rattle.wit_labels.specs.Passed.wit_copied_trees-There.{IncludedTypesAreBackward, IncludedSidesAreThere}
+use Rattle.wit_labels.specs.Passed.wit_placed-There.{IsInterfaceThere}
+use Rattle.wit_labels.proofs.Passed.wit_placed-Finding.{has_or}
+use Rattle.wit_labels.proofs.Passed.wit_placed-Members.{has_at, has_get}
+use Rattle.wit_graph_worlds.specs.Passed.wit_uses-Included.{BroughtTakesByUse}
+use Rattle.wit_graph_worlds.specs.Passed.wit_uses-Moved.{MovedInterfacesTakeByUse, InterfacesStillTakeByUse, PlacedWorldsTakeByUse}
+use Rattle.wit_graph_worlds.specs.Passed.wit_uses-Uses.{InterfacesTakeByUse}
+use Rattle.wit_graph_worlds.proofs.Passed.wit_uses-Joining.{worlds_still}
 use Rattle.wit_graph_worlds.specs.Uses.{AddedWorldsTakeByUse}
 use Rattle.wit_graph_worlds.specs.Worlds.{Worlds, State, state}
 use Rattle.wit_graph_worlds.proofs.Adding.{types_more}

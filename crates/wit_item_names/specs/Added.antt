@@ -7,10 +7,10 @@ use Rattle.wit_types.specs.declared.interface.TypeDef.{TypeDef}
 use Rattle.wit_types.specs.declared.interface.TypeOwner.TheVariants as belongs
 use Rattle.wit_types.specs.declared.world.World.{World}
 use Rattle.wit_types.specs.declared.«package».Package.{Package}
-use Rattle.wit_plans.specs.declared.moves.MovedWorld.{MovedWorld}
-use Rattle.wit_placed.specs.There.{IsOwnThere}
-use Rattle.wit_uses.specs.Uses.{TakesByUse, WorldsTakeByUse}
-use Rattle.wit_uses.specs.Moved.{moved_types, IsOfMoved}
+use Rattle.wit_labels.specs.Passed.wit_plans-declared-moves-MovedWorld.{MovedWorld}
+use Rattle.wit_labels.specs.Passed.wit_placed-There.{IsOwnThere}
+use Rattle.wit_graph_worlds.specs.Passed.wit_uses-Uses.{TakesByUse, WorldsTakeByUse}
+use Rattle.wit_graph_worlds.specs.Passed.wit_uses-Moved.{moved_types, IsOfMoved}
 use Rattle.wit_graph_worlds.specs.Added.{AreAdded}
 use Rattle.wit_graph_worlds.specs.Sound.{AreSound}
 use Rattle.wit_graph_worlds.specs.Worlds.{State}

@@ -5,7 +5,7 @@ use Rattle.wit_types.specs.Package.{interface_text, package_text}
 use Rattle.wit_types.specs.declared.interface.Interface.{Interface}
 use Rattle.wit_types.specs.declared.«package».Package.{Package}
 use Rattle.wit_names.specs.Names.{IsTextOf}
-use Rattle.wit_plain_texts.specs.Plain.{IsPlain}
+use Rattle.wit_labels.specs.Passed.wit_plain_texts-Plain.{IsPlain}
 
 -- no two packages have one text, and no two interfaces of a package one name; parts of names have no marks
 pub record AreNamedApart (packages : List Package) (interfaces : List Interface) : Type 0 where

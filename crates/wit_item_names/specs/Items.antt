@@ -8,7 +8,7 @@ use Rattle.wit_types.specs.declared.interface.TypeOwner.TheVariants as belongs
 use Rattle.wit_order.specs.Order.{Has}
 use Rattle.wit_reach.specs.Lists.{type_items}
 use Rattle.wit_reach.specs.Types.{IsOfItem}
-use Rattle.wit_uses.specs.Uses.{TakesByUse, TakeByUse, InterfacesTakeByUse}
+use Rattle.wit_graph_worlds.specs.Passed.wit_uses-Uses.{TakesByUse, TakeByUse, InterfacesTakeByUse}
 use Rattle.wit_item_names.specs.Apart.{AreNamedApart, AreOwnNamedApart}
 use Rattle.wit_item_names.specs.Plain.{ArePlainlyNamed, AreUnderPlainNames, ArePlainIncludes}
 use Rattle.wit_item_names.specs.Used.{AreUsedNamed, AreOwnUsedNamed}

@@ -7,3 +7,4 @@ pub mod Pushed
 pub mod Items
 pub mod Tables
 pub mod Whole
+pub mod Passed

@@ -12,18 +12,18 @@ use Rattle.wit_names.specs.Names.{ArePackagesKnown}
 use Rattle.wit_moves.specs.Breaks.{AnyOf, IsKept}
 use Rattle.wit_moves.specs.Moved.{Places, place_of}
 use Rattle.wit_moves.specs.Plan.{OwnerPlaces}
-use Rattle.wit_finding.specs.Types.{type_found}
-use Rattle.wit_plans.specs.Checks.{Standing, WorldBreaks}
-use Rattle.wit_plans.specs.Moves.{AreMovedInterfaces, AreMovedWorlds}
-use Rattle.wit_plans.specs.declared.moves.MovedWorld.{MovedWorld}
+use Rattle.wit_labels.specs.Passed.wit_finding-Types.{type_found}
+use Rattle.wit_labels.specs.Passed.wit_plans-Checks.{Standing, WorldBreaks}
+use Rattle.wit_labels.specs.Passed.wit_plans-Moves.{AreMovedInterfaces, AreMovedWorlds}
+use Rattle.wit_labels.specs.Passed.wit_plans-declared-moves-MovedWorld.{MovedWorld}
 use Rattle.wit_reach.specs.Deps.{IsInterfaceDep}
 use Rattle.wit_reach.specs.Holding.{HoldTheirTypes}
 use Rattle.wit_reach.specs.Lists.{type_items}
 use Rattle.wit_reach.specs.Types.{IsOfItem}
-use Rattle.wit_placed.specs.There.{IsInterfaceThere}
-use Rattle.wit_placed.specs.Order.{AreBehind}
-use Rattle.wit_uses.specs.Uses.{TakesByUse}
-use Rattle.wit_plain_texts.specs.Plain.{IsPlain}
+use Rattle.wit_labels.specs.Passed.wit_placed-There.{IsInterfaceThere}
+use Rattle.wit_labels.specs.Passed.wit_placed-Order.{AreBehind}
+use Rattle.wit_graph_worlds.specs.Passed.wit_uses-Uses.{TakesByUse}
+use Rattle.wit_labels.specs.Passed.wit_plain_texts-Plain.{IsPlain}
 use Rattle.wit_item_names.specs.Apart.{AreNamedApart, AreOwnNamedApart}
 use Rattle.wit_item_names.specs.Added.{IsPlainWorld}
 use Rattle.wit_item_names.specs.Plain.{AreUnderPlainNames, ArePlainIncludes}

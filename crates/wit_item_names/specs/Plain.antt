@@ -12,7 +12,7 @@ use Rattle.wit_types.specs.declared.world.WorldItem.TheVariants as item
 use Rattle.wit_types.specs.declared.world_key.WorldKey.{WorldKey}
 use Rattle.wit_types.specs.declared.world_key.WorldKey.TheVariants as key
 use Rattle.wit_core_names.specs.Texts.{IsNameOf}
-use Rattle.wit_plain_texts.specs.Plain.{IsPlain}
+use Rattle.wit_labels.specs.Passed.wit_plain_texts-Plain.{IsPlain}
 use Rattle.wit_labels.specs.Plain.{ArePlainApart}
 
 -- no plain name stands twice and none has marks; functions and types stand under their names

@@ -10,14 +10,14 @@ use Rattle.wit_features.specs.Features.{FeatureSet}
 use Rattle.wit_moves.specs.Breaks.{AnyOf, IsKept}
 use Rattle.wit_moves.specs.Moved.{Places, place_of}
 use Rattle.wit_moves.specs.Plan.{OwnerPlaces}
-use Rattle.wit_finding.specs.Types.{type_found}
-use Rattle.wit_plans.specs.Checks.{Standing, WorldBreaks}
-use Rattle.wit_plans.specs.Moves.{AreMovedWorlds}
-use Rattle.wit_plans.specs.declared.moves.MovedWorld.{MovedWorld}
+use Rattle.wit_labels.specs.Passed.wit_finding-Types.{type_found}
+use Rattle.wit_labels.specs.Passed.wit_plans-Checks.{Standing, WorldBreaks}
+use Rattle.wit_labels.specs.Passed.wit_plans-Moves.{AreMovedWorlds}
+use Rattle.wit_labels.specs.Passed.wit_plans-declared-moves-MovedWorld.{MovedWorld}
 use Rattle.wit_reach.specs.Holding.{HoldTheirTypes}
-use Rattle.wit_joined.specs.Joined.{AreWorldsThere}
-use Rattle.wit_placed.specs.There.{IsInterfaceThere}
-use Rattle.wit_placed.specs.Order.{AreBehind}
+use Rattle.wit_labels.specs.Passed.wit_joined-Joined.{AreWorldsThere}
+use Rattle.wit_labels.specs.Passed.wit_placed-There.{IsInterfaceThere}
+use Rattle.wit_labels.specs.Passed.wit_placed-Order.{AreBehind}
 use Rattle.wit_graph_worlds.specs.Worlds.{Worlds, State, state}
 use Rattle.wit_item_names.specs.Added.{Come}
 use Rattle.wit_item_names.specs.Used.{IsNamed, AreUsedNamed, AreOwnUsedNamed}

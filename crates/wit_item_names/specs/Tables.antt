@@ -8,9 +8,9 @@ use Rattle.wit_types.specs.declared.«package».PackageName.{PackageName}
 use Rattle.wit_types.specs.declared.«package».UnresolvedPackage.{UnresolvedPackage}
 use Rattle.wit_features.specs.Features.{FeatureSet}
 use Rattle.wit_moves.specs.Moved.{Places, place_of}
-use Rattle.wit_finding.specs.Foreign.{AreForeignPlaces}
-use Rattle.wit_plans.specs.Checks.{Standing}
-use Rattle.wit_plans.specs.Moves.{AreMovedInterfaces}
+use Rattle.wit_labels.specs.Passed.wit_finding-Foreign.{AreForeignPlaces}
+use Rattle.wit_labels.specs.Passed.wit_plans-Checks.{Standing}
+use Rattle.wit_labels.specs.Passed.wit_plans-Moves.{AreMovedInterfaces}
 use Rattle.wit_graph_worlds.specs.Names.{AreNames, interface_names}
 use Rattle.wit_item_names.specs.Used.{IsNamed}
 

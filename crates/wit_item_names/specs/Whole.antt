@@ -10,16 +10,16 @@ use Rattle.wit_features.specs.Features.{FeatureSet}
 use Rattle.wit_moves.specs.Breaks.{AnyOf, IsKept}
 use Rattle.wit_moves.specs.Moved.{Places, place_of}
 use Rattle.wit_moves.specs.Plan.{OwnerPlaces}
-use Rattle.wit_finding.specs.Types.{type_found}
+use Rattle.wit_labels.specs.Passed.wit_finding-Types.{type_found}
 use Rattle.wit_names.specs.Names.{ArePackagesKnown}
-use Rattle.wit_plans.specs.Checks.{Standing, InterfaceBreaks, WorldBreaks}
-use Rattle.wit_plans.specs.Moves.{AreMovedWorlds}
-use Rattle.wit_plans.specs.declared.moves.MovedWorld.{MovedWorld}
+use Rattle.wit_labels.specs.Passed.wit_plans-Checks.{Standing, InterfaceBreaks, WorldBreaks}
+use Rattle.wit_labels.specs.Passed.wit_plans-Moves.{AreMovedWorlds}
+use Rattle.wit_labels.specs.Passed.wit_plans-declared-moves-MovedWorld.{MovedWorld}
 use Rattle.wit_reach.specs.Holding.{AreNamedOwned, HoldTheirTypes}
-use Rattle.wit_joined.specs.Joined.{AreWorldsThere}
-use Rattle.wit_placed.specs.Order.{AreBehind}
-use Rattle.wit_placed.specs.There.{AreBelow, IsInterfaceThere, IsOwnThere}
-use Rattle.wit_placed.specs.Worlds.{world_places}
+use Rattle.wit_labels.specs.Passed.wit_joined-Joined.{AreWorldsThere}
+use Rattle.wit_labels.specs.Passed.wit_placed-Order.{AreBehind}
+use Rattle.wit_labels.specs.Passed.wit_placed-There.{AreBelow, IsInterfaceThere, IsOwnThere}
+use Rattle.wit_labels.specs.Passed.wit_placed-Worlds.{world_places}
 use Rattle.wit_graph_worlds.specs.Added.{AreAdded}
 use Rattle.wit_graph_worlds.specs.Sound.{AreSound}
 use Rattle.wit_graph_worlds.specs.Worlds.{Worlds, State, state}

@@ -7,12 +7,11 @@ ghost use Rattle.wit_item_names.specs.Pushed.{PushedAreUsedNamed};
 ghost use Rattle.wit_item_names.specs.Tables.{FoundAreNamed, PlacedTablesNameNamed};
 ghost use Rattle.wit_item_names.specs.Whole.{PushedItemsAreNamed};
 
-use wit_copied_trees::{law_included_sides_are_there, law_included_types_are_backward};
-use wit_graph_worlds::law_added_worlds_take_by_use;
-use wit_uses::{
-    law_brought_takes_by_use, law_interfaces_still_take_by_use, law_moved_interfaces_take_by_use,
-    law_placed_worlds_take_by_use,
+use wit_graph_worlds::{
+    law_added_worlds_take_by_use, law_brought_takes_by_use, law_interfaces_still_take_by_use,
+    law_moved_interfaces_take_by_use, law_placed_worlds_take_by_use,
 };
+use wit_labels::{law_included_sides_are_there, law_included_types_are_backward};
 
 /// Where names tell packages apart, and the interfaces of each, and no part of these has a mark that stands between them, no two interfaces have
 /// one text (WIT, Package Names).

@@ -1,9 +1,9 @@
 -- What stands where a text breaks a rule.
 use Rattle.std.proofs.Common.{List, Bool, Option, Some, None, refl, inr}
-use Rattle.wit_words.specs.declared.token.Kind.TheVariants as kind
+use Rattle.wit_productions.specs.Passed.wit_words-declared-token-Kind-TheVariants as kind
 use Rattle.wit_items.specs.ItemTree.{TypeDefTree, TypeDefKindTree}
-use Rattle.wit_words.specs.Slice.{Slice}
-use Rattle.wit_words.specs.Token.{What, plain, ident, same_kind}
+use Rattle.wit_productions.specs.Passed.wit_words-Slice.{Slice}
+use Rattle.wit_productions.specs.Passed.wit_words-Token.{What, plain, ident, same_kind}
 use Rattle.wit_productions.specs.Production.{Production, ◌>>=◌, sign, documented, located, commas, some_commas, until, many}
 use Rattle.wit_productions.specs.Terminal.{id, version}
 use Rattle.wit_items.specs.ItemGrammar.{version_argument, feature_argument, AttributeWord, since, unstable, deprecated, attribute_word, gate_by, gate_at, gate, attribute, attributed, gated, use_name, use_behind, toplevel_use_behind, param, params, func_behind, func, named_func_behind, named_func, alias_behind, field, label, case_parts, case, parts, defined_by, constructor_behind, method_behind, method, resource_func, resource_behind, type_def_at, defined, definition, interface_item, interface_items, interface_behind}

@@ -1,13 +1,13 @@
 -- Each production of items is read as it says.
 use Rattle.std.proofs.Common.{◌≡◌, List, [], ◌∷◌, refl, ap, ◌∙◌, true, Bool, Option, Some, None}
-use Rattle.wit_words.specs.declared.fault.Rule.TheVariants as rules
-use Rattle.wit_words.specs.declared.token.Kind.{Kind}
-use Rattle.wit_words.specs.declared.token.Kind.TheVariants as kind
+use Rattle.wit_productions.specs.Passed.wit_words-declared-fault-Rule-TheVariants as rules
+use Rattle.wit_productions.specs.Passed.wit_words-declared-token-Kind.{Kind}
+use Rattle.wit_productions.specs.Passed.wit_words-declared-token-Kind-TheVariants as kind
 use Rattle.wit_items.specs.ItemTree as tree
 use Rattle.wit_items.specs.ItemTree.{AttributeTree, NamedFuncTree, TypeDefTree, TypeDefKindTree, InterfaceItemTree}
-use Rattle.wit_words.specs.declared.source_map.Span.{Span}
-use Rattle.wit_words.specs.Slice.{Slice}
-use Rattle.wit_words.specs.Token.{What, Tok, plain, ident, same_kind}
+use Rattle.wit_productions.specs.Passed.wit_words-declared-source_map-Span.{Span}
+use Rattle.wit_productions.specs.Passed.wit_words-Slice.{Slice}
+use Rattle.wit_productions.specs.Passed.wit_words-Token.{What, Tok, plain, ident, same_kind}
 use Rattle.wit_productions.specs.Production.{Production, Takes, wrong, and_then, next_at, or_at, by_or, ◌>>=◌, ◌>>◌, yield, sign, optional, documented, located, Next, none, goes, next_then, commas, some_commas, until, many}
 use Rattle.wit_productions.specs.Terminal.{id}
 use Rattle.wit_productions.specs.TypeGrammar.{any_type}

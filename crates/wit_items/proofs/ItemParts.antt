@@ -1,13 +1,13 @@
 -- Productions of items, by those of their parts.
 use Rattle.std.proofs.Common.{◌≡◌, ◌∙◌, ℕ, List, [], refl, Ok, Bool, true, false, if◌then◌else◌}
 use Rattle.std.specs.Prelude.{codes}
-use Rattle.wit_words.specs.declared.token.Kind.TheVariants as kind
-use Rattle.wit_words.specs.Token.{Tok}
+use Rattle.wit_productions.specs.Passed.wit_words-declared-token-Kind-TheVariants as kind
+use Rattle.wit_productions.specs.Passed.wit_words-Token.{Tok}
 use Rattle.wit_items.specs.ItemTree as tree
 use Rattle.wit_items.specs.ItemTree.{GatedTree, ResourceFuncTree, TypeDefTree}
 use Rattle.wit_productions.specs.Production.{Outcome, Production, and_then, sees, after, sign, branch, until, ◌>>=◌, ◌>>◌, yield}
 use Rattle.wit_productions.specs.Terminal.{id, version, word}
-use Rattle.wit_words.specs.Slice.{Slice}
+use Rattle.wit_productions.specs.Passed.wit_words-Slice.{Slice}
 use Rattle.wit_productions.proofs.Steps.{then_same, regrouped}
 use Rattle.wit_items.specs.ItemGrammar.{argument, version_argument, feature_argument, gated, resource_func, resource_funcs, resource_behind}
 

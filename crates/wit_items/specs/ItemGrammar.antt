@@ -1,13 +1,13 @@
 -- The grammar of items but worlds (WIT).
 use Rattle.std.specs.Prelude.{ℕ, Bool, true, false, if◌then◌else◌, List, [], Option, Some, None, bytes_eq, codes}
-use Rattle.wit_words.specs.declared.token.Kind.TheVariants as kind
+use Rattle.wit_productions.specs.Passed.wit_words-declared-token-Kind-TheVariants as kind
 use Rattle.wit_items.specs.ItemTree as tree
 use Rattle.wit_items.specs.ItemTree.{GateTree, AttributeTree, GatedTree, UseNameTree, UseTree, ToplevelUseTree, ParamTree, FuncTree, NamedFuncTree, FieldTree, LabelTree, CaseTree, ResourceFuncTree, TypeDefKindTree, TypeDefTree, InterfaceItemTree, InterfaceTree}
 use Rattle.wit_productions.specs.Production.{Production, ◌>>=◌, ◌>>◌, yield, sign, branch, optional, documented, located, Next, none, goes, next_then, by, by_or, commas, some_commas, until, many}
-use Rattle.wit_words.specs.declared.source_map.Span.{Span}
-use Rattle.wit_words.specs.Slice.{Slice}
+use Rattle.wit_productions.specs.Passed.wit_words-declared-source_map-Span.{Span}
+use Rattle.wit_productions.specs.Passed.wit_words-Slice.{Slice}
 use Rattle.wit_productions.specs.Terminal.{id, version, word}
-use Rattle.wit_words.specs.Token.{What, plain, ident}
+use Rattle.wit_productions.specs.Passed.wit_words-Token.{What, plain, ident}
 use Rattle.wit_productions.specs.TypeGrammar.{any_type}
 pub use Rattle.wit_productions.specs.NameGrammar.{package_name, path_behind, use_path}
 use Rattle.wit_productions.specs.TypeTree.{TypeTree}

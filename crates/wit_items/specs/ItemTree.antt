@@ -1,7 +1,7 @@
 -- The trees of items but worlds, without where their names lie in memory (WIT).
 use Rattle.std.specs.Prelude.{Bool, List, Option}
-use Rattle.wit_words.specs.declared.source_map.Span.{Span}
-use Rattle.wit_words.specs.Slice.{Slice}
+use Rattle.wit_productions.specs.Passed.wit_words-declared-source_map-Span.{Span}
+use Rattle.wit_productions.specs.Passed.wit_words-Slice.{Slice}
 use Rattle.wit_productions.specs.TypeTree.{TypeTree}
 pub use Rattle.wit_productions.specs.NameTree.{PackageNameTree, UsePathTree, id, in_package}
 

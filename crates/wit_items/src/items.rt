@@ -1,7 +1,6 @@
 //! The trees of items but worlds (WIT). Each name is a slice of the text, with where it stands.
 
-use wit_productions::{Id, Type, UsePath, Version};
-use wit_tokens::{Docs, Span};
+use wit_productions::{Docs, Id, Span, Type, UsePath, Version};
 
 /// Since when, or on what terms, an item is there (WIT, Feature Gates).
 #[derive(Clone, Copy, Debug)]

@@ -5,17 +5,17 @@ ghost use Rattle.wit_items.specs.ItemView as view;
 ghost use Rattle.wit_items.specs.ItemGrammar as spec;
 ghost use Rattle.wit_productions.specs.Production.{Reads, many, optional, some_commas, next_at};
 ghost use Rattle.wit_productions.specs.Terminal.{id, version};
-ghost use Rattle.wit_words.specs.Token.{Tok, plain};
+ghost use Rattle.wit_productions.specs.Passed.wit_words-Token.{Tok, plain};
 ghost use Rattle.wit_productions.specs.TypeGrammar.{any_type};
 ghost use Rattle.wit_productions.specs.TypeView.{type_tree};
-ghost use Rattle.wit_words.specs.declared.token.Kind.TheVariants as kind;
+ghost use Rattle.wit_productions.specs.Passed.wit_words-declared-token-Kind-TheVariants as kind;
 
 use crate::items::{Attribute, Func, Gate, Gated, NamedFunc, Param, ToplevelUse, Use, UseName};
 use std::alloc::Global;
 use wit_productions::{
-    Cursor, Id, Part, ReadError, Type, Version, any_type, commas, fault_at, use_path,
+    Cursor, Id, Kind, Part, ReadError, Rule, Token, Type, Version, any_type, commas, fault_at,
+    use_path,
 };
-use wit_tokens::{Kind, Rule, Token};
 
 // ---- attributes
 

@@ -4,9 +4,9 @@ ghost use Rattle.std.specs.Prelude.{◌≡◌, option_map, map, List, length};
 ghost use Rattle.wit_items.specs.ItemView as view;
 ghost use Rattle.wit_items.specs.ItemGrammar as spec;
 ghost use Rattle.wit_productions.specs.Production.{Reads, Takes, next_at, optional};
-ghost use Rattle.wit_words.specs.Token.{Tok, plain};
+ghost use Rattle.wit_productions.specs.Passed.wit_words-Token.{Tok, plain};
 ghost use Rattle.wit_productions.specs.TypeView.{type_tree};
-ghost use Rattle.wit_words.specs.declared.token.Kind.TheVariants as kind;
+ghost use Rattle.wit_productions.specs.Passed.wit_words-declared-token-Kind-TheVariants as kind;
 
 use crate::items::{
     Case, EnumCase, Field, Flag, Gated, Interface, InterfaceItem, Param, ResourceFunc, TypeDef,
@@ -14,8 +14,9 @@ use crate::items::{
 };
 use crate::parse::{arrow, named_func_behind, params, use_behind};
 use std::alloc::Global;
-use wit_productions::{Cursor, Id, Part, ReadError, Type, any_type, commas, fault_at, until};
-use wit_tokens::{Kind, Rule, Token};
+use wit_productions::{
+    Cursor, Id, Kind, Part, ReadError, Rule, Token, Type, any_type, commas, fault_at, until,
+};
 
 // ---- definitions of types
 

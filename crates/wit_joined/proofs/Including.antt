@@ -2,15 +2,15 @@
 use Rattle.std.proofs.Common.{◌≡◌, ℕ, ◌<◌, false, List, [], ◌∷◌, zero, suc, inl, inr, Some, refl, sym, subst, ◌∙◌, Result, Ok, Err, arith, length, get_or}
 use Rattle.std.proofs.lemmas.Option.{same_Some}
 use Rattle.std.specs.Prelude.{slice_get, IfOk, OnOk}
-use Rattle.wit_order.specs.Order.{Has}
+use Rattle.wit_types.specs.Passed.wit_order-Order.{Has}
 use Rattle.wit_types.specs.declared.interface.TypeDef.{TypeDef}
 use Rattle.wit_types.specs.declared.world.IncludeName.{IncludeName}
 use Rattle.wit_types.specs.declared.world.World.{World}
 use Rattle.wit_types.specs.declared.world.WorldInclude.{WorldInclude}
-use Rattle.wit_reach.specs.Types.{AreTypesBackward}
-use Rattle.wit_sides.specs.Known.{are_there}
-use Rattle.wit_includes.specs.declared.worlds.Include.{Include}
-use Rattle.wit_includes.specs.Included.{IsIncluded}
+use Rattle.wit_copied_trees.specs.Passed.wit_reach-Types.{AreTypesBackward}
+use Rattle.wit_copied_trees.specs.Passed.wit_sides-Known.{are_there}
+use Rattle.wit_copied_trees.specs.Passed.wit_includes-declared-worlds-Include.{Include}
+use Rattle.wit_copied_trees.specs.Passed.wit_includes-Included.{IsIncluded}
 use Rattle.wit_copied_trees.specs.There.{IncludedTypesAreBackward}
 use Rattle.wit_joined.specs.declared.includes.Sides.{Sides}
 use Rattle.wit_joined.specs.declared.includes.JoinFault.{JoinFault}

@@ -1,2 +1,3 @@
 mod Including
 mod Stood
+pub mod Passed

@@ -1,19 +1,19 @@
 -- What a world is made of is there, with all that it includes.
 use Rattle.std.proofs.Common.{◌≡◌, ◌<◌, ℕ, List, [], ◌∷◌, ◌++◌, inl, inr, refl, sym, subst, ap, ◌∙◌, arith, length, append_assoc, length-append, ◌+◌}
 use Rattle.std.proofs.lemmas.List.{append-nil}
-use Rattle.wit_order.specs.Order.{Has}
+use Rattle.wit_types.specs.Passed.wit_order-Order.{Has}
 use Rattle.wit_types.specs.declared.interface.TypeDef.{TypeDef}
 use Rattle.wit_types.specs.declared.world.World.{World}
 use Rattle.wit_types.specs.declared.world.WorldItem.{WorldItem}
 use Rattle.wit_types.specs.declared.world.WorldInclude.{WorldInclude}
 use Rattle.wit_types.specs.declared.world_key.WorldKey.{WorldKey}
 use Rattle.wit_types.specs.WorldKey.{key_eq}
-use Rattle.wit_reach.specs.Ids.{item_ids, side_ids}
-use Rattle.wit_reach.specs.Types.{AreTypesBackward, AreTypesThere, AreSidesThere}
-use Rattle.wit_order.proofs.Lists.{has_was}
-use Rattle.wit_reach.proofs.Lists.{has_parts, has_append}
-use Rattle.wit_sides.specs.Sides as sides
-use Rattle.wit_sides.specs.Sides.{AreUnited}
+use Rattle.wit_copied_trees.specs.Passed.wit_reach-Ids.{item_ids, side_ids}
+use Rattle.wit_copied_trees.specs.Passed.wit_reach-Types.{AreTypesBackward, AreTypesThere, AreSidesThere}
+use Rattle.wit_types.proofs.Passed.wit_order-Lists.{has_was}
+use Rattle.wit_copied_trees.proofs.Passed.wit_reach-Lists.{has_parts, has_append}
+use Rattle.wit_copied_trees.specs.Passed.wit_sides-Sides as sides
+use Rattle.wit_copied_trees.specs.Passed.wit_sides-Sides.{AreUnited}
 use Rattle.wit_copied_trees.specs.There.{IncludedTypesAreBackward, IncludedSidesAreThere}
 use Rattle.wit_joined.specs.Joined.{State, Includes, includes_none, includes_one, AreWorldsThere}
 use Rattle.wit_joined.proofs.Including.{slice_has}

@@ -1,22 +1,22 @@
 -- A world with all that it includes (WIT, Item: `include`).
 use Rattle.std.specs.Prelude.{◌≡◌, ◌≤◌, ◌⊎◌, ℕ, false, List, [], ◌∷◌, ◌++◌, Some, length, slice_get}
-use Rattle.wit_order.specs.Order.{Has}
+use Rattle.wit_types.specs.Passed.wit_order-Order.{Has}
 use Rattle.wit_words.specs.declared.source_map.Span.{Span}
 use Rattle.wit_types.specs.declared.interface.TypeDef.{TypeDef}
 use Rattle.wit_types.specs.declared.world.World.{World}
 use Rattle.wit_types.specs.declared.world.WorldInclude.{WorldInclude}
 use Rattle.wit_types.specs.declared.world.WorldItem.{WorldItem}
 use Rattle.wit_types.specs.declared.world_key.WorldKey.{WorldKey}
-use Rattle.wit_reach.specs.Types.{AreSidesThere}
-use Rattle.wit_sides.specs.Known.{are_there}
-use Rattle.wit_includes.specs.declared.worlds.Included.{Included}
-use Rattle.wit_includes.specs.Included.{IsIncluded}
-use Rattle.wit_includes.specs.declared.worlds.Include.{Include}
-use Rattle.wit_includes.specs.declared.worlds.IncludeFault.{IncludeFault}
-use Rattle.wit_includes.specs.declared.worlds.IncludeFault.TheVariants as missing
-use Rattle.wit_sides.specs.Sides.{IsJoined, IsClash}
-use Rattle.wit_sides.specs.declared.sides.SideFault.{SideFault}
-use Rattle.wit_sides.specs.declared.sides.SideFault.TheVariants as clash
+use Rattle.wit_copied_trees.specs.Passed.wit_reach-Types.{AreSidesThere}
+use Rattle.wit_copied_trees.specs.Passed.wit_sides-Known.{are_there}
+use Rattle.wit_copied_trees.specs.Passed.wit_includes-declared-worlds-Included.{Included}
+use Rattle.wit_copied_trees.specs.Passed.wit_includes-Included.{IsIncluded}
+use Rattle.wit_copied_trees.specs.Passed.wit_includes-declared-worlds-Include.{Include}
+use Rattle.wit_copied_trees.specs.Passed.wit_includes-declared-worlds-IncludeFault.{IncludeFault}
+use Rattle.wit_copied_trees.specs.Passed.wit_includes-declared-worlds-IncludeFault-TheVariants as missing
+use Rattle.wit_copied_trees.specs.Passed.wit_sides-Sides.{IsJoined, IsClash}
+use Rattle.wit_copied_trees.specs.Passed.wit_sides-declared-sides-SideFault.{SideFault}
+use Rattle.wit_copied_trees.specs.Passed.wit_sides-declared-sides-SideFault-TheVariants as clash
 use Rattle.wit_plans.specs.declared.moves.MovedWorld.{MovedWorld}
 use Rattle.wit_joined.specs.declared.includes.Sides.{Sides}
 use Rattle.wit_joined.specs.declared.includes.JoinFault.{JoinFault}

@@ -2,13 +2,13 @@
 
 ghost use Rattle.std.specs.Prelude.{◌≡◌, ◌++◌, List, IfOk, IfErr, OnOk, OnErr};
 ghost use Rattle.wit_types.specs.declared.interface.TypeDef.{TypeDef};
-ghost use Rattle.wit_reach.specs.Types.{AreTypesBackward, AreSidesThere};
+ghost use Rattle.wit_copied_trees.specs.Passed.wit_reach-Types.{AreTypesBackward, AreSidesThere};
 ghost use Rattle.wit_joined.specs.Joined as spec;
 
 use std::alloc::{AllocError, Global};
-use wit_copied_trees::law_included_types_are_backward;
-use wit_includes::{Include, IncludeFault, Included, included_world};
-use wit_sides::SideFault;
+use wit_copied_trees::{
+    Include, IncludeFault, Included, SideFault, included_world, law_included_types_are_backward,
+};
 use wit_types::{Arena, TypeDef, World, WorldId, WorldInclude, WorldItem, WorldKey};
 use wit_words::Span;
 

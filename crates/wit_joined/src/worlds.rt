@@ -2,16 +2,17 @@
 
 ghost use Rattle.std.specs.Prelude.{◌≡◌, ◌++◌, List, IfOk, IfErr, OnOk};
 ghost use Rattle.wit_types.specs.declared.interface.TypeDef.{TypeDef};
-ghost use Rattle.wit_reach.specs.Ids.{side_ids};
-ghost use Rattle.wit_reach.specs.Types.{AreTypesBackward, AreTypesThere, AreSidesThere};
+ghost use Rattle.wit_copied_trees.specs.Passed.wit_reach-Ids.{side_ids};
+ghost use Rattle.wit_copied_trees.specs.Passed.wit_reach-Types.{AreTypesBackward, AreTypesThere, AreSidesThere};
 ghost use Rattle.wit_joined.specs.Joined as spec;
 
 use crate::includes::{JoinFault, Sides, include_all};
 use indexmap::IndexMap;
 use std::alloc::Global;
-use wit_copied_trees::{law_included_sides_are_there, law_included_types_are_backward};
+use wit_copied_trees::{
+    joined_side, law_included_sides_are_there, law_included_types_are_backward,
+};
 use wit_plans::MovedWorld;
-use wit_sides::joined_side;
 use wit_types::{Arena, PackageId, TypeDef, World, WorldId, WorldInclude, WorldItem, WorldKey};
 
 /// What a world imports and exports in its order, each interface once.

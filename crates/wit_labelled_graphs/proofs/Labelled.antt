@@ -12,9 +12,9 @@ use Rattle.wit_labels.specs.Labels.{HasLabelsApart, AreLabelsApart, IsInterfaceA
 use Rattle.wit_labels.specs.Moved.{IsMovedWorldApart, MovedTypesHaveLabelsApart, MovedInterfacesAreApart, MovedWorldsAreApart, ElaboratedWorldsAreApart}
 use Rattle.wit_labels.specs.Included.{JoinedWorldsAreApart}
 use Rattle.wit_labels.proofs.Every.{each_join, each_front, each_behind}
-use Rattle.wit_graph_worlds.specs.Added.{IsAdded, AreAdded, none_added, one_added}
-use Rattle.wit_graph_worlds.specs.Worlds.{State, state}
-use Rattle.wit_graph_parts.specs.Own.{asked, asked_types, own_parts}
+use Rattle.wit_graph.specs.Passed.wit_graph_worlds-Added.{IsAdded, AreAdded, none_added, one_added}
+use Rattle.wit_graph.specs.Passed.wit_graph_worlds-Worlds.{State, state}
+use Rattle.wit_graph.specs.Passed.wit_graph_parts-Own.{asked, asked_types, own_parts}
 use Rattle.wit_labelled_graphs.specs.Labelled.{EmptyGraphsAreLabelled, PushedGraphsAreLabelled}
 use Rattle.wit_labelled_graphs.proofs.Same.{world_apart}
 

@@ -10,13 +10,13 @@ use Rattle.wit_plans.specs.Checks.{Standing}
 use Rattle.wit_plans.specs.Moves.{AreMovedWorlds, no_worlds, world_goes, world_stays}
 use Rattle.wit_plans.specs.Plans.{standing}
 use Rattle.wit_plans.specs.declared.moves.MovedWorld.{MovedWorld}
-use Rattle.wit_placed.proofs.Members.{has_get}
-use Rattle.wit_joined.specs.Joined.{IsJoinedWorld}
+use Rattle.wit_labels.proofs.Passed.wit_placed-Members.{has_get}
+use Rattle.wit_labels.specs.Passed.wit_joined-Joined.{IsJoinedWorld}
 use Rattle.wit_labels.specs.Named.{AreSidesPlain, IsWorldNamed, IsSideNamed, MovedWorldsAreNamed, ElaboratedSidesAreNamed, JoinedSidesAreNamed}
 use Rattle.wit_labels.proofs.Every.{each_join, each_front, each_behind, each_of}
-use Rattle.wit_graph_worlds.specs.Added.{IsAdded, AreAdded, none_added, one_added}
-use Rattle.wit_graph_worlds.specs.Worlds.{State, state}
-use Rattle.wit_graph_parts.specs.Own.{asked, own_parts}
+use Rattle.wit_graph.specs.Passed.wit_graph_worlds-Added.{IsAdded, AreAdded, none_added, one_added}
+use Rattle.wit_graph.specs.Passed.wit_graph_worlds-Worlds.{State, state}
+use Rattle.wit_graph.specs.Passed.wit_graph_parts-Own.{asked, own_parts}
 use Rattle.wit_labelled_graphs.specs.Named.{AreFunctionsUnderNames, IsNamedPlainly, IsNamedApart, IsOwnWorldNamed, EmptyGraphsHaveNamedWorlds, PushedGraphsHaveNamedWorlds}
 use Rattle.wit_labelled_graphs.proofs.Labelled.{each_drop}
 use Rattle.wit_labelled_graphs.proofs.Same.{world_plain}

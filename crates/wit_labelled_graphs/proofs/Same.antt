@@ -10,10 +10,10 @@ use Rattle.wit_types.specs.declared.world.WorldItem.{WorldItem}
 use Rattle.wit_types.specs.declared.world_key.WorldKey.{WorldKey}
 use Rattle.wit_copies.specs.Same as copy
 use Rattle.wit_copies.specs.Same.{IsSameKey, IsSameItem, IsSameParam}
-use Rattle.wit_plain_texts.specs.Plain.{IsPlain}
+use Rattle.wit_labels.specs.Passed.wit_plain_texts-Plain.{IsPlain}
 use Rattle.wit_labels.specs.Labels.{IsItemApart, IsSideApart, IsWorldApart}
 use Rattle.wit_labels.specs.Named.{IsNamedItem, IsPlainEntry, IsSidePlain}
-use Rattle.wit_graph_worlds.specs.Copies.{AreSameEntries, IsSameWorld}
+use Rattle.wit_graph.specs.Passed.wit_graph_worlds-Copies.{AreSameEntries, IsSameWorld}
 use Rattle.wit_labelled_graphs.specs.Named.{IsNamedPlainly}
 use Rattle.wit_labelled_graphs.proofs.Under.{same_under}
 

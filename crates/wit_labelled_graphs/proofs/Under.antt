@@ -22,12 +22,12 @@ use Rattle.wit_sides.specs.Renames as renamed
 use Rattle.wit_sides.specs.Renames.{IsRenamedKey, IsRenamedItem, AreRenamed}
 use Rattle.wit_sides.specs.Sides as side
 use Rattle.wit_sides.specs.Sides.{AreUnited}
-use Rattle.wit_includes.specs.Included.{copies_behind, AreIncludedEntries}
-use Rattle.wit_joined.specs.Joined.{State, Includes, includes_none, includes_one, own_state, IsJoinedWorld}
+use Rattle.wit_labels.specs.Passed.wit_includes-Included.{copies_behind, AreIncludedEntries}
+use Rattle.wit_labels.specs.Passed.wit_joined-Joined.{State, Includes, includes_none, includes_one, own_state, IsJoinedWorld}
 use Rattle.wit_plans.specs.declared.moves.MovedWorld.{MovedWorld}
 use Rattle.wit_types.specs.declared.interface.TypeDef.{TypeDef}
 use Rattle.wit_labels.proofs.Every.{each_join, each_front, each_behind, each_at}
-use Rattle.wit_graph_worlds.specs.Copies.{AreSameEntries}
+use Rattle.wit_graph.specs.Passed.wit_graph_worlds-Copies.{AreSameEntries}
 use Rattle.wit_labelled_graphs.specs.Named.{IsNoFunction, IsUnderName, AreFunctionsUnderNames}
 
 abbrev Entry : Type 0

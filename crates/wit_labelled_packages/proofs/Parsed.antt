@@ -12,8 +12,8 @@ use Rattle.wit_syntax.specs.Ast.{FileTree}
 use Rattle.wit_nested.specs.Nested.{own_files, nested_files}
 use Rattle.wit_types.specs.declared.«package».UnresolvedPackage.{UnresolvedPackage}
 use Rattle.wit_package_types.specs.Stability.{IsVersionWhere, no_version, a_version}
-use Rattle.wit_package.specs.Group.{AreParsed}
-use Rattle.wit_package.specs.Steps.{Resolves}
+use Rattle.wit_well_formed.specs.Passed.wit_package-Group.{AreParsed}
+use Rattle.wit_well_formed.specs.Passed.wit_package-Steps.{Resolves}
 use Rattle.wit_well_formed.specs.Marks.{ParsedPackagesHavePlainNames}
 use Rattle.wit_new_names.specs.Names.{ReadsBack}
 use Rattle.wit_labelled_packages.specs.Names.{ParsedNamesReadBack}

@@ -13,14 +13,14 @@ use Rattle.wit_types.specs.declared.world_key.WorldKey.TheVariants as key
 use Rattle.wit_types.specs.declared.«package».UnresolvedPackage.{UnresolvedPackage}
 use Rattle.wit_scopes.specs.declared.worlds.Side.TheVariants.{Export}
 use Rattle.wit_elaborated.specs.Worlds.{IsKeyOfItem, AreKeysOfItems}
-use Rattle.wit_labels.specs.Labels.{AreNamesWithinApart}
-use Rattle.wit_labels.specs.Named.{IsNamedItem, IsSidePlain, IsSideNamed, ArePlainChanges}
+use Rattle.wit_well_formed.specs.Passed.wit_labels-Labels.{AreNamesWithinApart}
+use Rattle.wit_well_formed.specs.Passed.wit_labels-Named.{IsNamedItem, IsSidePlain, IsSideNamed, ArePlainChanges}
 use Rattle.wit_offsets.specs.Offsets.{item_by, include_by, world_by, span_at}
-use Rattle.wit_package.specs.Resolved.{context_of}
-use Rattle.wit_placed.proofs.Members.{has_at}
+use Rattle.wit_well_formed.specs.Passed.wit_package-Resolved.{context_of}
+use Rattle.wit_well_formed.proofs.Passed.wit_placed-Members.{has_at}
 use Rattle.wit_plain_texts.proofs.Scopes.{each_map}
 use Rattle.wit_reach.proofs.Holding.{has_mapped}
-use Rattle.wit_resolved_scopes.specs.Texts.{side_members}
+use Rattle.wit_well_formed.specs.Passed.wit_resolved_scopes-Texts.{side_members}
 use Rattle.wit_labelled_packages.proofs.Parsed.{each_parsed}
 use Rattle.wit_well_formed.specs.Marks.{ParsedWorldsAreNamed}
 use Rattle.wit_well_formed.specs.Within.{NamesWithinAreApart}

@@ -5,9 +5,9 @@ use Rattle.wit_order.specs.Order.{Has}
 use Rattle.wit_types.specs.declared.world.World.{World}
 use Rattle.wit_types.specs.declared.«package».UnresolvedPackage.{UnresolvedPackage}
 use Rattle.wit_syntax.specs.Ast.{FileTree}
-use Rattle.wit_labels.specs.Labels.{AreNamesWithinApart}
-use Rattle.wit_package.specs.Group.{AreParsed}
-use Rattle.wit_package.specs.Steps.{Resolves}
+use Rattle.wit_well_formed.specs.Passed.wit_labels-Labels.{AreNamesWithinApart}
+use Rattle.wit_well_formed.specs.Passed.wit_package-Group.{AreParsed}
+use Rattle.wit_well_formed.specs.Passed.wit_package-Steps.{Resolves}
 use Rattle.wit_offsets.specs.Offsets.{package_at}
 use Rattle.wit_labelled_graphs.specs.Named.{AreFunctionsUnderNames, HasNamedWorlds}
 

@@ -13,3 +13,6 @@ pub use wit_labelled_graphs::{
     law_empty_graphs_are_labelled, law_empty_graphs_have_named_worlds,
     law_pushed_graphs_are_labelled, law_pushed_graphs_have_named_worlds,
 };
+pub use wit_new_names::{
+    law_empty_graphs_are_known, law_pushed_graphs_are_known, law_same_names_are_equal,
+};

@@ -3,19 +3,19 @@ use Rattle.std.proofs.Common.{◌≡◌, ℕ, Bool, true, false, List, [], ◌�
 use Rattle.std.specs.Prelude.{slice_get, option_map, string_bytes}
 use Rattle.std.specs.List.{AllByRecursion as Each}
 use Rattle.std.specs.declared.alloc.Global.{Global}
-use Rattle.wit_types.specs.declared.interface.TypeDef.{TypeDef}
-use Rattle.wit_types.specs.declared.kind.TypeDefKind.{TypeDefKind}
-use Rattle.wit_types.specs.declared.world.IncludeName.{IncludeName}
-use Rattle.wit_types.specs.declared.world.World.{World}
-use Rattle.wit_types.specs.declared.world.WorldInclude.{WorldInclude}
-use Rattle.wit_moves.specs.Moved as moves
-use Rattle.wit_moves.specs.Moved.{to, IsMovedKind}
-use Rattle.wit_moves.specs.Plan as plan
-use Rattle.wit_copies.specs.Copies.{Copies, goes, AreCopied, no_types, one_more}
-use Rattle.wit_copies.specs.Same as copy
-use Rattle.wit_copies.specs.Same.{text_of, IsSameKind}
-use Rattle.wit_includes.specs.Included as brings
-use Rattle.wit_includes.specs.Included.{is_of_world, IsRenamedName, AreRenamedDefs, copies_behind}
+use Rattle.wit_joined.specs.Passed.wit_types-declared-interface-TypeDef.{TypeDef}
+use Rattle.wit_joined.specs.Passed.wit_types-declared-kind-TypeDefKind.{TypeDefKind}
+use Rattle.wit_joined.specs.Passed.wit_types-declared-world-IncludeName.{IncludeName}
+use Rattle.wit_joined.specs.Passed.wit_types-declared-world-World.{World}
+use Rattle.wit_joined.specs.Passed.wit_types-declared-world-WorldInclude.{WorldInclude}
+use Rattle.wit_joined.specs.Passed.wit_moves-Moved as moves
+use Rattle.wit_joined.specs.Passed.wit_moves-Moved.{to, IsMovedKind}
+use Rattle.wit_joined.specs.Passed.wit_moves-Plan as plan
+use Rattle.wit_joined.specs.Passed.wit_copies-Copies.{Copies, goes, AreCopied, no_types, one_more}
+use Rattle.wit_joined.specs.Passed.wit_copies-Same as copy
+use Rattle.wit_joined.specs.Passed.wit_copies-Same.{text_of, IsSameKind}
+use Rattle.wit_joined.specs.Passed.wit_includes-Included as brings
+use Rattle.wit_joined.specs.Passed.wit_includes-Included.{is_of_world, IsRenamedName, AreRenamedDefs, copies_behind}
 use Rattle.wit_joined.specs.Joined.{State, Includes, includes_none, includes_one}
 use Rattle.wit_labels.specs.Forms.{IsShaped, IsFormOrNamed, AreFormsOrNamed, MovedTypesAreFormsOrNamed, JoinedTypesAreFormsOrNamed}
 use Rattle.wit_labels.proofs.Every.{each_join, each_front, each_behind, each_at}

@@ -4,33 +4,33 @@ use Rattle.std.specs.Prelude.{slice_get, string_bytes}
 use Rattle.std.specs.List.{AllByRecursion as Each, AllZip}
 use Rattle.std.specs.declared.alloc.Global.{Global}
 use Rattle.distinct_names.specs.Names.{all_new}
-use Rattle.wit_types.specs.declared.function.Function.{Function}
-use Rattle.wit_types.specs.declared.function.Param.{Param}
-use Rattle.wit_types.specs.declared.kind.Case.{Case}
-use Rattle.wit_types.specs.declared.kind.Field.{Field}
-use Rattle.wit_types.specs.declared.kind.TypeDefKind.{TypeDefKind}
-use Rattle.wit_types.specs.declared.interface.TypeDef.{TypeDef}
-use Rattle.wit_types.specs.declared.world.IncludeName.{IncludeName}
-use Rattle.wit_types.specs.declared.world.World.{World}
-use Rattle.wit_types.specs.declared.world.WorldInclude.{WorldInclude}
-use Rattle.wit_types.specs.declared.world.WorldItem.{WorldItem}
-use Rattle.wit_types.specs.declared.world.WorldItem.TheVariants as item
-use Rattle.wit_types.specs.declared.world_key.WorldKey.{WorldKey}
-use Rattle.wit_types.specs.WorldKey.{key_eq}
-use Rattle.wit_moves.specs.Moved as moves
-use Rattle.wit_moves.specs.Moved.{moved_param, IsMovedKind}
-use Rattle.wit_moves.specs.Worlds as worlds
-use Rattle.wit_copies.specs.Copies.{Copies, goes, IsCopiedDef, AreCopied, no_types, one_more, IsCopiedItem, AreCopiedEntries, no_entries, one_entry_more}
-use Rattle.wit_copies.specs.Same as copy
-use Rattle.wit_copies.specs.Same.{IsSameKind, IsSameFunction}
-use Rattle.wit_copied_trees.proofs.Clones.{field_names, case_names, param_names, flag_names, enum_names}
-use Rattle.wit_sides.specs.Renames as renamed
-use Rattle.wit_sides.specs.Renames.{IsRenamedItem, AreRenamed}
-use Rattle.wit_sides.specs.Sides as side
-use Rattle.wit_sides.specs.Sides.{AreUnited}
-use Rattle.wit_includes.specs.Included as brings
-use Rattle.wit_includes.specs.Included.{is_of_world, IsRenamedName, AreRenamedDefs, copies_behind, AreIncludedEntries, IsIncluded}
-use Rattle.wit_includes.specs.declared.worlds.Included.{Included}
+use Rattle.wit_joined.specs.Passed.wit_types-declared-function-Function.{Function}
+use Rattle.wit_joined.specs.Passed.wit_types-declared-function-Param.{Param}
+use Rattle.wit_joined.specs.Passed.wit_types-declared-kind-Case.{Case}
+use Rattle.wit_joined.specs.Passed.wit_types-declared-kind-Field.{Field}
+use Rattle.wit_joined.specs.Passed.wit_types-declared-kind-TypeDefKind.{TypeDefKind}
+use Rattle.wit_joined.specs.Passed.wit_types-declared-interface-TypeDef.{TypeDef}
+use Rattle.wit_joined.specs.Passed.wit_types-declared-world-IncludeName.{IncludeName}
+use Rattle.wit_joined.specs.Passed.wit_types-declared-world-World.{World}
+use Rattle.wit_joined.specs.Passed.wit_types-declared-world-WorldInclude.{WorldInclude}
+use Rattle.wit_joined.specs.Passed.wit_types-declared-world-WorldItem.{WorldItem}
+use Rattle.wit_joined.specs.Passed.wit_types-declared-world-WorldItem-TheVariants as item
+use Rattle.wit_joined.specs.Passed.wit_types-declared-world_key-WorldKey.{WorldKey}
+use Rattle.wit_joined.specs.Passed.wit_types-WorldKey.{key_eq}
+use Rattle.wit_joined.specs.Passed.wit_moves-Moved as moves
+use Rattle.wit_joined.specs.Passed.wit_moves-Moved.{moved_param, IsMovedKind}
+use Rattle.wit_joined.specs.Passed.wit_moves-Worlds as worlds
+use Rattle.wit_joined.specs.Passed.wit_copies-Copies.{Copies, goes, IsCopiedDef, AreCopied, no_types, one_more, IsCopiedItem, AreCopiedEntries, no_entries, one_entry_more}
+use Rattle.wit_joined.specs.Passed.wit_copies-Same as copy
+use Rattle.wit_joined.specs.Passed.wit_copies-Same.{IsSameKind, IsSameFunction}
+use Rattle.wit_joined.proofs.Passed.wit_copied_trees-Clones.{field_names, case_names, param_names, flag_names, enum_names}
+use Rattle.wit_joined.specs.Passed.wit_sides-Renames as renamed
+use Rattle.wit_joined.specs.Passed.wit_sides-Renames.{IsRenamedItem, AreRenamed}
+use Rattle.wit_joined.specs.Passed.wit_sides-Sides as side
+use Rattle.wit_joined.specs.Passed.wit_sides-Sides.{AreUnited}
+use Rattle.wit_joined.specs.Passed.wit_includes-Included as brings
+use Rattle.wit_joined.specs.Passed.wit_includes-Included.{is_of_world, IsRenamedName, AreRenamedDefs, copies_behind, AreIncludedEntries, IsIncluded}
+use Rattle.wit_joined.specs.Passed.wit_includes-declared-worlds-Included.{Included}
 use Rattle.wit_joined.specs.Joined.{State, Includes, includes_none, includes_one}
 use Rattle.wit_labels.specs.Labels.{labels_of, HasLabelsApart, AreLabelsApart, HasParametersApart, IsItemApart, IsSideApart, IsWorldApart}
 use Rattle.wit_labels.specs.Moved.{IsMovedWorldApart}

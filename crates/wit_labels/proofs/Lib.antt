@@ -5,3 +5,4 @@ pub mod Renaming
 pub mod Naming
 pub mod Typing
 pub mod Forming
+pub mod Passed

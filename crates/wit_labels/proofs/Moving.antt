@@ -5,30 +5,30 @@ use Rattle.std.specs.List.{AllByRecursion as Each}
 use Rattle.std.specs.Map.{lookup}
 use Rattle.std.specs.declared.alloc.Global.{Global}
 use Rattle.distinct_names.specs.Names.{all_new}
-use Rattle.wit_types.specs.declared.function.Function.{Function}
-use Rattle.wit_types.specs.declared.function.Param.{Param}
-use Rattle.wit_types.specs.declared.kind.Case.{Case}
-use Rattle.wit_types.specs.declared.kind.Field.{Field}
-use Rattle.wit_types.specs.declared.kind.TypeDefKind.{TypeDefKind}
-use Rattle.wit_types.specs.declared.interface.Interface.{Interface}
-use Rattle.wit_types.specs.declared.interface.TypeDef.{TypeDef}
-use Rattle.wit_types.specs.declared.world.World.{World}
-use Rattle.wit_types.specs.declared.world.WorldItem.{WorldItem}
-use Rattle.wit_types.specs.declared.world_key.WorldKey.{WorldKey}
-use Rattle.wit_types.specs.declared.world_key.WorldKey.TheVariants as key
-use Rattle.wit_types.specs.WorldKey.{key_eq}
-use Rattle.wit_features.specs.Features.{FeatureSet}
-use Rattle.wit_moves.specs.Moved as moves
-use Rattle.wit_moves.specs.Moved.{Places, to, moved_field, moved_case, moved_param, IsMovedKind, IsMovedFunction}
-use Rattle.wit_moves.specs.Plan as plan
-use Rattle.wit_moves.specs.Plan.{OwnerPlaces, AreMovedDefs}
-use Rattle.wit_moves.specs.Interfaces.{AreKept, no_entries, one_goes, one_stays, AreMovedFunctions}
-use Rattle.wit_moves.specs.Worlds as worlds
-use Rattle.wit_moves.specs.Worlds.{IsMovedItem, moved_entry, IsMovedSide}
-use Rattle.wit_plans.specs.Checks.{Standing}
-use Rattle.wit_plans.specs.Moves.{AreMovedInterfaces, no_interfaces, interface_goes, interface_stays, AreMovedWorlds, no_worlds, world_goes, world_stays}
-use Rattle.wit_plans.specs.declared.moves.MovedWorld.{MovedWorld}
-use Rattle.wit_elaborated.specs.Elaborated.{implied, imported, plain, plain_entries, elaborated}
+use Rattle.wit_joined.specs.Passed.wit_types-declared-function-Function.{Function}
+use Rattle.wit_joined.specs.Passed.wit_types-declared-function-Param.{Param}
+use Rattle.wit_joined.specs.Passed.wit_types-declared-kind-Case.{Case}
+use Rattle.wit_joined.specs.Passed.wit_types-declared-kind-Field.{Field}
+use Rattle.wit_joined.specs.Passed.wit_types-declared-kind-TypeDefKind.{TypeDefKind}
+use Rattle.wit_joined.specs.Passed.wit_types-declared-interface-Interface.{Interface}
+use Rattle.wit_joined.specs.Passed.wit_types-declared-interface-TypeDef.{TypeDef}
+use Rattle.wit_joined.specs.Passed.wit_types-declared-world-World.{World}
+use Rattle.wit_joined.specs.Passed.wit_types-declared-world-WorldItem.{WorldItem}
+use Rattle.wit_joined.specs.Passed.wit_types-declared-world_key-WorldKey.{WorldKey}
+use Rattle.wit_joined.specs.Passed.wit_types-declared-world_key-WorldKey-TheVariants as key
+use Rattle.wit_joined.specs.Passed.wit_types-WorldKey.{key_eq}
+use Rattle.wit_joined.specs.Passed.wit_features-Features.{FeatureSet}
+use Rattle.wit_joined.specs.Passed.wit_moves-Moved as moves
+use Rattle.wit_joined.specs.Passed.wit_moves-Moved.{Places, to, moved_field, moved_case, moved_param, IsMovedKind, IsMovedFunction}
+use Rattle.wit_joined.specs.Passed.wit_moves-Plan as plan
+use Rattle.wit_joined.specs.Passed.wit_moves-Plan.{OwnerPlaces, AreMovedDefs}
+use Rattle.wit_joined.specs.Passed.wit_moves-Interfaces.{AreKept, no_entries, one_goes, one_stays, AreMovedFunctions}
+use Rattle.wit_joined.specs.Passed.wit_moves-Worlds as worlds
+use Rattle.wit_joined.specs.Passed.wit_moves-Worlds.{IsMovedItem, moved_entry, IsMovedSide}
+use Rattle.wit_joined.specs.Passed.wit_plans-Checks.{Standing}
+use Rattle.wit_joined.specs.Passed.wit_plans-Moves.{AreMovedInterfaces, no_interfaces, interface_goes, interface_stays, AreMovedWorlds, no_worlds, world_goes, world_stays}
+use Rattle.wit_joined.specs.Passed.wit_plans-declared-moves-MovedWorld.{MovedWorld}
+use Rattle.wit_placed.specs.Passed.wit_elaborated-Elaborated.{implied, imported, plain, plain_entries, elaborated}
 use Rattle.wit_labels.specs.Labels.{labels_of, HasLabelsApart, AreLabelsApart, AreParametersApart, HasParametersApart, HaveParametersApart, functions_in, IsInterfaceApart, IsItemApart, IsSideApart, IsWorldApart}
 use Rattle.wit_labels.specs.Moved.{IsMovedWorldApart, MovedTypesHaveLabelsApart, MovedInterfacesAreApart, MovedWorldsAreApart, ElaboratedWorldsAreApart}
 use Rattle.wit_labels.proofs.Every.{each_join, each_front, each_behind}

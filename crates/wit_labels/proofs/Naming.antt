@@ -6,32 +6,32 @@ use Rattle.std.specs.List.{AllByRecursion as Each}
 use Rattle.std.specs.Map.{lookup}
 use Rattle.std.specs.declared.alloc.Global.{Global}
 use Rattle.wit_order.specs.Order.{Has}
-use Rattle.wit_types.specs.declared.function.Function.{Function}
-use Rattle.wit_types.specs.declared.interface.TypeDef.{TypeDef}
-use Rattle.wit_types.specs.declared.world.IncludeName.{IncludeName}
-use Rattle.wit_types.specs.declared.world.World.{World}
-use Rattle.wit_types.specs.declared.world.WorldInclude.{WorldInclude}
-use Rattle.wit_types.specs.declared.world.WorldItem.{WorldItem}
-use Rattle.wit_types.specs.declared.world.WorldItem.TheVariants as item
-use Rattle.wit_types.specs.declared.world_key.WorldKey.{WorldKey}
-use Rattle.wit_types.specs.declared.world_key.WorldKey.TheVariants as key
-use Rattle.wit_types.specs.WorldKey.{key_eq}
-use Rattle.wit_features.specs.Features.{FeatureSet, stays}
-use Rattle.wit_moves.specs.Moved.{Places, to}
-use Rattle.wit_moves.specs.Interfaces as kept
-use Rattle.wit_moves.specs.Interfaces.{AreKept}
-use Rattle.wit_moves.specs.Worlds as worlds
-use Rattle.wit_moves.specs.Worlds.{IsMovedItem, moved_entry}
-use Rattle.wit_copies.specs.Copies.{Copies, goes, AreCopiedEntries, no_entries, one_entry_more}
-use Rattle.wit_copies.specs.Same as copy
-use Rattle.wit_copies.specs.Same.{IsSameKey, IsSameItem}
-use Rattle.wit_sides.specs.Renames as renamed
-use Rattle.wit_sides.specs.Renames.{IsRenamed, IsRenamedKey, IsRenamedItem, AreRenamed}
-use Rattle.wit_sides.specs.Sides as side
-use Rattle.wit_sides.specs.Sides.{AreUnited}
-use Rattle.wit_includes.specs.Included.{copies_behind, AreIncludedEntries}
-use Rattle.wit_plans.specs.Moves.{moved_include}
-use Rattle.wit_elaborated.specs.Elaborated.{imported, plain_entries}
+use Rattle.wit_joined.specs.Passed.wit_types-declared-function-Function.{Function}
+use Rattle.wit_joined.specs.Passed.wit_types-declared-interface-TypeDef.{TypeDef}
+use Rattle.wit_joined.specs.Passed.wit_types-declared-world-IncludeName.{IncludeName}
+use Rattle.wit_joined.specs.Passed.wit_types-declared-world-World.{World}
+use Rattle.wit_joined.specs.Passed.wit_types-declared-world-WorldInclude.{WorldInclude}
+use Rattle.wit_joined.specs.Passed.wit_types-declared-world-WorldItem.{WorldItem}
+use Rattle.wit_joined.specs.Passed.wit_types-declared-world-WorldItem-TheVariants as item
+use Rattle.wit_joined.specs.Passed.wit_types-declared-world_key-WorldKey.{WorldKey}
+use Rattle.wit_joined.specs.Passed.wit_types-declared-world_key-WorldKey-TheVariants as key
+use Rattle.wit_joined.specs.Passed.wit_types-WorldKey.{key_eq}
+use Rattle.wit_joined.specs.Passed.wit_features-Features.{FeatureSet, stays}
+use Rattle.wit_joined.specs.Passed.wit_moves-Moved.{Places, to}
+use Rattle.wit_joined.specs.Passed.wit_moves-Interfaces as kept
+use Rattle.wit_joined.specs.Passed.wit_moves-Interfaces.{AreKept}
+use Rattle.wit_joined.specs.Passed.wit_moves-Worlds as worlds
+use Rattle.wit_joined.specs.Passed.wit_moves-Worlds.{IsMovedItem, moved_entry}
+use Rattle.wit_joined.specs.Passed.wit_copies-Copies.{Copies, goes, AreCopiedEntries, no_entries, one_entry_more}
+use Rattle.wit_joined.specs.Passed.wit_copies-Same as copy
+use Rattle.wit_joined.specs.Passed.wit_copies-Same.{IsSameKey, IsSameItem}
+use Rattle.wit_joined.specs.Passed.wit_sides-Renames as renamed
+use Rattle.wit_joined.specs.Passed.wit_sides-Renames.{IsRenamed, IsRenamedKey, IsRenamedItem, AreRenamed}
+use Rattle.wit_joined.specs.Passed.wit_sides-Sides as side
+use Rattle.wit_joined.specs.Passed.wit_sides-Sides.{AreUnited}
+use Rattle.wit_joined.specs.Passed.wit_includes-Included.{copies_behind, AreIncludedEntries}
+use Rattle.wit_joined.specs.Passed.wit_plans-Moves.{moved_include}
+use Rattle.wit_placed.specs.Passed.wit_elaborated-Elaborated.{imported, plain_entries}
 use Rattle.wit_joined.specs.Joined.{State, Includes, includes_none, includes_one}
 use Rattle.wit_plain_texts.specs.Plain.{IsPlain}
 use Rattle.wit_labels.specs.Plain.{ArePlainApart}

@@ -3,9 +3,9 @@ use Rattle.std.proofs.Common.{◌≡◌, ◌≢◌, ℕ, ◌<◌, Bool, true, fa
 use Rattle.std.proofs.lemmas.List.Elements.{recursion_from_All}
 use Rattle.std.specs.Prelude.{All, codes, string_bytes, bytes_eq, if◌then◌else◌}
 use Rattle.std.specs.List.{AllByRecursion as Each}
-use Rattle.wit_types.specs.declared.world.IncludeName.{IncludeName}
-use Rattle.wit_types.specs.Function.{HasNoDot}
-use Rattle.wit_sides.specs.Renames.{through, IsRenamedFunction, of_resource, of_none, HasNoMark, IsRenamed, constructor_of, method_of, static_of, plain}
+use Rattle.wit_joined.specs.Passed.wit_types-declared-world-IncludeName.{IncludeName}
+use Rattle.wit_joined.specs.Passed.wit_types-Function.{HasNoDot}
+use Rattle.wit_joined.specs.Passed.wit_sides-Renames.{through, IsRenamedFunction, of_resource, of_none, HasNoMark, IsRenamed, constructor_of, method_of, static_of, plain}
 use Rattle.wit_plain_texts.specs.Plain.{IsWithout, IsPlain}
 use Rattle.wit_plain_texts.proofs.Scopes.{joined_plain, method_mark, static_mark, constructor_mark}
 use Rattle.wit_order.specs.Order.{Has}

@@ -6,46 +6,46 @@ use Rattle.std.specs.Prelude.{slice_get, unwrap_or, option_map, string_bytes, na
 use Rattle.std.specs.List.{AllByRecursion as Each}
 use Rattle.std.specs.declared.alloc.Global.{Global}
 use Rattle.wit_order.specs.Order.{Has}
-use Rattle.wit_types.specs.declared.function.Function.{Function}
-use Rattle.wit_types.specs.declared.interface.Interface.{Interface}
-use Rattle.wit_types.specs.declared.interface.TypeDef.{TypeDef}
-use Rattle.wit_types.specs.declared.interface.TypeOwner.{TypeOwner}
-use Rattle.wit_types.specs.declared.interface.TypeOwner.TheVariants as belongs
-use Rattle.wit_types.specs.declared.world.IncludeName.{IncludeName}
-use Rattle.wit_types.specs.declared.world.World.{World}
-use Rattle.wit_types.specs.declared.world.WorldInclude.{WorldInclude}
-use Rattle.wit_types.specs.declared.world.WorldItem.{WorldItem}
-use Rattle.wit_types.specs.declared.world.WorldItem.TheVariants as item
-use Rattle.wit_types.specs.declared.world_key.WorldKey.{WorldKey}
-use Rattle.wit_types.specs.declared.world_key.WorldKey.TheVariants as key
-use Rattle.wit_types.specs.WorldKey.{key_eq}
-use Rattle.wit_features.specs.Features.{FeatureSet}
-use Rattle.wit_moves.specs.Moved.{Places, place_of, is_placed, to}
-use Rattle.wit_moves.specs.Plan.{OwnerPlaces, moved_owner}
-use Rattle.wit_moves.specs.Interfaces as kept
-use Rattle.wit_moves.specs.Interfaces.{AreKept}
-use Rattle.wit_moves.specs.Worlds as worlds
-use Rattle.wit_moves.specs.Worlds.{item_stays, IsMovedItem, moved_entry}
-use Rattle.wit_moved_trees.proofs.Moving.{placed_some}
-use Rattle.wit_finding.specs.Types.{type_found}
-use Rattle.wit_plans.specs.Checks.{Standing}
+use Rattle.wit_joined.specs.Passed.wit_types-declared-function-Function.{Function}
+use Rattle.wit_joined.specs.Passed.wit_types-declared-interface-Interface.{Interface}
+use Rattle.wit_joined.specs.Passed.wit_types-declared-interface-TypeDef.{TypeDef}
+use Rattle.wit_joined.specs.Passed.wit_types-declared-interface-TypeOwner.{TypeOwner}
+use Rattle.wit_joined.specs.Passed.wit_types-declared-interface-TypeOwner-TheVariants as belongs
+use Rattle.wit_joined.specs.Passed.wit_types-declared-world-IncludeName.{IncludeName}
+use Rattle.wit_joined.specs.Passed.wit_types-declared-world-World.{World}
+use Rattle.wit_joined.specs.Passed.wit_types-declared-world-WorldInclude.{WorldInclude}
+use Rattle.wit_joined.specs.Passed.wit_types-declared-world-WorldItem.{WorldItem}
+use Rattle.wit_joined.specs.Passed.wit_types-declared-world-WorldItem-TheVariants as item
+use Rattle.wit_joined.specs.Passed.wit_types-declared-world_key-WorldKey.{WorldKey}
+use Rattle.wit_joined.specs.Passed.wit_types-declared-world_key-WorldKey-TheVariants as key
+use Rattle.wit_joined.specs.Passed.wit_types-WorldKey.{key_eq}
+use Rattle.wit_joined.specs.Passed.wit_features-Features.{FeatureSet}
+use Rattle.wit_joined.specs.Passed.wit_moves-Moved.{Places, place_of, is_placed, to}
+use Rattle.wit_joined.specs.Passed.wit_moves-Plan.{OwnerPlaces, moved_owner}
+use Rattle.wit_joined.specs.Passed.wit_moves-Interfaces as kept
+use Rattle.wit_joined.specs.Passed.wit_moves-Interfaces.{AreKept}
+use Rattle.wit_joined.specs.Passed.wit_moves-Worlds as worlds
+use Rattle.wit_joined.specs.Passed.wit_moves-Worlds.{item_stays, IsMovedItem, moved_entry}
+use Rattle.wit_placed.proofs.Passed.wit_moved_trees-Moving.{placed_some}
+use Rattle.wit_joined.specs.Passed.wit_finding-Types.{type_found}
+use Rattle.wit_joined.specs.Passed.wit_plans-Checks.{Standing}
 use Rattle.wit_placed.specs.Order.{AreBehind}
 use Rattle.wit_placed.proofs.Holding.{found, get_behind}
 use Rattle.wit_placed.proofs.Sources.{all_sources, AreSources}
-use Rattle.wit_reach.specs.Ids.{item_ids, side_ids}
-use Rattle.wit_reach.specs.Types.{is_local}
-use Rattle.wit_arena.proofs.Lists.{get_kept}
-use Rattle.wit_copies.specs.Copies.{Copies, goes, copied_owner, IsCopiedDef, AreCopied, no_types, one_more, AreCopiedEntries, no_entries, one_entry_more}
-use Rattle.wit_copies.specs.Same as copy
-use Rattle.wit_copies.specs.Same.{text_of, IsSameKey, IsSameItem}
-use Rattle.wit_copied_trees.proofs.Members.{has_place, goes_own}
-use Rattle.wit_sides.specs.Renames as renamed
-use Rattle.wit_sides.specs.Renames.{IsRenamed, IsRenamedKey, IsRenamedItem, AreRenamed}
-use Rattle.wit_sides.specs.Sides as side
-use Rattle.wit_sides.specs.Sides.{AreUnited}
-use Rattle.wit_includes.specs.Included as brings
-use Rattle.wit_includes.specs.Included.{is_of_world, IsRenamedName, IsRenamedDef, AreRenamedDefs, copies_behind, IsIncluded}
-use Rattle.wit_includes.specs.declared.worlds.Included.{Included}
+use Rattle.wit_joined.specs.Passed.wit_reach-Ids.{item_ids, side_ids}
+use Rattle.wit_joined.specs.Passed.wit_reach-Types.{is_local}
+use Rattle.wit_joined.proofs.Passed.wit_arena-Lists.{get_kept}
+use Rattle.wit_joined.specs.Passed.wit_copies-Copies.{Copies, goes, copied_owner, IsCopiedDef, AreCopied, no_types, one_more, AreCopiedEntries, no_entries, one_entry_more}
+use Rattle.wit_joined.specs.Passed.wit_copies-Same as copy
+use Rattle.wit_joined.specs.Passed.wit_copies-Same.{text_of, IsSameKey, IsSameItem}
+use Rattle.wit_joined.proofs.Passed.wit_copied_trees-Members.{has_place, goes_own}
+use Rattle.wit_joined.specs.Passed.wit_sides-Renames as renamed
+use Rattle.wit_joined.specs.Passed.wit_sides-Renames.{IsRenamed, IsRenamedKey, IsRenamedItem, AreRenamed}
+use Rattle.wit_joined.specs.Passed.wit_sides-Sides as side
+use Rattle.wit_joined.specs.Passed.wit_sides-Sides.{AreUnited}
+use Rattle.wit_joined.specs.Passed.wit_includes-Included as brings
+use Rattle.wit_joined.specs.Passed.wit_includes-Included.{is_of_world, IsRenamedName, IsRenamedDef, AreRenamedDefs, copies_behind, IsIncluded}
+use Rattle.wit_joined.specs.Passed.wit_includes-declared-worlds-Included.{Included}
 use Rattle.wit_joined.specs.Joined.{State, Includes, includes_none, includes_one}
 use Rattle.wit_labels.specs.Types.{IsOwnType, IsOwnItem, IsOwnEntry, HasOwnTypes, OwnTypesStay, MovedSidesHaveOwnTypes, BroughtSidesHaveOwnTypes, JoinedSidesHaveOwnTypes}
 use Rattle.wit_labels.proofs.Every.{each_join, each_front, each_behind}

@@ -1,13 +1,13 @@
 -- Types without names are forms that are made of other types, such as lists (WIT, Types).
 use Rattle.std.specs.Prelude.{◌≡◌, ℕ, List, Some, None}
 use Rattle.std.specs.List.{AllByRecursion as Each}
-use Rattle.wit_types.specs.declared.interface.TypeDef.{TypeDef}
-use Rattle.wit_types.specs.declared.kind.TypeDefKind.{TypeDefKind}
-use Rattle.wit_types.specs.declared.world.World.{World}
-use Rattle.wit_moves.specs.Moved.{Places}
-use Rattle.wit_moves.specs.Plan.{OwnerPlaces, AreMovedDefs}
-use Rattle.wit_arena.specs.Shape.{ShapeTree, kind_shape}
-use Rattle.wit_plans.specs.declared.moves.MovedWorld.{MovedWorld}
+use Rattle.wit_joined.specs.Passed.wit_types-declared-interface-TypeDef.{TypeDef}
+use Rattle.wit_joined.specs.Passed.wit_types-declared-kind-TypeDefKind.{TypeDefKind}
+use Rattle.wit_joined.specs.Passed.wit_types-declared-world-World.{World}
+use Rattle.wit_joined.specs.Passed.wit_moves-Moved.{Places}
+use Rattle.wit_joined.specs.Passed.wit_moves-Plan.{OwnerPlaces, AreMovedDefs}
+use Rattle.wit_joined.specs.Passed.wit_arena-Shape.{ShapeTree, kind_shape}
+use Rattle.wit_joined.specs.Passed.wit_plans-declared-moves-MovedWorld.{MovedWorld}
 use Rattle.wit_joined.specs.Joined.{IsJoinedWorld}
 
 abbrev pub IsShaped : TypeDefKind → Type 0

@@ -1,12 +1,12 @@
 -- What a world brings to one that includes it has names within types and functions that differ, too (WIT, Item: `include`).
 use Rattle.std.specs.Prelude.{ℕ, List}
 use Rattle.std.specs.List.{AllByRecursion as Each}
-use Rattle.wit_types.specs.declared.interface.TypeDef.{TypeDef}
-use Rattle.wit_types.specs.declared.world.IncludeName.{IncludeName}
-use Rattle.wit_types.specs.declared.world.World.{World}
-use Rattle.wit_includes.specs.Included.{IsIncluded}
-use Rattle.wit_includes.specs.declared.worlds.Included.{Included}
-use Rattle.wit_plans.specs.declared.moves.MovedWorld.{MovedWorld}
+use Rattle.wit_joined.specs.Passed.wit_types-declared-interface-TypeDef.{TypeDef}
+use Rattle.wit_joined.specs.Passed.wit_types-declared-world-IncludeName.{IncludeName}
+use Rattle.wit_joined.specs.Passed.wit_types-declared-world-World.{World}
+use Rattle.wit_joined.specs.Passed.wit_includes-Included.{IsIncluded}
+use Rattle.wit_joined.specs.Passed.wit_includes-declared-worlds-Included.{Included}
+use Rattle.wit_joined.specs.Passed.wit_plans-declared-moves-MovedWorld.{MovedWorld}
 use Rattle.wit_joined.specs.Joined.{IsJoinedWorld}
 use Rattle.wit_labels.specs.Labels.{AreLabelsApart, IsSideApart, IsWorldApart}
 use Rattle.wit_labels.specs.Moved.{IsMovedWorldApart}

@@ -5,3 +5,4 @@ pub mod Plain
 pub mod Named
 pub mod Types
 pub mod Forms
+pub mod Passed

@@ -2,16 +2,16 @@
 use Rattle.std.specs.Prelude.{ℕ, List}
 use Rattle.std.specs.List.{AllByRecursion as Each}
 use Rattle.wit_order.specs.Places.{Rows}
-use Rattle.wit_types.specs.declared.interface.Interface.{Interface}
-use Rattle.wit_types.specs.declared.interface.TypeDef.{TypeDef}
-use Rattle.wit_types.specs.declared.world.World.{World}
-use Rattle.wit_features.specs.Features.{FeatureSet}
-use Rattle.wit_moves.specs.Moved.{Places}
-use Rattle.wit_moves.specs.Plan.{OwnerPlaces, AreMovedDefs}
-use Rattle.wit_plans.specs.Checks.{Standing}
-use Rattle.wit_plans.specs.Moves.{AreMovedInterfaces, AreMovedWorlds}
-use Rattle.wit_plans.specs.declared.moves.MovedWorld.{MovedWorld}
-use Rattle.wit_elaborated.specs.Worlds.{IsElaboratedWorld}
+use Rattle.wit_joined.specs.Passed.wit_types-declared-interface-Interface.{Interface}
+use Rattle.wit_joined.specs.Passed.wit_types-declared-interface-TypeDef.{TypeDef}
+use Rattle.wit_joined.specs.Passed.wit_types-declared-world-World.{World}
+use Rattle.wit_joined.specs.Passed.wit_features-Features.{FeatureSet}
+use Rattle.wit_joined.specs.Passed.wit_moves-Moved.{Places}
+use Rattle.wit_joined.specs.Passed.wit_moves-Plan.{OwnerPlaces, AreMovedDefs}
+use Rattle.wit_joined.specs.Passed.wit_plans-Checks.{Standing}
+use Rattle.wit_joined.specs.Passed.wit_plans-Moves.{AreMovedInterfaces, AreMovedWorlds}
+use Rattle.wit_joined.specs.Passed.wit_plans-declared-moves-MovedWorld.{MovedWorld}
+use Rattle.wit_placed.specs.Passed.wit_elaborated-Worlds.{IsElaboratedWorld}
 use Rattle.wit_labels.specs.Labels.{AreLabelsApart, IsInterfaceApart, IsSideApart, IsWorldApart}
 
 -- a world without what it includes

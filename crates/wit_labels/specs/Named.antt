@@ -5,24 +5,24 @@ use Rattle.std.specs.List.{AllByRecursion as Each}
 use Rattle.std.specs.declared.alloc.Global.{Global}
 use Rattle.wit_order.specs.Order.{Has}
 use Rattle.wit_order.specs.Places.{Rows}
-use Rattle.wit_types.specs.declared.interface.Interface.{Interface}
-use Rattle.wit_types.specs.declared.interface.TypeDef.{TypeDef}
-use Rattle.wit_types.specs.declared.world.IncludeName.{IncludeName}
-use Rattle.wit_types.specs.declared.world.World.{World}
-use Rattle.wit_types.specs.declared.world.WorldInclude.{WorldInclude}
-use Rattle.wit_types.specs.declared.world.WorldItem.{WorldItem}
-use Rattle.wit_types.specs.declared.world.WorldItem.TheVariants as item
-use Rattle.wit_types.specs.declared.world_key.WorldKey.{WorldKey}
-use Rattle.wit_types.specs.declared.world_key.WorldKey.TheVariants as key
-use Rattle.wit_features.specs.Features.{FeatureSet}
-use Rattle.wit_moves.specs.Moved.{Places}
-use Rattle.wit_moves.specs.Worlds.{IsMovedSide}
-use Rattle.wit_plans.specs.Checks.{Standing}
-use Rattle.wit_plans.specs.Moves.{IsMovedWorld}
-use Rattle.wit_plans.specs.declared.moves.MovedWorld.{MovedWorld}
-use Rattle.wit_elaborated.specs.Worlds.{IsElaboratedWorld}
-use Rattle.wit_includes.specs.Included.{IsIncluded}
-use Rattle.wit_includes.specs.declared.worlds.Included.{Included}
+use Rattle.wit_joined.specs.Passed.wit_types-declared-interface-Interface.{Interface}
+use Rattle.wit_joined.specs.Passed.wit_types-declared-interface-TypeDef.{TypeDef}
+use Rattle.wit_joined.specs.Passed.wit_types-declared-world-IncludeName.{IncludeName}
+use Rattle.wit_joined.specs.Passed.wit_types-declared-world-World.{World}
+use Rattle.wit_joined.specs.Passed.wit_types-declared-world-WorldInclude.{WorldInclude}
+use Rattle.wit_joined.specs.Passed.wit_types-declared-world-WorldItem.{WorldItem}
+use Rattle.wit_joined.specs.Passed.wit_types-declared-world-WorldItem-TheVariants as item
+use Rattle.wit_joined.specs.Passed.wit_types-declared-world_key-WorldKey.{WorldKey}
+use Rattle.wit_joined.specs.Passed.wit_types-declared-world_key-WorldKey-TheVariants as key
+use Rattle.wit_joined.specs.Passed.wit_features-Features.{FeatureSet}
+use Rattle.wit_joined.specs.Passed.wit_moves-Moved.{Places}
+use Rattle.wit_joined.specs.Passed.wit_moves-Worlds.{IsMovedSide}
+use Rattle.wit_joined.specs.Passed.wit_plans-Checks.{Standing}
+use Rattle.wit_joined.specs.Passed.wit_plans-Moves.{IsMovedWorld}
+use Rattle.wit_joined.specs.Passed.wit_plans-declared-moves-MovedWorld.{MovedWorld}
+use Rattle.wit_placed.specs.Passed.wit_elaborated-Worlds.{IsElaboratedWorld}
+use Rattle.wit_joined.specs.Passed.wit_includes-Included.{IsIncluded}
+use Rattle.wit_joined.specs.Passed.wit_includes-declared-worlds-Included.{Included}
 use Rattle.wit_joined.specs.Joined.{IsJoinedWorld}
 use Rattle.wit_plain_texts.specs.Plain.{IsPlain}
 use Rattle.wit_labels.specs.Plain.{ArePlainApart, AreUnderTheirNames}

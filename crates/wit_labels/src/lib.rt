@@ -15,3 +15,4 @@ pub use types::{
     law_joined_types_are_forms_or_named, law_moved_sides_have_own_types,
     law_moved_types_are_forms_or_named, law_own_types_stay,
 };
+pub use wit_joined::{law_included_sides_are_there, law_included_types_are_backward};

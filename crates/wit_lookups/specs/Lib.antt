@@ -1,3 +1,4 @@
 pub mod Names
 pub mod Lookups
 pub mod Asking
+pub mod Passed

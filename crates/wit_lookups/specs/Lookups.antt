@@ -1,12 +1,12 @@
 -- Names that aren't there, or that are of another kind than their places ask (WIT, Name Resolution).
 use Rattle.std.specs.Prelude.{◌≡◌, ◌≢◌, ℕ, ◌<◌, List, [], ◌∷◌, ◌++◌, map, flat_map, Option, Some, None, slice_get, if◌then◌else◌}
-use Rattle.wit_words.specs.declared.source_map.Span.{Span}
-use Rattle.wit_words.specs.Slice.{Slice}
-use Rattle.wit_syntax.specs.Ast.{PackageNameTree, ToplevelUseTree}
-use Rattle.wit_scopes.specs.Paths.{TargetTree, own, foreign, by_itself, item_uses}
-use Rattle.wit_scopes.specs.Members.{MemberKind, MemberTree, used, defined, function, method, static, constructor}
-use Rattle.wit_scopes.specs.Scopes as scope
-use Rattle.wit_scopes.specs.Scopes.{ExternKind, ListedTree, WorldMemberTree, InterfaceScope, WorldScope, ItemScope}
+use Rattle.wit_type_names.specs.Passed.wit_words-declared-source_map-Span.{Span}
+use Rattle.wit_type_names.specs.Passed.wit_words-Slice.{Slice}
+use Rattle.wit_type_names.specs.Passed.wit_syntax-Ast.{PackageNameTree, ToplevelUseTree}
+use Rattle.wit_type_names.specs.Passed.wit_scopes-Paths.{TargetTree, own, foreign, by_itself, item_uses}
+use Rattle.wit_type_names.specs.Passed.wit_scopes-Members.{MemberKind, MemberTree, used, defined, function, method, static, constructor}
+use Rattle.wit_type_names.specs.Passed.wit_scopes-Scopes as scope
+use Rattle.wit_type_names.specs.Passed.wit_scopes-Scopes.{ExternKind, ListedTree, WorldMemberTree, InterfaceScope, WorldScope, ItemScope}
 use Rattle.wit_type_names.specs.TypeNames.{names_in_func, names_in_member}
 use Rattle.wit_rules.specs.declared.fault.PackageRule.{PackageRule}
 use Rattle.wit_rules.specs.declared.fault.PackageRule.TheVariants.{NameNotFound, WrongKind}

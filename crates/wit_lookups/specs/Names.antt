@@ -2,11 +2,11 @@
 use Rattle.std.specs.Prelude.{ℕ, zero, suc, Bool, List, [], ◌∷◌, map, flat_map, Option, option_and_then, slice_get, bytes_eq}
 use Rattle.std.specs.List.{list_any}
 use Rattle.name_places.specs.FirstPlaces.{place_of}
-use Rattle.wit_syntax.specs.Ast.{ToplevelUseTree}
-use Rattle.wit_scopes.specs.Paths.{known_name, file_item_uses}
-use Rattle.wit_scopes.specs.Members.{MemberKind, MemberTree, used, defined, function, method, static, constructor}
-use Rattle.wit_scopes.specs.Scopes as scope
-use Rattle.wit_scopes.specs.Scopes.{ListedTree, WorldMemberTree, ItemScope}
+use Rattle.wit_type_names.specs.Passed.wit_syntax-Ast.{ToplevelUseTree}
+use Rattle.wit_type_names.specs.Passed.wit_scopes-Paths.{known_name, file_item_uses}
+use Rattle.wit_type_names.specs.Passed.wit_scopes-Members.{MemberKind, MemberTree, used, defined, function, method, static, constructor}
+use Rattle.wit_type_names.specs.Passed.wit_scopes-Scopes as scope
+use Rattle.wit_type_names.specs.Passed.wit_scopes-Scopes.{ListedTree, WorldMemberTree, ItemScope}
 use Rattle.wit_rules.specs.Labels.{extern_labels, scope_name}
 
 abbrev pub Name : Type 0

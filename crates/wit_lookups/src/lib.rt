@@ -7,3 +7,8 @@ mod found;
 
 pub use asks::Asked;
 pub use found::Found;
+pub use wit_rules::{PackageFault, name_span};
+pub use wit_type_names::{
+    ExternKind, Front, Id, ItemScope, Listed, Member, MemberKind, PackageName, Span, Target, Type,
+    WorldMember,
+};

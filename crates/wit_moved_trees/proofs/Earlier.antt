@@ -3,12 +3,12 @@ use Rattle.std.proofs.Common.{◌≡◌, ℕ, ◌+◌, ◌<◌, Bool, true, fals
 use Rattle.std.proofs.lemmas.List.{append-nil}
 use Rattle.std.proofs.lemmas.Option.{same_Some}
 use Rattle.std.specs.Prelude.{slice_get, unwrap_or}
-use Rattle.wit_types.specs.declared.kind.TypeDefKind.{TypeDefKind}
-use Rattle.wit_types.specs.declared.interface.TypeDef.{TypeDef}
-use Rattle.wit_features.specs.Features.{FeatureSet}
+use Rattle.wit_reach.specs.Passed.wit_types-declared-kind-TypeDefKind.{TypeDefKind}
+use Rattle.wit_reach.specs.Passed.wit_types-declared-interface-TypeDef.{TypeDef}
+use Rattle.wit_moves.specs.Passed.wit_features-Features.{FeatureSet}
 use Rattle.wit_moves.specs.Moved.{Places, place_of, is_placed, is_kind_placed, to, IsMovedKind, IsMovedDef}
 use Rattle.wit_moves.specs.Plan.{OwnerPlaces, moved_owner, type_stays, Plan, with_place, with_type, with_types, AreTypesPlaced, AreMovedDefs, no_defs, left_out, moved as moved_def}
-use Rattle.wit_order.specs.Order.{Has}
+use Rattle.wit_moves.specs.Passed.wit_order-Order.{Has}
 use Rattle.wit_reach.specs.Ids.{kind_ids}
 use Rattle.wit_reach.specs.Types.{AreTypesBackward}
 use Rattle.wit_arena.proofs.Lists.{get_more}

@@ -3,17 +3,17 @@ use Rattle.std.proofs.Common.{◌≡◌, ℕ, true, List, [], ◌∷◌, Option,
 use Rattle.std.proofs.lemmas.Bool.{and_parts}
 use Rattle.std.specs.List.{list_all}
 use Rattle.std.specs.Prelude.{slice_get, option_map, string_bytes}
-use Rattle.wit_types.specs.declared.kind.«Type».{«Type» as Ref}
-use Rattle.wit_types.specs.declared.kind.«Type».TheVariants as ref
-use Rattle.wit_types.specs.declared.kind.Handle.{Handle}
-use Rattle.wit_types.specs.declared.kind.Handle.TheVariants as handle
-use Rattle.wit_types.specs.declared.kind.Field.{Field}
-use Rattle.wit_types.specs.declared.kind.Case.{Case}
-use Rattle.wit_types.specs.declared.function.Param.{Param}
-use Rattle.wit_types.specs.declared.kind.TypeDefKind.{TypeDefKind}
-use Rattle.wit_types.specs.declared.kind.TypeDefKind.TheVariants as kind
-use Rattle.wit_types.specs.declared.interface.TypeOwner.{TypeOwner}
-use Rattle.wit_types.specs.declared.interface.TypeOwner.TheVariants as belongs
+use Rattle.wit_reach.specs.Passed.wit_types-declared-kind-Type.{«Type» as Ref}
+use Rattle.wit_reach.specs.Passed.wit_types-declared-kind-Type-TheVariants as ref
+use Rattle.wit_reach.specs.Passed.wit_types-declared-kind-Handle.{Handle}
+use Rattle.wit_reach.specs.Passed.wit_types-declared-kind-Handle-TheVariants as handle
+use Rattle.wit_reach.specs.Passed.wit_types-declared-kind-Field.{Field}
+use Rattle.wit_reach.specs.Passed.wit_types-declared-kind-Case.{Case}
+use Rattle.wit_reach.specs.Passed.wit_types-declared-function-Param.{Param}
+use Rattle.wit_reach.specs.Passed.wit_types-declared-kind-TypeDefKind.{TypeDefKind}
+use Rattle.wit_reach.specs.Passed.wit_types-declared-kind-TypeDefKind-TheVariants as kind
+use Rattle.wit_reach.specs.Passed.wit_types-declared-interface-TypeOwner.{TypeOwner}
+use Rattle.wit_reach.specs.Passed.wit_types-declared-interface-TypeOwner-TheVariants as belongs
 use Rattle.wit_arena.specs.Tree.{Name, Owner, Tree, TreeOption, Trees, a_tree, trees_and, list_tree, fixed_length_list_tree, option_tree, tuple_tree, result_tree, future_tree, stream_tree, own_tree, borrow_tree, record_tree, variant_tree, named_tree, value_of}
 use Rattle.wit_arena.specs.Unfold.{flat, ref_tree, value_tree, part_tree, part_trees, handle_tree, kind_tree, named_kind_tree, nameless_tree}
 use Rattle.wit_arena.proofs.Unfolding.{kept_map, kept_then}

@@ -2,3 +2,4 @@ pub mod Parts
 pub mod Earlier
 mod Following
 pub mod Moving
+pub mod Passed

@@ -3,24 +3,24 @@ use Rattle.std.proofs.Common.{◌≡◌, ℕ, Bool, true, List, [], ◌∷◌, �
 use Rattle.std.proofs.lemmas.Bool.{and_parts}
 use Rattle.std.specs.List.{list_all}
 use Rattle.std.specs.Prelude.{flat_map}
-use Rattle.wit_types.specs.declared.kind.«Type».{«Type» as Ref}
-use Rattle.wit_types.specs.declared.kind.«Type».TheVariants as ref
-use Rattle.wit_types.specs.declared.kind.Handle.{Handle}
-use Rattle.wit_types.specs.declared.kind.Handle.TheVariants as handle
-use Rattle.wit_types.specs.declared.kind.Field.{Field}
-use Rattle.wit_types.specs.declared.kind.Case.{Case}
-use Rattle.wit_types.specs.declared.kind.TypeDefKind.{TypeDefKind}
-use Rattle.wit_types.specs.declared.kind.TypeDefKind.TheVariants as kind
-use Rattle.wit_types.specs.declared.function.Param.{Param}
-use Rattle.wit_types.specs.declared.function.Function.{Function}
-use Rattle.wit_types.specs.declared.function.FunctionKind.{FunctionKind}
-use Rattle.wit_types.specs.declared.function.FunctionKind.TheVariants as of
+use Rattle.wit_reach.specs.Passed.wit_types-declared-kind-Type.{«Type» as Ref}
+use Rattle.wit_reach.specs.Passed.wit_types-declared-kind-Type-TheVariants as ref
+use Rattle.wit_reach.specs.Passed.wit_types-declared-kind-Handle.{Handle}
+use Rattle.wit_reach.specs.Passed.wit_types-declared-kind-Handle-TheVariants as handle
+use Rattle.wit_reach.specs.Passed.wit_types-declared-kind-Field.{Field}
+use Rattle.wit_reach.specs.Passed.wit_types-declared-kind-Case.{Case}
+use Rattle.wit_reach.specs.Passed.wit_types-declared-kind-TypeDefKind.{TypeDefKind}
+use Rattle.wit_reach.specs.Passed.wit_types-declared-kind-TypeDefKind-TheVariants as kind
+use Rattle.wit_reach.specs.Passed.wit_types-declared-function-Param.{Param}
+use Rattle.wit_reach.specs.Passed.wit_types-declared-function-Function.{Function}
+use Rattle.wit_reach.specs.Passed.wit_types-declared-function-FunctionKind.{FunctionKind}
+use Rattle.wit_reach.specs.Passed.wit_types-declared-function-FunctionKind-TheVariants as of
 use Rattle.wit_moves.specs.Moved as moved
 use Rattle.wit_moves.specs.Moved.{Places, is_placed, is_ref_placed, is_part_placed, is_handle_placed, is_kind_placed, resource_of, is_resource_placed, is_signature_placed, moved_ref, moved_part, moved_field, moved_case, moved_param, moved_handle, moved_function_kind, IsMovedKind, IsMovedFunction}
-use Rattle.wit_order.specs.Order.{Has}
+use Rattle.wit_moves.specs.Passed.wit_order-Order.{Has}
 use Rattle.wit_reach.specs.Ids.{ref_ids, part_ids, handle_ids, kind_ids, resource_ids, signature_ids, function_ids}
 use Rattle.wit_reach.proofs.Lists.{has_append, has_parts}
-use Rattle.wit_order.proofs.Lists.{has_was}
+use Rattle.wit_moves.proofs.Passed.wit_order-Lists.{has_was}
 
 -- ---- where it is from
 

@@ -1,11 +1,11 @@
 -- Types and functions that are moved into a graph of packages stand there for what they stood for (WIT, Types, Items, Packages).
 use Rattle.std.specs.Prelude.{◌≡◌, ℕ, true, List, ◌++◌, Some, String, length, map, string_bytes}
 use Rattle.std.specs.declared.alloc.Global.{Global}
-use Rattle.wit_types.specs.declared.interface.TypeDef.{TypeDef}
-use Rattle.wit_types.specs.declared.interface.TypeOwner.{TypeOwner}
-use Rattle.wit_types.specs.declared.function.Param.{Param}
-use Rattle.wit_types.specs.declared.function.Function.{Function}
-use Rattle.wit_features.specs.Features.{FeatureSet}
+use Rattle.wit_reach.specs.Passed.wit_types-declared-interface-TypeDef.{TypeDef}
+use Rattle.wit_reach.specs.Passed.wit_types-declared-interface-TypeOwner.{TypeOwner}
+use Rattle.wit_reach.specs.Passed.wit_types-declared-function-Param.{Param}
+use Rattle.wit_reach.specs.Passed.wit_types-declared-function-Function.{Function}
+use Rattle.wit_moves.specs.Passed.wit_features-Features.{FeatureSet}
 use Rattle.wit_moves.specs.Moved.{Places, place_of, to, is_signature_placed, IsMovedFunction}
 use Rattle.wit_moves.specs.Plan.{OwnerPlaces, is_owner_placed, moved_owner, AreTypesPlaced, AreMovedDefs}
 use Rattle.wit_moves.specs.Interfaces.{AreMovedNames}

@@ -1,7 +1,7 @@
 -- Types that are moved into a graph of packages are made of earlier ones (WIT, Types, Packages).
 use Rattle.std.specs.Prelude.{◌≡◌, ◌<◌, ℕ, List, ◌++◌, Some, length}
-use Rattle.wit_types.specs.declared.interface.TypeDef.{TypeDef}
-use Rattle.wit_features.specs.Features.{FeatureSet}
+use Rattle.wit_reach.specs.Passed.wit_types-declared-interface-TypeDef.{TypeDef}
+use Rattle.wit_moves.specs.Passed.wit_features-Features.{FeatureSet}
 use Rattle.wit_moves.specs.Moved.{Places, place_of}
 use Rattle.wit_moves.specs.Plan.{OwnerPlaces, AreTypesPlaced, AreMovedDefs}
 use Rattle.wit_reach.specs.Types.{AreTypesBackward}

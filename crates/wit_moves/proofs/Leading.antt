@@ -1,7 +1,7 @@
 -- What breaks in the rest of a list breaks in all of it.
 use Rattle.std.proofs.Common.{ℕ, ◌+◌, ◌<◌, List, [], ◌∷◌, ◌≡◌, inl, inr, subst, sym, ap, ◌∙◌, drop, get_or, length}
 use Rattle.std.proofs.lemmas.List.{drop_more}
-use Rattle.wit_words.specs.declared.source_map.Span.{Span}
+use Rattle.wit_features.specs.Passed.wit_words-declared-source_map-Span.{Span}
 use Rattle.wit_moves.specs.Breaks.{Breaks, AnyOf, IsKept}
 
 module _ {X : Type 0} (breaks : X → Breaks) (all : List X) where

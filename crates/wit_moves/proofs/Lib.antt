@@ -2,3 +2,4 @@ mod Mapped
 mod Planning
 mod Retaining
 pub mod Leading
+pub mod Passed

@@ -3,7 +3,7 @@ use Rattle.std.proofs.Common.{◌≡◌, ℕ, ◌+◌, ◌<◌, ◌≤◌, Bool,
 use Rattle.std.proofs.lemmas.List.{length-take-le}
 use Rattle.std.proofs.lemmas.Option.{same_Some, slice_get-get_or}
 use Rattle.std.specs.Prelude.{slice_get}
-use Rattle.wit_types.specs.declared.interface.TypeDef.{TypeDef}
+use Rattle.wit_features.specs.Passed.wit_types-declared-interface-TypeDef.{TypeDef}
 use Rattle.wit_features.specs.Features.{FeatureSet}
 use Rattle.wit_moves.specs.Moved.{Places, is_placed, is_kind_placed}
 use Rattle.wit_moves.specs.Plan.{OwnerPlaces, Plan, type_stays, with_place, with_type, with_types, BreaksAt, AreMovedDefs, left_out, AddsDef, adds_nothing, adds_it}

@@ -1,6 +1,6 @@
 -- What breaks a rule, where.
 use Rattle.std.specs.Prelude.{◌⊎◌, List, [], ◌∷◌}
-use Rattle.wit_words.specs.declared.source_map.Span.{Span}
+use Rattle.wit_features.specs.Passed.wit_words-declared-source_map-Span.{Span}
 
 abbrev pub Breaks : Type 1
 Breaks = Span → Type 0

@@ -1,9 +1,9 @@
 -- What interfaces hold, where it stands in another arena (WIT, Item: `interface`, Feature Gates).
 use Rattle.std.specs.Prelude.{◌≡◌, ℕ, Bool, true, false, ◌&&◌, List, [], ◌∷◌, Some, String, slice_get}
 use Rattle.std.specs.declared.alloc.Global.{Global}
-use Rattle.wit_words.specs.declared.source_map.Span.{Span}
-use Rattle.wit_types.specs.declared.function.Function.{Function}
-use Rattle.wit_types.specs.declared.interface.Interface.{Interface}
+use Rattle.wit_features.specs.Passed.wit_words-declared-source_map-Span.{Span}
+use Rattle.wit_features.specs.Passed.wit_types-declared-function-Function.{Function}
+use Rattle.wit_features.specs.Passed.wit_types-declared-interface-Interface.{Interface}
 use Rattle.wit_moves.specs.declared.plan.MoveFault.{MoveFault}
 use Rattle.wit_moves.specs.declared.plan.MoveFault.TheVariants.{ItemNotFound, OutOfMemory}
 use Rattle.wit_features.specs.Features.{FeatureSet, stays as item_stays}

@@ -4,3 +4,4 @@ pub mod View
 pub mod Interfaces
 pub mod Worlds
 pub mod Breaks
+pub mod Passed

@@ -1,26 +1,26 @@
 -- What stands in another arena, with its ids moved there.
 use Rattle.std.specs.Prelude.{◌≡◌, ℕ, Bool, true, ◌&&◌, List, Option, Some, None, map, option_map, unwrap_or, is_some, slice_get}
 use Rattle.std.specs.List.{list_all}
-use Rattle.wit_types.specs.declared.kind.«Type».{«Type» as Ref}
-use Rattle.wit_types.specs.declared.kind.«Type».TheVariants as ref
-use Rattle.wit_types.specs.declared.kind.Handle.{Handle}
-use Rattle.wit_types.specs.declared.kind.Handle.TheVariants as handle
-use Rattle.wit_types.specs.declared.kind.Field.{Field}
-use Rattle.wit_types.specs.declared.kind.Case.{Case}
-use Rattle.wit_types.specs.declared.kind.Record.{Record}
-use Rattle.wit_types.specs.declared.kind.Tuple.{Tuple}
-use Rattle.wit_types.specs.declared.kind.Variant.{Variant}
-use Rattle.wit_types.specs.declared.kind.Flags.{Flags}
-use Rattle.wit_types.specs.declared.kind.Enum.{Enum}
-use Rattle.wit_types.specs.declared.kind.Result_.{Result_}
-use Rattle.wit_types.specs.declared.kind.TypeDefKind.{TypeDefKind}
-use Rattle.wit_types.specs.declared.kind.TypeDefKind.TheVariants as kind
-use Rattle.wit_types.specs.declared.interface.TypeDef.{TypeDef}
-use Rattle.wit_types.specs.declared.interface.TypeOwner.{TypeOwner}
-use Rattle.wit_types.specs.declared.function.Param.{Param}
-use Rattle.wit_types.specs.declared.function.Function.{Function}
-use Rattle.wit_types.specs.declared.function.FunctionKind.{FunctionKind}
-use Rattle.wit_types.specs.declared.function.FunctionKind.TheVariants as of
+use Rattle.wit_features.specs.Passed.wit_types-declared-kind-Type.{«Type» as Ref}
+use Rattle.wit_features.specs.Passed.wit_types-declared-kind-Type-TheVariants as ref
+use Rattle.wit_features.specs.Passed.wit_types-declared-kind-Handle.{Handle}
+use Rattle.wit_features.specs.Passed.wit_types-declared-kind-Handle-TheVariants as handle
+use Rattle.wit_features.specs.Passed.wit_types-declared-kind-Field.{Field}
+use Rattle.wit_features.specs.Passed.wit_types-declared-kind-Case.{Case}
+use Rattle.wit_features.specs.Passed.wit_types-declared-kind-Record.{Record}
+use Rattle.wit_features.specs.Passed.wit_types-declared-kind-Tuple.{Tuple}
+use Rattle.wit_features.specs.Passed.wit_types-declared-kind-Variant.{Variant}
+use Rattle.wit_features.specs.Passed.wit_types-declared-kind-Flags.{Flags}
+use Rattle.wit_features.specs.Passed.wit_types-declared-kind-Enum.{Enum}
+use Rattle.wit_features.specs.Passed.wit_types-declared-kind-Result_.{Result_}
+use Rattle.wit_features.specs.Passed.wit_types-declared-kind-TypeDefKind.{TypeDefKind}
+use Rattle.wit_features.specs.Passed.wit_types-declared-kind-TypeDefKind-TheVariants as kind
+use Rattle.wit_features.specs.Passed.wit_types-declared-interface-TypeDef.{TypeDef}
+use Rattle.wit_features.specs.Passed.wit_types-declared-interface-TypeOwner.{TypeOwner}
+use Rattle.wit_features.specs.Passed.wit_types-declared-function-Param.{Param}
+use Rattle.wit_features.specs.Passed.wit_types-declared-function-Function.{Function}
+use Rattle.wit_features.specs.Passed.wit_types-declared-function-FunctionKind.{FunctionKind}
+use Rattle.wit_features.specs.Passed.wit_types-declared-function-FunctionKind-TheVariants as of
 
 -- ---- places
 

@@ -1,10 +1,10 @@
 -- Which types of a package stay, and where they stand (WIT, Feature Gates).
 use Rattle.std.specs.Prelude.{◌≡◌, ℕ, ◌+◌, Bool, true, false, ◌&&◌, List, [], ◌∷◌, ◌++◌, Option, Some, None, String, length, slice_get, take}
 use Rattle.std.specs.declared.alloc.Global.{Global}
-use Rattle.wit_words.specs.declared.source_map.Span.{Span}
-use Rattle.wit_types.specs.declared.interface.TypeDef.{TypeDef}
-use Rattle.wit_types.specs.declared.interface.TypeOwner.{TypeOwner}
-use Rattle.wit_types.specs.declared.interface.TypeOwner.TheVariants as belongs
+use Rattle.wit_features.specs.Passed.wit_words-declared-source_map-Span.{Span}
+use Rattle.wit_features.specs.Passed.wit_types-declared-interface-TypeDef.{TypeDef}
+use Rattle.wit_features.specs.Passed.wit_types-declared-interface-TypeOwner.{TypeOwner}
+use Rattle.wit_features.specs.Passed.wit_types-declared-interface-TypeOwner-TheVariants as belongs
 use Rattle.wit_features.specs.Features.{FeatureSet, stays}
 use Rattle.wit_moves.specs.declared.plan.MoveFault.{MoveFault}
 use Rattle.wit_moves.specs.declared.plan.MoveFault.TheVariants.{ItemNotFound, OutOfMemory}

@@ -1,13 +1,13 @@
 -- What worlds import and export, where it stands in another graph (WIT, Item: `world`, Feature Gates).
 use Rattle.std.specs.Prelude.{◌≡◌, ℕ, Bool, true, false, List, Some, map, slice_get}
-use Rattle.wit_words.specs.declared.source_map.Span.{Span}
-use Rattle.wit_types.specs.declared.function.Function.{Function}
-use Rattle.wit_types.specs.declared.stability.Stability.{Stability}
-use Rattle.wit_types.specs.declared.world.WorldItem.{WorldItem}
-use Rattle.wit_types.specs.declared.world.WorldItem.TheVariants as item
-use Rattle.wit_types.specs.declared.world_key.WorldKey.{WorldKey}
-use Rattle.wit_types.specs.declared.world_key.WorldKey.TheVariants as key
-use Rattle.wit_types.specs.World.{span_of}
+use Rattle.wit_features.specs.Passed.wit_words-declared-source_map-Span.{Span}
+use Rattle.wit_features.specs.Passed.wit_types-declared-function-Function.{Function}
+use Rattle.wit_features.specs.Passed.wit_types-declared-stability-Stability.{Stability}
+use Rattle.wit_features.specs.Passed.wit_types-declared-world-WorldItem.{WorldItem}
+use Rattle.wit_features.specs.Passed.wit_types-declared-world-WorldItem-TheVariants as item
+use Rattle.wit_features.specs.Passed.wit_types-declared-world_key-WorldKey.{WorldKey}
+use Rattle.wit_features.specs.Passed.wit_types-declared-world_key-WorldKey-TheVariants as key
+use Rattle.wit_features.specs.Passed.wit_types-World.{span_of}
 use Rattle.wit_moves.specs.declared.plan.MoveFault.{MoveFault}
 use Rattle.wit_moves.specs.declared.plan.MoveFault.TheVariants.{ItemNotFound, OutOfMemory}
 use Rattle.wit_features.specs.Features.{FeatureSet, stays}

@@ -6,7 +6,7 @@ ghost use Rattle.wit_moves.specs.Moved as spec;
 
 use crate::maps::{TypeMap, moved_part, moved_type};
 use crate::places::TypePlaces;
-use wit_types::{Function, FunctionKind, Param};
+use wit_features::{Function, FunctionKind, Param};
 
 /// Whether the resource that a function is of stands somewhere, where it is of one.
 pub fn has_resource(places: &TypePlaces, kind: &FunctionKind) -> bool

@@ -2,7 +2,7 @@
 
 ghost use Rattle.std.specs.Prelude.{◌≡◌, ◌<◌, true, String, Some, length, slice_get, OnOk, IfErr};
 ghost use Rattle.std.specs.declared.alloc.Global.{Global};
-ghost use Rattle.wit_words.specs.declared.source_map.Span.{Span};
+ghost use Rattle.wit_features.specs.Passed.wit_words-declared-source_map-Span.{Span};
 ghost use Rattle.wit_moves.specs.Moved.{is_placed, to, IsMovedFunction};
 ghost use Rattle.wit_moves.specs.Interfaces as spec;
 
@@ -10,8 +10,7 @@ use crate::functions::{has_resource, has_signature, move_function};
 use crate::places::TypePlaces;
 use crate::plan::MoveFault;
 use indexmap::IndexMap;
-use wit_features::Features;
-use wit_types::{Function, Interface, PackageId, TypeId};
+use wit_features::{Features, Function, Interface, PackageId, TypeId};
 
 /// Puts an id where its type stands. Answers whether it does.
 fn place_id(places: &TypePlaces, id: &mut TypeId) -> bool

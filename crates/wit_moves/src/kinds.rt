@@ -2,12 +2,12 @@
 
 ghost use Rattle.std.specs.Prelude.{◌≡◌, map};
 ghost use Rattle.std.specs.List.{list_all};
-ghost use Rattle.wit_types.specs.declared.kind.TypeDefKind.TheVariants as of;
+ghost use Rattle.wit_features.specs.Passed.wit_types-declared-kind-TypeDefKind-TheVariants as of;
 ghost use Rattle.wit_moves.specs.Moved as spec;
 
 use crate::maps::{TypeMap, moved_part, moved_type};
 use crate::places::TypePlaces;
-use wit_types::{
+use wit_features::{
     Case, Field, Handle, Record, Result_, Tuple, Type, TypeDef, TypeDefKind, TypeOwner, Variant,
 };
 

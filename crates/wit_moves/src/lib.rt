@@ -15,4 +15,9 @@ pub use kinds::{has_kind, moved_def};
 pub use maps::TypeMap;
 pub use places::{InterfacePlaces, Places, TypePlaces, WorldPlaces};
 pub use plan::{MoveFault, OwnerPlaces, moved_defs, type_places};
+pub use wit_features::{
+    Arena, AstItem, Docs, Features, ForeignItems, Id, Interface, Package, PackageId, PackageName,
+    Stability, TypeDef, TypeId, TypeOwner, UnresolvedPackage, World, WorldInclude, WorldItem,
+    WorldKey,
+};
 pub use worlds::{check_side, moved_side};

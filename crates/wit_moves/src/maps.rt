@@ -4,7 +4,7 @@ ghost use Rattle.std.specs.Prelude.{◌≡◌, option_map};
 ghost use Rattle.wit_moves.specs.Moved as spec;
 
 use crate::places::TypePlaces;
-use wit_types::{Type, TypeId};
+use wit_features::{Type, TypeId};
 
 /// Says where types go.
 pub trait TypeMap {

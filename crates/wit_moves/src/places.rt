@@ -5,7 +5,7 @@ ghost use Rattle.wit_moves.specs.Moved as spec;
 
 use std::alloc::{AllocError, Global};
 use std::marker::{Model, PhantomData};
-use wit_types::{Id, InterfaceTag, Type, TypeTag, WorldTag};
+use wit_features::{Id, InterfaceTag, Type, TypeTag, WorldTag};
 
 /// Where the values of an arena stand in another, by their ids; one that is left out stands nowhere.
 #[derive(Drop)]

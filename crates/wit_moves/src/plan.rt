@@ -7,9 +7,7 @@ ghost use Rattle.wit_moves.specs.View as seen;
 use crate::kinds::{has_kind, moved_def};
 use crate::places::{InterfacePlaces, TypePlaces, WorldPlaces};
 use std::alloc::{AllocError, AllocFailed, Global};
-use wit_features::Features;
-use wit_types::{TypeDef, TypeId, TypeOwner};
-use wit_words::Span;
+use wit_features::{Features, Span, TypeDef, TypeId, TypeOwner};
 
 /// Where the interfaces and worlds stand to which types belong.
 #[derive(Drop)]

@@ -1,8 +1,8 @@
 //! What worlds import and export.
 
 ghost use Rattle.std.specs.Prelude.{◌≡◌, ◌<◌, true, map, Some, length, slice_get, OnOk, IfOk, IfErr};
-ghost use Rattle.wit_words.specs.declared.source_map.Span.{Span};
-ghost use Rattle.wit_types.specs.declared.world_key.WorldKey.{WorldKey};
+ghost use Rattle.wit_features.specs.Passed.wit_words-declared-source_map-Span.{Span};
+ghost use Rattle.wit_features.specs.Passed.wit_types-declared-world_key-WorldKey.{WorldKey};
 ghost use Rattle.wit_moves.specs.Moved.{to};
 ghost use Rattle.wit_moves.specs.Worlds as spec;
 
@@ -12,8 +12,7 @@ use crate::places::{InterfacePlaces, TypePlaces};
 use crate::plan::MoveFault;
 use indexmap::IndexMap;
 use std::alloc::{AllocError, Global};
-use wit_features::Features;
-use wit_types::{WorldItem, WorldKey};
+use wit_features::{Features, WorldItem, WorldKey};
 
 /// Whether an item stays: where its gates let it, a type where it stands somewhere.
 fn item_stays(features: &Features, places: &TypePlaces, item: &WorldItem) -> bool

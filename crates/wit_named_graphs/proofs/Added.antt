@@ -16,9 +16,9 @@ use Rattle.wit_placed.specs.Found.{FoundTypesAreThere}
 use Rattle.wit_placed.specs.Order.{InterfacesTakePlaces, MovedTypesBelong, MovedInterfacesHoldTheirTypes}
 use Rattle.wit_placed.specs.There.{IsInterfaceThere, IsOwnThere, MovedInterfacesAreThere, MovedWorldsAreThere}
 use Rattle.wit_reach.specs.Holding.{AreNamedOwned}
-use Rattle.wit_graph_worlds.specs.Added.{AreAdded}
-use Rattle.wit_graph_worlds.specs.Sound.{AreSound}
-use Rattle.wit_graph_worlds.specs.Worlds.{state}
+use Rattle.wit_item_names.specs.Passed.wit_graph_worlds-Added.{AreAdded}
+use Rattle.wit_item_names.specs.Passed.wit_graph_worlds-Sound.{AreSound}
+use Rattle.wit_item_names.specs.Passed.wit_graph_worlds-Worlds.{state}
 use Rattle.wit_item_names.specs.Items as items
 use Rattle.wit_item_names.specs.Placed.{IsNewName}
 use Rattle.wit_item_names.specs.Used.{IsNamed}

@@ -9,11 +9,11 @@ use Rattle.wit_types.specs.declared.«package».UnresolvedPackage.{UnresolvedPac
 use Rattle.wit_features.specs.Features.{FeatureSet}
 use Rattle.wit_placed.specs.Found.{FoundAreThere}
 use Rattle.wit_plans.specs.Plans.{standing}
-use Rattle.wit_graph_worlds.specs.Names.{AreNames, interface_names}
+use Rattle.wit_item_names.specs.Passed.wit_graph_worlds-Names.{AreNames, interface_names}
 use Rattle.wit_item_names.specs.Items as items
 use Rattle.wit_item_names.specs.Placed.{IsNewName}
 use Rattle.wit_item_names.specs.Tables.{TablesNameNamed, FoundAreNamed, PlacedTablesNameNamed}
-use Rattle.wit_graph_parts.specs.Own.{asked, own_parts, IsWellFormed}
+use Rattle.wit_graph.specs.Passed.wit_graph_parts-Own.{asked, own_parts, IsWellFormed}
 use Rattle.wit_graph.specs.Graph.{Graph, AreWhole}
 use Rattle.wit_graph.specs.Push.{IsPushed}
 use Rattle.wit_graph.proofs.Finishing.{ready}

@@ -6,7 +6,7 @@ use Rattle.wit_features.specs.Features.{FeatureSet}
 use Rattle.wit_item_names.specs.Items as items
 use Rattle.wit_item_names.specs.Placed.{IsNewName}
 use Rattle.wit_item_names.specs.Tables.{TablesNameNamed}
-use Rattle.wit_graph_parts.specs.Own.{asked, own_parts, IsWellFormed}
+use Rattle.wit_graph.specs.Passed.wit_graph_parts-Own.{asked, own_parts, IsWellFormed}
 use Rattle.wit_graph.specs.Graph.{Graph, AreWhole}
 use Rattle.wit_graph.specs.Push.{IsPushed}
 use Rattle.wit_graph.specs.declared.tables.Tables.{Tables}

@@ -4,3 +4,4 @@
 mod law;
 
 pub use law::{law_added_items_are_named, law_pushed_graphs_are_named};
+pub use wit_item_names::law_names_tell_interfaces_apart;

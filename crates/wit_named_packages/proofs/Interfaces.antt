@@ -16,19 +16,19 @@ use Rattle.wit_arena.specs.Table.{Entries}
 use Rattle.wit_arena.specs.Tree.{Name, Tree}
 use Rattle.wit_arena.specs.Unfold.{owner_of}
 use Rattle.wit_arena.proofs.Lists.{has_map}
-use Rattle.wit_interfaces.specs.Interfaces.{IsInterfaceIn}
-use Rattle.wit_resolved_scopes.specs.InArena.{IsFunctionIn}
-use Rattle.wit_resolved_scopes.specs.Scope.{functions_among}
-use Rattle.wit_resolved_scopes.specs.Texts.{InterfaceText}
-use Rattle.wit_resolved_scopes.proofs.Eaches.{each_right}
-use Rattle.wit_resolved_scopes.proofs.Orders.{placed}
+use Rattle.wit_well_formed.specs.Passed.wit_interfaces-Interfaces.{IsInterfaceIn}
+use Rattle.wit_well_formed.specs.Passed.wit_resolved_scopes-InArena.{IsFunctionIn}
+use Rattle.wit_well_formed.specs.Passed.wit_resolved_scopes-Scope.{functions_among}
+use Rattle.wit_well_formed.specs.Passed.wit_resolved_scopes-Texts.{InterfaceText}
+use Rattle.wit_well_formed.proofs.Passed.wit_resolved_scopes-Eaches.{each_right}
+use Rattle.wit_well_formed.proofs.Passed.wit_resolved_scopes-Orders.{placed}
 use Rattle.wit_reach.specs.Deps.{interface_of, IsDepOf}
 use Rattle.wit_reach.specs.Holding.{listed_types}
 use Rattle.wit_reach.specs.Ids.{function_ids}
 use Rattle.wit_reach.proofs.Holding.{has_mapped, has_flat}
-use Rattle.wit_uses.specs.Uses.{TakesByUse, IsOfInterface}
-use Rattle.wit_graph_parts.specs.Own.{own_parts}
-use Rattle.wit_package.specs.Steps.{Resolves}
+use Rattle.wit_named_graphs.specs.Passed.wit_uses-Uses.{TakesByUse, IsOfInterface}
+use Rattle.wit_well_formed.specs.Passed.wit_graph_parts-Own.{own_parts}
+use Rattle.wit_well_formed.specs.Passed.wit_package-Steps.{Resolves}
 use Rattle.wit_well_formed.proofs.Belonging.{types_are_listed}
 use Rattle.wit_named_packages.specs.Taking.{ResolvedInterfacesTakeByUse}
 use Rattle.wit_named_packages.proofs.Outside.{owner_at}

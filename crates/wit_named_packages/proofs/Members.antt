@@ -15,10 +15,10 @@ use Rattle.wit_arena.specs.Meaning.{Has}
 use Rattle.wit_arena.specs.Standing.{HasTree}
 use Rattle.wit_arena.specs.Unfold.{trees, IsWhole}
 use Rattle.wit_arena.proofs.Unfolding.{option_map_some}
-use Rattle.wit_resolved_scopes.specs.Each.{Each}
-use Rattle.wit_resolved_scopes.specs.InArena.{Context, IsTypeIn, IsFunctionIn}
-use Rattle.wit_resolved_scopes.specs.Meaning.{function_refs, written_parts}
-use Rattle.wit_resolved_scopes.proofs.Eaches.{each_right}
+use Rattle.wit_well_formed.specs.Passed.wit_resolved_scopes-Each.{Each}
+use Rattle.wit_well_formed.specs.Passed.wit_resolved_scopes-InArena.{Context, IsTypeIn, IsFunctionIn}
+use Rattle.wit_well_formed.specs.Passed.wit_resolved_scopes-Meaning.{function_refs, written_parts}
+use Rattle.wit_well_formed.proofs.Passed.wit_resolved_scopes-Eaches.{each_right}
 use Rattle.wit_reach.specs.Ids.{resource_ids, signature_ids, function_ids}
 use Rattle.wit_reach.proofs.Lists.{has_parts}
 use Rattle.wit_well_formed.proofs.Holding.{of_resource, refs_have}

@@ -30,11 +30,11 @@ use Rattle.wit_reach.specs.Paths.{Reaches}
 use Rattle.wit_reach.specs.Types.{IsOfItem}
 use Rattle.wit_reach.proofs.Holding.{has_mapped, alias_of, of_alias}
 use Rattle.wit_reach.proofs.Seen.{path_over}
-use Rattle.wit_resolved_scopes.proofs.Orders.{listed, placed}
-use Rattle.wit_uses.specs.Uses.{IsOwn, IsUse, TakesByUse, IsOfInterface}
-use Rattle.wit_item_names.specs.Plain.{AreUnderPlainNames, ArePlainIncludes}
-use Rattle.wit_item_names.specs.Used.{IsOwnNamed}
-use Rattle.wit_graph_parts.specs.Own.{asked}
+use Rattle.wit_well_formed.proofs.Passed.wit_resolved_scopes-Orders.{listed, placed}
+use Rattle.wit_named_graphs.specs.Passed.wit_uses-Uses.{IsOwn, IsUse, TakesByUse, IsOfInterface}
+use Rattle.wit_named_graphs.specs.Passed.wit_item_names-Plain.{AreUnderPlainNames, ArePlainIncludes}
+use Rattle.wit_named_graphs.specs.Passed.wit_item_names-Used.{IsOwnNamed}
+use Rattle.wit_well_formed.specs.Passed.wit_graph_parts-Own.{asked}
 use Rattle.wit_well_formed.proofs.Lists.{got_mapped, got_behind}
 use Rattle.wit_well_formed.proofs.Offsets.{items_are, same_ids, same_function, same_functions}
 use Rattle.wit_well_formed.proofs.OffsetNames.{moved_named_apart, was, was_function, was_type, plain_side}

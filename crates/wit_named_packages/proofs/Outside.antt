@@ -22,7 +22,7 @@ use Rattle.wit_arena.specs.Meaning as means
 use Rattle.wit_arena.specs.Meaning.{parts, Means, MeansPart, MeansParts, MeansName}
 use Rattle.wit_arena.specs.Unfold.{flat, ref_tree, value_tree, part_tree, part_trees, kind_tree, named_kind_tree}
 use Rattle.wit_arena.proofs.Unfolding.{option_map_some}
-use Rattle.wit_copied_trees.proofs.Owners.{then_some}
+use Rattle.wit_named_graphs.proofs.Passed.wit_copied_trees-Owners.{then_some}
 
 abbrev mutual
   -- names that stand in it, but for those under other names, are of that owner, and nothing is defined but by name

@@ -21,23 +21,23 @@ use Rattle.wit_arena.specs.Meaning.{Has, package_text}
 use Rattle.wit_arena.specs.Unfold.{Owners, owner_of, IsWhole}
 use Rattle.wit_arena.proofs.Lists.{has_map, map_has, has_none}
 use Rattle.wit_arena.proofs.Unfolding.{option_map_some}
-use Rattle.wit_foreign.specs.Items.{interfaces_in, worlds_in}
-use Rattle.wit_foreign.proofs.Numbers.{interface_below}
-use Rattle.wit_interfaces.specs.Interfaces.{IsInterfaceIn}
-use Rattle.wit_interfaces.specs.Listed.{IsListedAt, HasType, ImportsType}
-use Rattle.wit_interfaces.proofs.Behind.{get_either, get_right}
-use Rattle.wit_resolved_scopes.specs.Each.{AreApartBy}
-use Rattle.wit_resolved_scopes.specs.InArena.{Context}
-use Rattle.wit_resolved_scopes.specs.Texts.{InterfaceText, interface_text, labelled_texts, interfaces_of, worlds_of, interface_texts}
-use Rattle.wit_readiness.proofs.Flat.{in_flat}
-use Rattle.wit_readiness.proofs.Labelled.{labelled_given}
-use Rattle.wit_worlds.specs.Worlds.{Entry, IsWorldIn}
-use Rattle.wit_item_names.specs.Used.{IsOwnNamed}
-use Rattle.wit_graph_parts.specs.Own.{asked, own_parts}
-use Rattle.wit_package.specs.TopUses.{files_need}
-use Rattle.wit_package.specs.Resolved.{foreign_owners, owner_in, owners_of, context_of, IsResolved}
-use Rattle.wit_package.specs.Steps.{Resolves}
-use Rattle.wit_package.proofs.Owning.{interface_owners_length, world_owners_length}
+use Rattle.wit_well_formed.specs.Passed.wit_foreign-Items.{interfaces_in, worlds_in}
+use Rattle.wit_well_formed.proofs.Passed.wit_foreign-Numbers.{interface_below}
+use Rattle.wit_well_formed.specs.Passed.wit_interfaces-Interfaces.{IsInterfaceIn}
+use Rattle.wit_well_formed.specs.Passed.wit_interfaces-Listed.{IsListedAt, HasType, ImportsType}
+use Rattle.wit_well_formed.proofs.Passed.wit_interfaces-Behind.{get_either, get_right}
+use Rattle.wit_well_formed.specs.Passed.wit_resolved_scopes-Each.{AreApartBy}
+use Rattle.wit_well_formed.specs.Passed.wit_resolved_scopes-InArena.{Context}
+use Rattle.wit_well_formed.specs.Passed.wit_resolved_scopes-Texts.{InterfaceText, interface_text, labelled_texts, interfaces_of, worlds_of, interface_texts}
+use Rattle.wit_well_formed.proofs.Passed.wit_readiness-Flat.{in_flat}
+use Rattle.wit_well_formed.proofs.Passed.wit_readiness-Labelled.{labelled_given}
+use Rattle.wit_well_formed.specs.Passed.wit_worlds-Worlds.{Entry, IsWorldIn}
+use Rattle.wit_named_graphs.specs.Passed.wit_item_names-Used.{IsOwnNamed}
+use Rattle.wit_well_formed.specs.Passed.wit_graph_parts-Own.{asked, own_parts}
+use Rattle.wit_well_formed.specs.Passed.wit_package-TopUses.{files_need}
+use Rattle.wit_well_formed.specs.Passed.wit_package-Resolved.{foreign_owners, owner_in, owners_of, context_of, IsResolved}
+use Rattle.wit_well_formed.specs.Passed.wit_package-Steps.{Resolves}
+use Rattle.wit_well_formed.proofs.Passed.wit_package-Owning.{interface_owners_length, world_owners_length}
 use Rattle.wit_reach.proofs.Holding.{got}
 use Rattle.wit_well_formed.proofs.Apart.{text_place, texts_apart}
 use Rattle.wit_well_formed.proofs.Belonging.{counted, no_more}

@@ -23,8 +23,8 @@ use Rattle.wit_arena.specs.Standing.{HasTree}
 use Rattle.wit_arena.specs.Tree.{Name, PackageText, Place, in_interface, Owner, Tree}
 use Rattle.wit_arena.specs.Unfold.{Owners, kind_tree, named_kind_tree, owner_of, nameless_tree, def_tree_of, trees, IsWhole}
 use Rattle.wit_arena.proofs.Unfolding.{def_at}
-use Rattle.wit_copied_trees.proofs.Owners.{then_some}
-use Rattle.wit_uses.specs.Uses.{IsOwn, IsUse, TakesByUse}
+use Rattle.wit_named_graphs.proofs.Passed.wit_copied_trees-Owners.{then_some}
+use Rattle.wit_named_graphs.specs.Passed.wit_uses-Uses.{IsOwn, IsUse, TakesByUse}
 use Rattle.wit_named_packages.proofs.Outside.{IsOutside, IsInside, IsForm, name_outside, outside_inside, form_outside, form_no_name, far, far_apart, given, owner_at, IsUsed, IsOfScope, scope_outside, named_owner, named_parts, named_outside, form_tree, name_alias, HasOutside, kind_outside}
 
 -- ---- what an owner sees into

@@ -17,21 +17,21 @@ use Rattle.wit_scopes.specs.Scopes as scope
 use Rattle.wit_scopes.specs.Scopes.{ExternKind, ListedTree, WorldMemberTree}
 use Rattle.wit_arena.specs.Table.{Entries}
 use Rattle.wit_arena.specs.Tree.{Name, in_interface, Owner}
-use Rattle.wit_interfaces.proofs.Behind.{get_either}
-use Rattle.wit_resolved_scopes.specs.Each.{Each}
-use Rattle.wit_resolved_scopes.specs.InArena.{Context}
-use Rattle.wit_resolved_scopes.specs.Texts.{InterfaceText, side_members}
-use Rattle.wit_resolved_scopes.proofs.Eaches.{each_right}
-use Rattle.wit_resolved_scopes.proofs.Orders.{placed}
+use Rattle.wit_well_formed.proofs.Passed.wit_interfaces-Behind.{get_either}
+use Rattle.wit_well_formed.specs.Passed.wit_resolved_scopes-Each.{Each}
+use Rattle.wit_well_formed.specs.Passed.wit_resolved_scopes-InArena.{Context}
+use Rattle.wit_well_formed.specs.Passed.wit_resolved_scopes-Texts.{InterfaceText, side_members}
+use Rattle.wit_well_formed.proofs.Passed.wit_resolved_scopes-Eaches.{each_right}
+use Rattle.wit_well_formed.proofs.Passed.wit_resolved_scopes-Orders.{placed}
 use Rattle.wit_reach.specs.Deps.{AreUsed}
 use Rattle.wit_reach.specs.Lists.{item_interface, item_types, type_items, listed as listed_key, listed_in}
 use Rattle.wit_reach.proofs.Holding.{has_flat}
 use Rattle.wit_reach.proofs.Lists.{has_parts}
-use Rattle.wit_worlds.specs.Worlds.{Entry, target_owner, IsTypeEntry, IsExternEntry, IsEntryOf}
-use Rattle.wit_graph_parts.specs.Own.{asked}
-use Rattle.wit_package.specs.Resolved.{foreign_owners, owner_in}
-use Rattle.wit_package.specs.Steps.{Resolves}
-use Rattle.wit_package.proofs.Owning.{interface_owners_length}
+use Rattle.wit_well_formed.specs.Passed.wit_worlds-Worlds.{Entry, target_owner, IsTypeEntry, IsExternEntry, IsEntryOf}
+use Rattle.wit_well_formed.specs.Passed.wit_graph_parts-Own.{asked}
+use Rattle.wit_well_formed.specs.Passed.wit_package-Resolved.{foreign_owners, owner_in}
+use Rattle.wit_well_formed.specs.Passed.wit_package-Steps.{Resolves}
+use Rattle.wit_well_formed.proofs.Passed.wit_package-Owning.{interface_owners_length}
 use Rattle.wit_well_formed.proofs.Lists.{get_drop, got_mapped}
 use Rattle.wit_named_packages.specs.Taking.{UsedInterfacesAreNamed}
 use Rattle.wit_named_packages.proofs.Interfaces.{interface_dep}

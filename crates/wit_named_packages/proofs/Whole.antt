@@ -4,9 +4,9 @@ use Rattle.std.specs.Prelude.{option_map, slice_get, string_bytes}
 use Rattle.std.specs.declared.alloc.Global.{Global}
 use Rattle.wit_types.specs.declared.interface.TypeDef.{TypeDef}
 use Rattle.wit_arena.proofs.Unfolding.{option_map_some}
-use Rattle.wit_resolved_scopes.proofs.Orders.{listed}
+use Rattle.wit_well_formed.proofs.Passed.wit_resolved_scopes-Orders.{listed}
 use Rattle.wit_core_names.specs.Texts.{IsNameOf}
-use Rattle.wit_graph_parts.specs.Own.{asked, own_parts}
+use Rattle.wit_well_formed.specs.Passed.wit_graph_parts-Own.{asked, own_parts}
 use Rattle.wit_well_formed.specs.Marks.{ParsedPackagesHavePlainNames}
 use Rattle.wit_well_formed.specs.Naming.{InterfacesAreNamedApart}
 use Rattle.wit_well_formed.specs.Plain.{WorldsAreUnderTheirNames}

@@ -22,20 +22,20 @@ use Rattle.wit_arena.specs.Meaning.{Has}
 use Rattle.wit_arena.specs.Table.{Entries}
 use Rattle.wit_arena.specs.Tree.{Name, Place, in_world, Tree}
 use Rattle.wit_arena.specs.Unfold.{owner_of}
-use Rattle.wit_interfaces.proofs.Behind.{get_either}
-use Rattle.wit_resolved_scopes.specs.Each.{Each}
-use Rattle.wit_resolved_scopes.specs.InArena.{Context, IsTypeIn}
-use Rattle.wit_resolved_scopes.specs.Texts.{worlds_of, side_members}
-use Rattle.wit_resolved_scopes.proofs.Eaches.{each_right}
-use Rattle.wit_resolved_scopes.proofs.Orders.{listed, placed}
+use Rattle.wit_well_formed.proofs.Passed.wit_interfaces-Behind.{get_either}
+use Rattle.wit_well_formed.specs.Passed.wit_resolved_scopes-Each.{Each}
+use Rattle.wit_well_formed.specs.Passed.wit_resolved_scopes-InArena.{Context, IsTypeIn}
+use Rattle.wit_well_formed.specs.Passed.wit_resolved_scopes-Texts.{worlds_of, side_members}
+use Rattle.wit_well_formed.proofs.Passed.wit_resolved_scopes-Eaches.{each_right}
+use Rattle.wit_well_formed.proofs.Passed.wit_resolved_scopes-Orders.{listed, placed}
 use Rattle.wit_reach.specs.Deps.{IsDepOf}
 use Rattle.wit_reach.specs.Ids.{item_ids, side_ids}
 use Rattle.wit_reach.specs.Lists.{item_type, type_items}
 use Rattle.wit_reach.specs.Types.{IsOfItem}
 use Rattle.wit_reach.proofs.Holding.{has_mapped, mapped_has, has_flat, flat_has}
-use Rattle.wit_uses.specs.Uses.{TakesByUse}
-use Rattle.wit_worlds.specs.Worlds.{Entry, IsTypeEntry, IsFunctionEntry, IsExternEntry, IsEntryOf, IsWorldIn}
-use Rattle.wit_package.specs.Steps.{Resolves}
+use Rattle.wit_named_graphs.specs.Passed.wit_uses-Uses.{TakesByUse}
+use Rattle.wit_well_formed.specs.Passed.wit_worlds-Worlds.{Entry, IsTypeEntry, IsFunctionEntry, IsExternEntry, IsEntryOf, IsWorldIn}
+use Rattle.wit_well_formed.specs.Passed.wit_package-Steps.{Resolves}
 use Rattle.wit_named_packages.specs.Taking.{ResolvedWorldsTakeByUse}
 use Rattle.wit_named_packages.proofs.Outside.{owner_at}
 use Rattle.wit_named_packages.proofs.Scope.{takes, dep_named}

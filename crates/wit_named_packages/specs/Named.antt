@@ -3,7 +3,7 @@ use Rattle.std.specs.Prelude.{ℕ, List, ◌∷◌}
 use Rattle.wit_words.specs.Sources.{SourceText}
 use Rattle.wit_types.specs.declared.«package».UnresolvedPackage.{UnresolvedPackage}
 use Rattle.wit_order.specs.Order.{Has}
-use Rattle.wit_package.specs.Group.{AreParsed}
+use Rattle.wit_well_formed.specs.Passed.wit_package-Group.{AreParsed}
 use Rattle.wit_named_graphs.specs.Pushed.{IsNamedPackage}
 use Rattle.wit_offsets.specs.Offsets.{package_at}
 

@@ -7,10 +7,10 @@ use Rattle.wit_order.specs.Order.{Has}
 use Rattle.wit_syntax.specs.Ast.{FileTree}
 use Rattle.wit_reach.specs.Lists.{type_items}
 use Rattle.wit_reach.specs.Types.{IsOfItem}
-use Rattle.wit_uses.specs.Uses.{TakesByUse, InterfacesTakeByUse}
-use Rattle.wit_item_names.specs.Used.{AreOwnUsedNamed}
-use Rattle.wit_graph_parts.specs.Own.{asked, own_parts}
-use Rattle.wit_package.specs.Steps.{Resolves}
+use Rattle.wit_named_graphs.specs.Passed.wit_uses-Uses.{TakesByUse, InterfacesTakeByUse}
+use Rattle.wit_named_graphs.specs.Passed.wit_item_names-Used.{AreOwnUsedNamed}
+use Rattle.wit_well_formed.specs.Passed.wit_graph_parts-Own.{asked, own_parts}
+use Rattle.wit_well_formed.specs.Passed.wit_package-Steps.{Resolves}
 
 abbrev pub ResolvedInterfacesTakeByUse : Type 0
 ResolvedInterfacesTakeByUse = (files : List FileTree) (p : UnresolvedPackage) → Resolves files p → InterfacesTakeByUse (asked p).interfaces p.types (own_parts p).interfaces

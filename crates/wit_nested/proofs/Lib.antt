@@ -1,1 +1,2 @@
 mod Parting
+pub mod Passed

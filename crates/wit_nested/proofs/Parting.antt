@@ -2,9 +2,9 @@
 use Rattle.std.proofs.Common.{◌≡◌, ℕ, ◌+◌, ◌<◌, List, [], ◌∷◌, ◌++◌, map, take, length, get_or, add-one, refl, sym, ap, ◌∙◌}
 use Rattle.std.proofs.Math.Seq.{take-suc}
 use Rattle.std.proofs.lemmas.List.{map_push}
-use Rattle.wit_syntax.specs.Ast.{FileTree}
-use Rattle.wit_syntax.specs.declared.ast.File.{File}
-use Rattle.wit_syntax.specs.AstView as view
+use Rattle.wit_scopes.specs.Passed.wit_syntax-Ast.{FileTree}
+use Rattle.wit_scopes.specs.Passed.wit_syntax-declared-ast-File.{File}
+use Rattle.wit_scopes.specs.Passed.wit_syntax-AstView as view
 use Rattle.wit_scopes.proofs.Lists.{flat_map-push}
 use Rattle.wit_nested.specs.declared.nested.PartedFiles.{PartedFiles}
 use Rattle.wit_nested.specs.Nested.{own_file, own_files, nested_in, nested_files}

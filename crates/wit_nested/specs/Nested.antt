@@ -1,8 +1,8 @@
 -- Packages that are nested in files (WIT, Nested Packages).
 use Rattle.std.specs.Prelude.{List, [], ◌∷◌, map, flat_map, Some}
 use Rattle.wit_words.specs.Slice.{Slice}
-use Rattle.wit_syntax.specs.Ast as tree
-use Rattle.wit_syntax.specs.Ast.{GatedTree, AstItemTree, PackageTree, FileItemTree, FileTree}
+use Rattle.wit_scopes.specs.Passed.wit_syntax-Ast as tree
+use Rattle.wit_scopes.specs.Passed.wit_syntax-Ast.{GatedTree, AstItemTree, PackageTree, FileItemTree, FileTree}
 
 -- an item with what stands in front of it, as one of a file
 abbrev pub file_item : GatedTree AstItemTree → GatedTree FileItemTree

@@ -1,7 +1,7 @@
 -- What parted files stand for.
 use Rattle.std.specs.Prelude.{◌≡◌, List, map}
-use Rattle.wit_syntax.specs.Ast.{FileTree}
-use Rattle.wit_syntax.specs.AstView as view
+use Rattle.wit_scopes.specs.Passed.wit_syntax-Ast.{FileTree}
+use Rattle.wit_scopes.specs.Passed.wit_syntax-AstView as view
 use Rattle.wit_nested.specs.declared.nested.PartedFiles.{PartedFiles}
 use Rattle.wit_nested.specs.Nested.{own_files, nested_files}
 

@@ -1,13 +1,12 @@
 //! Files without the packages that are nested in them, and these as files of their own.
 
 ghost use Rattle.std.specs.Prelude.{◌≡◌, List, ◌++◌, ◌∷◌, [], map, flat_map, IfOk, OnOk};
-ghost use Rattle.wit_syntax.specs.AstView as view;
+ghost use Rattle.wit_scopes.specs.Passed.wit_syntax-AstView as view;
 ghost use Rattle.wit_nested.specs.Nested as spec;
 ghost use Rattle.wit_nested.specs.View as seen;
 
 use std::alloc::{AllocError, Global};
-use wit_scopes::push_to;
-use wit_syntax::{AstItem, Docs, File, FileItem, Gated, Package, PackageHeader};
+use wit_scopes::{AstItem, Docs, File, FileItem, Gated, Package, PackageHeader, push_to};
 
 /// An item of a nested package as one of a file.
 fn file_item<'a>(gated: Gated<'a, AstItem<'a>>) -> Gated<'a, FileItem<'a>>

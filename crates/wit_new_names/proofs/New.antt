@@ -11,7 +11,7 @@ use Rattle.wit_order.specs.Order.{Has}
 use Rattle.wit_types.specs.Package.{package_text, with_version}
 use Rattle.wit_types.specs.declared.«package».PackageName.{PackageName}
 use Rattle.wit_plain_texts.specs.Plain.{IsPlain, IsWithout}
-use Rattle.wit_graph_worlds.specs.Names.{IsSameName}
+use Rattle.wit_item_names.specs.Passed.wit_graph_worlds-Names.{IsSameName}
 use Rattle.wit_item_names.proofs.Texts.{split_mark, has_mark}
 use Rattle.wit_new_names.specs.Names.{ReadsBack, IsReadName, NewNamesAreNew}
 

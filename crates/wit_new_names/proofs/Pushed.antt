@@ -3,8 +3,8 @@ use Rattle.std.proofs.Common.{◌≡◌, ℕ, List, [], ◌∷◌, ◌++◌, len
 use Rattle.wit_types.specs.declared.«package».Package.{Package}
 use Rattle.wit_types.specs.declared.«package».PackageName.{PackageName}
 use Rattle.wit_arena.proofs.Lists.{get_kept, get_last, get_more}
-use Rattle.wit_placed.proofs.Members.{has_at, has_get}
-use Rattle.wit_graph_worlds.specs.Names.{IsSameName}
+use Rattle.wit_item_names.proofs.Passed.wit_placed-Members.{has_at, has_get}
+use Rattle.wit_item_names.specs.Passed.wit_graph_worlds-Names.{IsSameName}
 use Rattle.wit_graph.proofs.Finishing.{insert_fresh}
 use Rattle.wit_new_names.specs.Names.{IsReadName, IsKnown, AreKnownByName}
 use Rattle.wit_new_names.specs.Graphs.{EmptyGraphsAreKnown, PushedGraphsAreKnown}

@@ -8,7 +8,7 @@ use Rattle.wit_order.specs.Order.{Has}
 use Rattle.wit_types.specs.declared.«package».Package.{Package}
 use Rattle.wit_types.specs.declared.«package».PackageName.{PackageName}
 use Rattle.wit_plain_texts.specs.Plain.{IsPlain}
-use Rattle.wit_graph_worlds.specs.Names.{IsSameName}
+use Rattle.wit_item_names.specs.Passed.wit_graph_worlds-Names.{IsSameName}
 use Rattle.wit_item_names.specs.Placed.{IsNewName}
 
 -- the text of the version is read as that version, where there is one

@@ -2,3 +2,4 @@ pub mod Order
 pub mod Places
 pub mod Sorter
 pub mod Names
+pub mod Passed

@@ -13,4 +13,4 @@ pub use law::{law_a_fault_denies_an_order, law_order_is_of_the_set};
 pub use names::{Need, toposort};
 pub use places::{PlaceFault, least_order};
 pub use sorter::Circle;
-use wit_words::Span;
+pub use wit_words::Span;

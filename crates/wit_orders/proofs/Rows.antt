@@ -17,7 +17,7 @@ use Rattle.wit_rules.specs.declared.fault.PackageFault.{PackageFault}
 use Rattle.wit_rules.specs.declared.fault.PackageFault.TheVariants.{Broken}
 use Rattle.wit_rules.specs.Breaks.{IsKept, IsFaultOf}
 use Rattle.wit_rules.proofs.Places.{taken}
-use Rattle.wit_scopes.specs.Members.{MemberTree}
+use Rattle.wit_type_names.specs.Passed.wit_scopes-Members.{MemberTree}
 use Rattle.wit_orders.specs.Needs.{Name, Entry, labels, NeedsIn, CircleBreaks, IsOrderOf, AreAt}
 use Rattle.wit_orders.specs.Rows.{some_place, places_in, row_of, AreRows}
 

@@ -7,7 +7,7 @@ use Rattle.wit_words.specs.Slice.{Slice}
 use Rattle.wit_order.specs.Order.{Has}
 use Rattle.wit_order.proofs.InTurn.{in_turn_least, no_way_back}
 use Rattle.wit_rules.specs.Breaks.{IsKept}
-use Rattle.wit_scopes.specs.Members.{MemberTree}
+use Rattle.wit_type_names.specs.Passed.wit_scopes-Members.{MemberTree}
 use Rattle.wit_orders.specs.Needs.{Entry, NeedsIn, CircleBreaks, AreAt, AreSorted, type_entry}
 use Rattle.wit_orders.specs.Rows.{AreWithoutNeeds}
 

@@ -4,10 +4,10 @@ use Rattle.name_places.specs.FirstPlaces.{place_of}
 use Rattle.wit_order.specs.Order.{Has, IsOnCircle, IsLeastOrder}
 use Rattle.wit_words.specs.declared.source_map.Span.{Span}
 use Rattle.wit_words.specs.Slice.{Slice}
-use Rattle.wit_scopes.specs.Paths.{TargetTree, own, foreign}
-use Rattle.wit_scopes.specs.Members.{MemberKind, MemberTree, used, defined, function, method, static, constructor}
-use Rattle.wit_scopes.specs.Scopes as scope
-use Rattle.wit_scopes.specs.Scopes.{WorldMemberTree, ItemScope}
+use Rattle.wit_type_names.specs.Passed.wit_scopes-Paths.{TargetTree, own, foreign}
+use Rattle.wit_type_names.specs.Passed.wit_scopes-Members.{MemberKind, MemberTree, used, defined, function, method, static, constructor}
+use Rattle.wit_type_names.specs.Passed.wit_scopes-Scopes as scope
+use Rattle.wit_type_names.specs.Passed.wit_scopes-Scopes.{WorldMemberTree, ItemScope}
 use Rattle.wit_type_names.specs.TypeNames.{names_in_member}
 use Rattle.wit_rules.specs.declared.fault.PackageRule.{PackageRule}
 use Rattle.wit_rules.specs.declared.fault.PackageRule.TheVariants.{Cycle}

@@ -1,8 +1,8 @@
 //! The order of interfaces and worlds.
 
 ghost use Rattle.std.specs.Prelude.{◌≡◌, ◌++◌, map, flat_map, IfOk, OnOk, IfErr};
-ghost use Rattle.wit_syntax.specs.AstView as view;
-ghost use Rattle.wit_scopes.specs.View as scope_view;
+ghost use Rattle.wit_type_names.specs.Passed.wit_syntax-AstView as view;
+ghost use Rattle.wit_type_names.specs.Passed.wit_scopes-View as scope_view;
 ghost use Rattle.wit_rules.specs.Breaks.{IsKept, IsFaultOf};
 ghost use Rattle.wit_orders.specs.Needs as spec;
 ghost use Rattle.wit_orders.specs.View as seen;
@@ -10,8 +10,7 @@ ghost use Rattle.wit_orders.specs.View as seen;
 use crate::order::{Entry, order_of};
 use std::alloc::{AllocError, Global};
 use wit_rules::PackageFault;
-use wit_scopes::{ItemScope, Member, MemberKind, Target, WorldMember};
-use wit_syntax::Id;
+use wit_type_names::{Id, ItemScope, Member, MemberKind, Target, WorldMember};
 
 /// Adds the name of what a path leads to in the own package.
 fn add_own<'a>(found: &mut Vec<Id<'a>>, path: &Target<'a>) -> Result<(), AllocError>

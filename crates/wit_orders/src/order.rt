@@ -2,7 +2,7 @@
 
 ghost use Rattle.std.specs.Prelude.{◌≡◌, ◌<◌, ℕ, true, false, map, length, slice_get, Some, IfOk, IfErr};
 ghost use Rattle.wit_rules.specs.Breaks.{IsKept, IsFaultOf};
-ghost use Rattle.wit_syntax.specs.AstView as view;
+ghost use Rattle.wit_type_names.specs.Passed.wit_syntax-AstView as view;
 ghost use Rattle.wit_orders.specs.Needs as spec;
 ghost use Rattle.wit_orders.specs.Rows.{AreRows, AreWithoutNeeds, places_in, row_of};
 ghost use Rattle.wit_orders.specs.View as seen;
@@ -12,7 +12,7 @@ use name_places::FirstPlaces;
 use std::alloc::{AllocError, Global};
 use wit_order::{PlaceFault, least_order};
 use wit_rules::{PackageFault, PackageRule};
-use wit_syntax::Id;
+use wit_type_names::Id;
 
 /// Something that has a name, and what it names.
 #[derive(Drop)]

@@ -2,8 +2,8 @@
 
 ghost use Rattle.std.specs.Prelude.{◌≡◌, ◌<◌, ℕ, [], ◌∷◌, ◌++◌, true, false, Some, map, length, slice_get, IfOk, OnOk, IfErr};
 ghost use Rattle.wit_order.specs.Order.{Has};
-ghost use Rattle.wit_scopes.specs.Members.{MemberTree};
-ghost use Rattle.wit_scopes.specs.View as scope_view;
+ghost use Rattle.wit_type_names.specs.Passed.wit_scopes-Members.{MemberTree};
+ghost use Rattle.wit_type_names.specs.Passed.wit_scopes-View as scope_view;
 ghost use Rattle.wit_rules.specs.Breaks.{IsKept, IsFaultOf};
 ghost use Rattle.wit_orders.specs.Needs as spec;
 ghost use Rattle.wit_orders.specs.Rows.{AreWithoutNeeds};
@@ -12,8 +12,7 @@ ghost use Rattle.wit_orders.specs.View as seen;
 use crate::order::{Entry, order_of};
 use std::alloc::{AllocError, Global};
 use wit_rules::PackageFault;
-use wit_scopes::{Member, MemberKind, WorldMember};
-use wit_type_names::member_type_names;
+use wit_type_names::{Member, MemberKind, WorldMember, member_type_names};
 
 /// Whether a member is a type.
 fn is_type(kind: &MemberKind<'_>) -> bool

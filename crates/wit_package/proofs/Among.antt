@@ -8,18 +8,18 @@ use Rattle.std.specs.Prelude.{flat_map}
 use Rattle.wit_words.specs.Slice.{Slice}
 use Rattle.wit_syntax.specs.Ast.{PackageNameTree, ToplevelUseTree}
 use Rattle.wit_scopes.specs.Paths.{TargetTree, own, foreign, by_itself, same_text, same_version, same_package}
-use Rattle.wit_lookups.specs.declared.asks.Asked.{Asked}
-use Rattle.wit_lookups.specs.declared.asks.Asked.TheVariants.{Interface, World}
+use Rattle.wit_checked_lookups.specs.Passed.wit_lookups-declared-asks-Asked.{Asked}
+use Rattle.wit_checked_lookups.specs.Passed.wit_lookups-declared-asks-Asked-TheVariants.{Interface, World}
 use Rattle.wit_types.specs.declared.«package».AstItem.{AstItem}
 use Rattle.wit_scopes.proofs.Lists.{flat_map-more}
 use Rattle.wit_arena.specs.Tree.{Name, PackageText, Place, in_interface, in_world, in_listed, Owner}
 use Rattle.wit_arena.specs.Meaning.{Has, package_text}
 use Rattle.wit_arena.proofs.Lists.{has_none, has_here, has_later, has_cases, has_right}
-use Rattle.wit_foreign.specs.Needs.{NeedTree, AreUses, path_needs}
-use Rattle.wit_foreign.specs.Items.{Items, place_asked, owner_asked, need_owner, AreItemsOf}
-use Rattle.wit_package_types.specs.Stability.{AreGates}
+use Rattle.wit_placeholders.specs.Passed.wit_foreign-Needs.{NeedTree, AreUses, path_needs}
+use Rattle.wit_placeholders.specs.Passed.wit_foreign-Items.{Items, place_asked, owner_asked, need_owner, AreItemsOf}
+use Rattle.wit_placeholders.specs.Passed.wit_package_types-Stability.{AreGates}
 use Rattle.wit_rules.specs.Gates.{ungated}
-use Rattle.wit_foreign.specs.Deps.{HaveGates}
+use Rattle.wit_placeholders.specs.Passed.wit_foreign-Deps.{HaveGates}
 use Rattle.wit_package.specs.TopUses.{is_world, asks_for_world, asked_among, asked_in, top_needs, files_top_needs, with_top_uses}
 
 -- ---- by test and by texts

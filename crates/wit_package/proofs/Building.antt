@@ -14,17 +14,17 @@ use Rattle.wit_rules.specs.Breaks.{IsKept, IsFaultOf}
 use Rattle.wit_rules.proofs.Breaking.{widened}
 use Rattle.wit_arena.specs.Tree.{Name, in_interface}
 use Rattle.wit_arena.proofs.Lists.{get_kept}
-use Rattle.wit_package_types.specs.Known.{KnownTypes}
-use Rattle.wit_foreign.specs.Items.{Items, interfaces_in}
-use Rattle.wit_resolved_scopes.specs.InArena.{Context, own_owner, IsIdOf}
-use Rattle.wit_resolved_scopes.specs.Texts.{interface_text, labelled_texts}
-use Rattle.wit_resolved_scopes.specs.Fit.{KnowsInterfaces}
-use Rattle.wit_interfaces.specs.Interfaces.{AreInterfacesIn}
-use Rattle.wit_interfaces.specs.Adding.{InterfacesBreak, MayAdd, AddsInterfaces}
-use Rattle.wit_interfaces.proofs.Behind.{get_right}
-use Rattle.wit_interfaces.proofs.Growing.{grows_for_through, interfaces_grown}
-use Rattle.wit_interfaces.proofs.Labelling.{interfaces_behind}
-use Rattle.wit_interfaces.proofs.Listing.{listed_through}
+use Rattle.wit_placeholders.specs.Passed.wit_package_types-Known.{KnownTypes}
+use Rattle.wit_placeholders.specs.Passed.wit_foreign-Items.{Items, interfaces_in}
+use Rattle.wit_built_worlds.specs.Passed.wit_resolved_scopes-InArena.{Context, own_owner, IsIdOf}
+use Rattle.wit_built_worlds.specs.Passed.wit_resolved_scopes-Texts.{interface_text, labelled_texts}
+use Rattle.wit_built_worlds.specs.Passed.wit_resolved_scopes-Fit.{KnowsInterfaces}
+use Rattle.wit_built_worlds.specs.Passed.wit_interfaces-Interfaces.{AreInterfacesIn}
+use Rattle.wit_built_worlds.specs.Passed.wit_interfaces-Adding.{InterfacesBreak, MayAdd, AddsInterfaces}
+use Rattle.wit_built_worlds.proofs.Passed.wit_interfaces-Behind.{get_right}
+use Rattle.wit_built_worlds.proofs.Passed.wit_interfaces-Growing.{grows_for_through, interfaces_grown}
+use Rattle.wit_built_worlds.proofs.Passed.wit_interfaces-Labelling.{interfaces_behind}
+use Rattle.wit_built_worlds.proofs.Passed.wit_interfaces-Listing.{listed_through}
 use Rattle.wit_built_worlds.specs.Adding.{WorldsBreak, AreReadyBehind, MayAddWorlds, AddsWorlds}
 use Rattle.wit_package.specs.Built.{AreReadyTogether, MayBuild, Builds, ItemsBreak, by_interfaces, by_worlds}
 

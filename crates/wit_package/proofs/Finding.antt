@@ -8,22 +8,22 @@ use Rattle.wit_scopes.specs.Paths.{file_uses}
 use Rattle.wit_scopes.specs.Scopes.{ItemScope}
 use Rattle.wit_rules.specs.Breaks.{IsKept}
 use Rattle.wit_rules.specs.Facts.{IsDeclared}
-use Rattle.wit_lookups.specs.declared.asks.Asked.{Asked}
-use Rattle.wit_lookups.specs.Lookups.{LookupsBreak}
+use Rattle.wit_checked_lookups.specs.Passed.wit_lookups-declared-asks-Asked.{Asked}
+use Rattle.wit_checked_lookups.specs.Passed.wit_lookups-Lookups.{LookupsBreak}
 use Rattle.wit_arena.specs.Meaning.{Has}
 use Rattle.wit_arena.proofs.Lists.{has_here, has_later, has_map}
-use Rattle.wit_package_types.specs.Foreign.{ForeignName}
-use Rattle.wit_package_types.specs.Known.{KnownTypes}
-use Rattle.wit_package_types.specs.Stability.{IsReadWhere}
-use Rattle.wit_package_types.proofs.Gated.{version_read_where}
-use Rattle.wit_foreign.specs.Needs.{NeedTree, needs_in}
-use Rattle.wit_foreign.specs.Items.{Items, place_asked, need_owner, AreItemsOf}
-use Rattle.wit_foreign.specs.Unknown.{AreUnknown}
-use Rattle.wit_foreign.specs.Deps.{HaveVersions}
-use Rattle.wit_resolved_scopes.specs.Fit.{Foreign}
-use Rattle.wit_resolved_scopes.specs.Texts.{AreItemsSorted, interfaces_of, worlds_of}
-use Rattle.wit_readiness.specs.Readiness.{FindsForeign}
-use Rattle.wit_readiness.proofs.Ready.{packages_are_ready}
+use Rattle.wit_placeholders.specs.Passed.wit_package_types-Foreign.{ForeignName}
+use Rattle.wit_placeholders.specs.Passed.wit_package_types-Known.{KnownTypes}
+use Rattle.wit_placeholders.specs.Passed.wit_package_types-Stability.{IsReadWhere}
+use Rattle.wit_placeholders.proofs.Passed.wit_package_types-Gated.{version_read_where}
+use Rattle.wit_placeholders.specs.Passed.wit_foreign-Needs.{NeedTree, needs_in}
+use Rattle.wit_placeholders.specs.Passed.wit_foreign-Items.{Items, place_asked, need_owner, AreItemsOf}
+use Rattle.wit_placeholders.specs.Passed.wit_foreign-Unknown.{AreUnknown}
+use Rattle.wit_placeholders.specs.Passed.wit_foreign-Deps.{HaveVersions}
+use Rattle.wit_built_worlds.specs.Passed.wit_resolved_scopes-Fit.{Foreign}
+use Rattle.wit_built_worlds.specs.Passed.wit_resolved_scopes-Texts.{AreItemsSorted, interfaces_of, worlds_of}
+use Rattle.wit_built_worlds.specs.Passed.wit_readiness-Readiness.{FindsForeign}
+use Rattle.wit_built_worlds.proofs.Passed.wit_readiness-Ready.{packages_are_ready}
 use Rattle.wit_built_worlds.proofs.Numbers.{items_are_sorts}
 use Rattle.wit_package.specs.Faults.{VersionsBreak, packages_in}
 use Rattle.wit_package.specs.Resolved.{foreign_owners}

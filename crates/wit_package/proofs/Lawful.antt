@@ -3,7 +3,7 @@ use Rattle.std.proofs.Common.{List, refl}
 use Rattle.wit_syntax.specs.Ast.{FileTree}
 use Rattle.wit_scopes.specs.Paths.{file_uses}
 use Rattle.wit_scopes.specs.Scopes.{package_scopes}
-use Rattle.wit_foreign.specs.Needs.{needs_in}
+use Rattle.wit_placeholders.specs.Passed.wit_foreign-Needs.{needs_in}
 use Rattle.wit_package.specs.TopUses.{files_need}
 use Rattle.wit_package.proofs.Among.{asked_still}
 use Rattle.wit_package.specs.Laws.{KeptPackagesMayBeBuilt, PackagesAreBuiltInTwoSteps, BuiltPackagesAreResolved, ItemsBreakAsScopesDo, MissingNamesComeFirst}

@@ -10,3 +10,4 @@ pub mod Sorting
 pub mod Reading
 pub mod Stepping
 pub mod Among
+pub mod Passed

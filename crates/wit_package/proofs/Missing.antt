@@ -9,7 +9,7 @@ use Rattle.wit_syntax.specs.Ast.{PackageNameTree, ToplevelUseTree, FileTree}
 use Rattle.wit_scopes.specs.declared.worlds.Side.{Side}
 use Rattle.wit_scopes.specs.declared.worlds.Side.TheVariants.{Import, Export}
 use Rattle.wit_scopes.specs.Paths.{TargetTree, own, foreign, by_itself, file_uses}
-use Rattle.wit_type_names.specs.TypeNames.{names_in_func, names_in_member}
+use Rattle.wit_checked_lookups.specs.Passed.wit_type_names-TypeNames.{names_in_func, names_in_member}
 use Rattle.wit_scopes.specs.Members.{MemberKind, MemberTree, used, defined, function, method, static, constructor}
 use Rattle.wit_scopes.specs.Scopes as scope
 use Rattle.wit_scopes.specs.Scopes.{ExternKind, ListedTree, WorldMemberTree, InterfaceScope, WorldScope, ItemScope, package_scopes}
@@ -22,16 +22,16 @@ use Rattle.wit_rules.specs.Breaks as breaks
 use Rattle.wit_rules.specs.Breaks.{IsKept, IsFaultOf, VersionWhereBreaks, GateVersionsBreak, GatesBreak}
 use Rattle.wit_rules.specs.Facts as fact
 use Rattle.wit_rules.specs.Facts.{package_name, FilesBreak}
-use Rattle.wit_lookups.specs.declared.found.Found.{Found}
-use Rattle.wit_lookups.specs.declared.found.Found.TheVariants.{There, OfAnotherKind, Missing}
-use Rattle.wit_lookups.specs.Names.{Name, type_names, other_names, item_of}
-use Rattle.wit_lookups.specs.Lookups as look
-use Rattle.wit_lookups.specs.Lookups.{NameBreaks, PathBreaks, LookupsBreak}
+use Rattle.wit_checked_lookups.specs.Passed.wit_lookups-declared-found-Found.{Found}
+use Rattle.wit_checked_lookups.specs.Passed.wit_lookups-declared-found-Found-TheVariants.{There, OfAnotherKind, Missing}
+use Rattle.wit_checked_lookups.specs.Passed.wit_lookups-Names.{Name, type_names, other_names, item_of}
+use Rattle.wit_checked_lookups.specs.Passed.wit_lookups-Lookups as look
+use Rattle.wit_checked_lookups.specs.Passed.wit_lookups-Lookups.{NameBreaks, PathBreaks, LookupsBreak}
 use Rattle.wit_arena.specs.Tree.{PackageText, Place}
-use Rattle.wit_resources.specs.Rules as rule
-use Rattle.wit_resources.specs.Rules.{PartBreaks, ResultBreaks, ConstructorBreaks, DeclaresOther}
-use Rattle.wit_resolved_scopes.specs.Faults as scope_fault
-use Rattle.wit_resolved_scopes.specs.Faults.{ScopeBreaks}
+use Rattle.wit_built_worlds.specs.Passed.wit_resources-Rules as rule
+use Rattle.wit_built_worlds.specs.Passed.wit_resources-Rules.{PartBreaks, ResultBreaks, ConstructorBreaks, DeclaresOther}
+use Rattle.wit_built_worlds.specs.Passed.wit_resolved_scopes-Faults as scope_fault
+use Rattle.wit_built_worlds.specs.Passed.wit_resolved_scopes-Faults.{ScopeBreaks}
 use Rattle.wit_package.specs.Faults.{PackageBreaks, by_files, by_lookups, by_versions, by_circle, by_scope, MissingComesFirst}
 
 -- ---- the files by themselves

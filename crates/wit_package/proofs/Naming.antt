@@ -4,9 +4,9 @@ use Rattle.std.proofs.lemmas.Option.{same_Some}
 use Rattle.std.specs.Prelude.{slice_get}
 use Rattle.wit_syntax.specs.Ast.{PackageNameTree}
 use Rattle.wit_rules.specs.declared.fault.PackageFault.{PackageFault}
-use Rattle.wit_foreign.specs.declared.needs.Need.{Need}
-use Rattle.wit_foreign.specs.Needs.{NeedTree}
-use Rattle.wit_foreign.specs.View as asked
+use Rattle.wit_placeholders.specs.Passed.wit_foreign-declared-needs-Need.{Need}
+use Rattle.wit_placeholders.specs.Passed.wit_foreign-Needs.{NeedTree}
+use Rattle.wit_placeholders.specs.Passed.wit_foreign-View as asked
 use Rattle.wit_rules.specs.Breaks.{Breaks, IsKept, IsFaultOf, VersionWhereBreaks}
 use Rattle.wit_rules.proofs.Breaking.{widened, AreKept, kept_more, all_kept, one_breaks, viewed_kept, viewed_breaks}
 use Rattle.wit_rules.proofs.Places.{read_at}

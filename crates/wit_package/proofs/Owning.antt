@@ -7,12 +7,12 @@ use Rattle.wit_types.specs.declared.«package».AstItem.TheVariants as ids
 use Rattle.wit_arena.specs.Tree.{Owner}
 use Rattle.wit_arena.specs.Meaning.{Has}
 use Rattle.wit_arena.proofs.Lists.{has_none, get_kept}
-use Rattle.wit_foreign.specs.Needs.{NeedTree}
-use Rattle.wit_foreign.specs.Items.{Items, interface_count, world_count, interfaces_in, worlds_in, AreItemsOf}
-use Rattle.wit_interfaces.proofs.Behind.{get_right}
-use Rattle.wit_readiness.proofs.Flat.{has_one, in_flat}
+use Rattle.wit_placeholders.specs.Passed.wit_foreign-Needs.{NeedTree}
+use Rattle.wit_placeholders.specs.Passed.wit_foreign-Items.{Items, interface_count, world_count, interfaces_in, worlds_in, AreItemsOf}
+use Rattle.wit_built_worlds.proofs.Passed.wit_interfaces-Behind.{get_right}
+use Rattle.wit_built_worlds.proofs.Passed.wit_readiness-Flat.{has_one, in_flat}
 use Rattle.wit_built_worlds.specs.Adding.{AreOwnersIn}
-use Rattle.wit_foreign.proofs.Numbers.{interface_number, world_number}
+use Rattle.wit_placeholders.proofs.Passed.wit_foreign-Numbers.{interface_number, world_number}
 use Rattle.wit_package.specs.Resolved.{interface_asked, world_asked, foreign_owners}
 
 -- ---- how many there are

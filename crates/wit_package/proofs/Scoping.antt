@@ -8,14 +8,14 @@ use Rattle.wit_scopes.specs.Scopes.{ExternKind, ListedTree, WorldMemberTree, Int
 use Rattle.wit_arena.specs.Tree.{Place, in_interface, in_world, in_listed}
 use Rattle.wit_arena.specs.Meaning.{Has}
 use Rattle.wit_arena.proofs.Lists.{has_here}
-use Rattle.wit_resolved_scopes.specs.InArena.{Context}
-use Rattle.wit_resolved_scopes.specs.Texts.{InterfaceText, listed_text, extern_texts, member_texts, labelled_texts, own_members, interface_of, world_of, interfaces_of, worlds_of, AreItemsSorted}
-use Rattle.wit_interfaces.specs.Adding.{MembersBreak}
-use Rattle.wit_readiness.proofs.Flat.{in_flat, flat_has}
-use Rattle.wit_readiness.proofs.Interfaces.{interface_given}
-use Rattle.wit_readiness.proofs.Worlds.{world_given}
-use Rattle.wit_readiness.proofs.Labelled.{labelled_given}
-use Rattle.wit_readiness.proofs.Sorted.{item_among, item_sorted}
+use Rattle.wit_built_worlds.specs.Passed.wit_resolved_scopes-InArena.{Context}
+use Rattle.wit_built_worlds.specs.Passed.wit_resolved_scopes-Texts.{InterfaceText, listed_text, extern_texts, member_texts, labelled_texts, own_members, interface_of, world_of, interfaces_of, worlds_of, AreItemsSorted}
+use Rattle.wit_built_worlds.specs.Passed.wit_interfaces-Adding.{MembersBreak}
+use Rattle.wit_built_worlds.proofs.Passed.wit_readiness-Flat.{in_flat, flat_has}
+use Rattle.wit_built_worlds.proofs.Passed.wit_readiness-Interfaces.{interface_given}
+use Rattle.wit_built_worlds.proofs.Passed.wit_readiness-Worlds.{world_given}
+use Rattle.wit_built_worlds.proofs.Passed.wit_readiness-Labelled.{labelled_given}
+use Rattle.wit_built_worlds.proofs.Passed.wit_readiness-Sorted.{item_among, item_sorted}
 use Rattle.wit_built_worlds.specs.Adding.{WorldBreaks, by_own, by_labelled}
 use Rattle.wit_package.specs.Faults.{IsScopeAt, interface_at, world_at, listed_at, OneScopeBreaks}
 use Rattle.wit_package.specs.Built.{ItemsBreak, by_interfaces, by_worlds}

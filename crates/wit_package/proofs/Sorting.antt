@@ -8,8 +8,8 @@ use Rattle.wit_scopes.proofs.Lists.{flat_map-push}
 use Rattle.wit_scopes.specs.Scopes as scope
 use Rattle.wit_scopes.specs.Scopes.{InterfaceScope, WorldScope, ItemScope}
 use Rattle.wit_rules.proofs.Places.{taken}
-use Rattle.wit_resolved_scopes.specs.Texts.{interface_of, world_of, interfaces_of, worlds_of}
-use Rattle.wit_interfaces.specs.Places.{interface_where, interfaces_at, AreInterfacePlaces}
+use Rattle.wit_built_worlds.specs.Passed.wit_resolved_scopes-Texts.{interface_of, world_of, interfaces_of, worlds_of}
+use Rattle.wit_built_worlds.specs.Passed.wit_interfaces-Places.{interface_where, interfaces_at, AreInterfacePlaces}
 use Rattle.wit_built_worlds.specs.Places.{world_where, worlds_at, AreWorldPlaces}
 use Rattle.wit_package.specs.Places.{interface_place, world_place, ArePlacesOf}
 

@@ -23,20 +23,20 @@ use Rattle.wit_rules.specs.Breaks.{IsKept, IsFaultOf}
 use Rattle.wit_rules.specs.Facts.{IsDeclared, FilesBreak, package_name}
 use Rattle.wit_rules.specs.DeclaredView.{IsDeclaredOf}
 use Rattle.wit_rules.proofs.Breaking.{widened}
-use Rattle.wit_lookups.specs.Lookups.{LookupsBreak}
-use Rattle.wit_orders.specs.Needs.{item_entry, IsOrderOf, CircleBreaks}
+use Rattle.wit_checked_lookups.specs.Passed.wit_lookups-Lookups.{LookupsBreak}
+use Rattle.wit_built_worlds.specs.Passed.wit_orders-Needs.{item_entry, IsOrderOf, CircleBreaks}
 use Rattle.wit_arena.specs.Tree.{Name}
 use Rattle.wit_arena.specs.Meaning.{package_text}
-use Rattle.wit_package_types.specs.Known.{KnownTypes}
-use Rattle.wit_resources.specs.declared.natures.Nature.{Nature}
-use Rattle.wit_foreign.specs.Needs.{NeedTree, needs_in, AreUses}
-use Rattle.wit_foreign.specs.Items.{Items, AreItemsOf}
-use Rattle.wit_foreign.specs.Deps.{HaveGates, HaveVersions}
-use Rattle.wit_package_types.specs.Stability.{IsReadWhere}
-use Rattle.wit_interfaces.specs.Places.{interfaces_at}
+use Rattle.wit_placeholders.specs.Passed.wit_package_types-Known.{KnownTypes}
+use Rattle.wit_built_worlds.specs.Passed.wit_resources-declared-natures-Nature.{Nature}
+use Rattle.wit_placeholders.specs.Passed.wit_foreign-Needs.{NeedTree, needs_in, AreUses}
+use Rattle.wit_placeholders.specs.Passed.wit_foreign-Items.{Items, AreItemsOf}
+use Rattle.wit_placeholders.specs.Passed.wit_foreign-Deps.{HaveGates, HaveVersions}
+use Rattle.wit_placeholders.specs.Passed.wit_package_types-Stability.{IsReadWhere}
+use Rattle.wit_built_worlds.specs.Passed.wit_interfaces-Places.{interfaces_at}
 use Rattle.wit_built_worlds.specs.Places.{worlds_at}
-use Rattle.wit_resolved_scopes.specs.Texts.{interfaces_of, worlds_of}
-use Rattle.wit_readiness.proofs.Needing.{needs_have_gates}
+use Rattle.wit_built_worlds.specs.Passed.wit_resolved_scopes-Texts.{interfaces_of, worlds_of}
+use Rattle.wit_built_worlds.proofs.Passed.wit_readiness-Needing.{needs_have_gates}
 use Rattle.wit_package.specs.TopUses.{with_top_uses, files_need}
 use Rattle.wit_package.proofs.Among.{all_gates}
 use Rattle.wit_package.specs.Built.{AreReadyTogether, MayBuild, Builds, ItemsBreak}

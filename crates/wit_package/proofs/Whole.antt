@@ -14,22 +14,22 @@ use Rattle.name_places.specs.FirstPlaces.{place_of}
 use Rattle.wit_arena.specs.Tree.{Name, in_world, Owner, Tree}
 use Rattle.wit_arena.specs.Meaning.{package_text}
 use Rattle.wit_arena.specs.Unfold.{IsWhole}
-use Rattle.wit_package_types.specs.Known.{KnownTypes, FindsOwn}
-use Rattle.wit_package_types.specs.Standing.{AreKnownStanding}
-use Rattle.wit_package_types.proofs.Functional.{are_functional}
-use Rattle.wit_resources.specs.declared.natures.Nature.{Nature}
-use Rattle.wit_foreign.specs.Items.{Items, AreItemsOf}
-use Rattle.wit_foreign.specs.Unknown.{AreUnknown, LeadToOwners}
-use Rattle.wit_foreign.proofs.Standing.{unknown_types_stand}
+use Rattle.wit_placeholders.specs.Passed.wit_package_types-Known.{KnownTypes, FindsOwn}
+use Rattle.wit_placeholders.specs.Passed.wit_package_types-Standing.{AreKnownStanding}
+use Rattle.wit_placeholders.proofs.Passed.wit_package_types-Functional.{are_functional}
+use Rattle.wit_built_worlds.specs.Passed.wit_resources-declared-natures-Nature.{Nature}
+use Rattle.wit_placeholders.specs.Passed.wit_foreign-Items.{Items, AreItemsOf}
+use Rattle.wit_placeholders.specs.Passed.wit_foreign-Unknown.{AreUnknown, LeadToOwners}
+use Rattle.wit_placeholders.proofs.Passed.wit_foreign-Standing.{unknown_types_stand}
 use Rattle.wit_package.specs.TopUses.{files_need}
-use Rattle.wit_resolved_scopes.specs.InArena.{own_owner, IsBuilt, IsIdOf}
-use Rattle.wit_resolved_scopes.specs.Texts.{InterfaceText, AreItemsSorted, interfaces_of, worlds_of, interface_texts}
-use Rattle.wit_interfaces.specs.Interfaces.{AreInterfacesIn}
-use Rattle.wit_interfaces.specs.Listed.{NewTypesAreListed}
-use Rattle.wit_interfaces.proofs.Behind.{get_right}
-use Rattle.wit_interfaces.proofs.Growing.{extends_for}
+use Rattle.wit_built_worlds.specs.Passed.wit_resolved_scopes-InArena.{own_owner, IsBuilt, IsIdOf}
+use Rattle.wit_built_worlds.specs.Passed.wit_resolved_scopes-Texts.{InterfaceText, AreItemsSorted, interfaces_of, worlds_of, interface_texts}
+use Rattle.wit_built_worlds.specs.Passed.wit_interfaces-Interfaces.{AreInterfacesIn}
+use Rattle.wit_built_worlds.specs.Passed.wit_interfaces-Listed.{NewTypesAreListed}
+use Rattle.wit_built_worlds.proofs.Passed.wit_interfaces-Behind.{get_right}
+use Rattle.wit_built_worlds.proofs.Passed.wit_interfaces-Growing.{extends_for}
 use Rattle.wit_built_worlds.specs.Worlds.{AreWorldsIn}
-use Rattle.wit_readiness.proofs.Parts.{declared_kept}
+use Rattle.wit_built_worlds.proofs.Passed.wit_readiness-Parts.{declared_kept}
 use Rattle.wit_package.specs.Start.{IsStart}
 use Rattle.wit_package.specs.Built.{MayBuild, Builds}
 use Rattle.wit_package.specs.Resolved.{foreign_owners, owner_in, owners_of, context_of, IsMade, IsResolved}

@@ -10,14 +10,14 @@ use Rattle.wit_scopes.specs.Scopes.{InterfaceScope, WorldScope}
 use Rattle.wit_rules.specs.declared.fault.PackageRule.{PackageRule}
 use Rattle.wit_arena.specs.Tree.{in_world, Owner}
 use Rattle.wit_arena.specs.Meaning.{Has}
-use Rattle.wit_package_types.specs.Known.{KnownTypes}
-use Rattle.wit_foreign.specs.Items.{Items}
-use Rattle.wit_resolved_scopes.specs.InArena.{Context, own_owner, GrowsFor, IsBuilt, IsIdOf}
-use Rattle.wit_resolved_scopes.specs.Texts.{InterfaceText, interface_text, labelled_texts}
-use Rattle.wit_resolved_scopes.specs.Fit.{Foreign, AreInterfacesReady, AreWorldsReady}
-use Rattle.wit_interfaces.specs.Interfaces.{AreInterfacesIn}
-use Rattle.wit_interfaces.specs.Listed.{NewTypesAreListed}
-use Rattle.wit_interfaces.specs.Adding.{InterfacesBreak}
+use Rattle.wit_placeholders.specs.Passed.wit_package_types-Known.{KnownTypes}
+use Rattle.wit_placeholders.specs.Passed.wit_foreign-Items.{Items}
+use Rattle.wit_built_worlds.specs.Passed.wit_resolved_scopes-InArena.{Context, own_owner, GrowsFor, IsBuilt, IsIdOf}
+use Rattle.wit_built_worlds.specs.Passed.wit_resolved_scopes-Texts.{InterfaceText, interface_text, labelled_texts}
+use Rattle.wit_built_worlds.specs.Passed.wit_resolved_scopes-Fit.{Foreign, AreInterfacesReady, AreWorldsReady}
+use Rattle.wit_built_worlds.specs.Passed.wit_interfaces-Interfaces.{AreInterfacesIn}
+use Rattle.wit_built_worlds.specs.Passed.wit_interfaces-Listed.{NewTypesAreListed}
+use Rattle.wit_built_worlds.specs.Passed.wit_interfaces-Adding.{InterfacesBreak}
 use Rattle.wit_built_worlds.specs.Worlds.{AreWorldsIn}
 use Rattle.wit_built_worlds.specs.Adding.{WorldsBreak, AreOwnersIn}
 

@@ -12,14 +12,14 @@ use Rattle.wit_rules.specs.declared.fault.PackageFault.{PackageFault}
 use Rattle.wit_rules.specs.declared.fault.PackageFault.TheVariants.{OutOfMemory, Syntax, Broken}
 use Rattle.wit_rules.specs.Breaks.{Breaks, AnyBreaks, VersionWhereBreaks}
 use Rattle.wit_rules.specs.Facts.{FilesBreak, package_name}
-use Rattle.wit_lookups.specs.Lookups.{LookupsBreak}
-use Rattle.wit_orders.specs.Needs.{item_entry, types_of, CircleBreaks}
+use Rattle.wit_checked_lookups.specs.Passed.wit_lookups-Lookups.{LookupsBreak}
+use Rattle.wit_built_worlds.specs.Passed.wit_orders-Needs.{item_entry, types_of, CircleBreaks}
 use Rattle.wit_arena.specs.Tree.{PackageText, Place, in_interface, in_world, in_listed}
 use Rattle.wit_arena.specs.Meaning.{Has, package_text}
-use Rattle.wit_foreign.specs.Needs.{NeedTree}
+use Rattle.wit_placeholders.specs.Passed.wit_foreign-Needs.{NeedTree}
 use Rattle.wit_package.specs.TopUses.{files_need}
-use Rattle.wit_resolved_scopes.specs.Faults.{ScopeBreaks}
-use Rattle.wit_resolved_scopes.specs.Texts.{own_members}
+use Rattle.wit_built_worlds.specs.Passed.wit_resolved_scopes-Faults.{ScopeBreaks}
+use Rattle.wit_built_worlds.specs.Passed.wit_resolved_scopes-Texts.{own_members}
 
 -- the scopes of a package: its interfaces, its worlds, and the interfaces that stand in these, each with its members
 pub data IsScopeAt (scopes : List ItemScope) : Place → List MemberTree → Type 0 where

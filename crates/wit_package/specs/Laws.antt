@@ -12,16 +12,16 @@ use Rattle.wit_rules.specs.declared.fault.PackageRule.{PackageRule}
 use Rattle.wit_rules.specs.declared.fault.PackageFault.{PackageFault}
 use Rattle.wit_rules.specs.Breaks.{IsKept, IsFaultOf}
 use Rattle.wit_rules.specs.Facts.{package_name, IsDeclared, FilesBreak}
-use Rattle.wit_lookups.specs.Lookups.{LookupsBreak}
+use Rattle.wit_checked_lookups.specs.Passed.wit_lookups-Lookups.{LookupsBreak}
 use Rattle.wit_arena.specs.Tree.{Name}
-use Rattle.wit_package_types.specs.Known.{KnownTypes}
-use Rattle.wit_resources.specs.declared.natures.Nature.{Nature}
-use Rattle.wit_foreign.specs.Items.{Items, AreItemsOf, interfaces_in}
+use Rattle.wit_placeholders.specs.Passed.wit_package_types-Known.{KnownTypes}
+use Rattle.wit_built_worlds.specs.Passed.wit_resources-declared-natures-Nature.{Nature}
+use Rattle.wit_placeholders.specs.Passed.wit_foreign-Items.{Items, AreItemsOf, interfaces_in}
 use Rattle.wit_package.specs.TopUses.{files_need}
-use Rattle.wit_resolved_scopes.specs.InArena.{Context}
-use Rattle.wit_resolved_scopes.specs.Fit.{KnowsInterfaces}
-use Rattle.wit_resolved_scopes.specs.Texts.{AreItemsSorted, interfaces_of, worlds_of}
-use Rattle.wit_interfaces.specs.Adding.{InterfacesBreak, MayAdd, AddsInterfaces}
+use Rattle.wit_built_worlds.specs.Passed.wit_resolved_scopes-InArena.{Context}
+use Rattle.wit_built_worlds.specs.Passed.wit_resolved_scopes-Fit.{KnowsInterfaces}
+use Rattle.wit_built_worlds.specs.Passed.wit_resolved_scopes-Texts.{AreItemsSorted, interfaces_of, worlds_of}
+use Rattle.wit_built_worlds.specs.Passed.wit_interfaces-Adding.{InterfacesBreak, MayAdd, AddsInterfaces}
 use Rattle.wit_built_worlds.specs.Adding.{WorldsBreak, AreReadyBehind, MayAddWorlds, AddsWorlds}
 use Rattle.wit_package.specs.Start.{IsStart}
 use Rattle.wit_package.specs.Built.{AreReadyTogether, MayBuild, Builds, ItemsBreak}

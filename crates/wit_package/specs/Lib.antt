@@ -8,3 +8,4 @@ pub mod Group
 pub mod GroupView
 pub mod Places
 pub mod TopUses
+pub mod Passed

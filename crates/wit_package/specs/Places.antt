@@ -2,8 +2,8 @@
 use Rattle.std.specs.Prelude.{◌≡◌, ℕ, List, [], ◌∷◌, map, Some, slice_get}
 use Rattle.wit_scopes.specs.Scopes as scope
 use Rattle.wit_scopes.specs.Scopes.{ItemScope}
-use Rattle.wit_resolved_scopes.specs.Texts.{interfaces_of, worlds_of}
-use Rattle.wit_interfaces.specs.Places.{interfaces_at, AreInterfacePlaces}
+use Rattle.wit_built_worlds.specs.Passed.wit_resolved_scopes-Texts.{interfaces_of, worlds_of}
+use Rattle.wit_built_worlds.specs.Passed.wit_interfaces-Places.{interfaces_at, AreInterfacePlaces}
 use Rattle.wit_built_worlds.specs.Places.{worlds_at, AreWorldPlaces}
 
 -- what stands at these places

@@ -16,16 +16,16 @@ use Rattle.wit_arena.specs.Arena.{IsUnique}
 use Rattle.wit_arena.specs.Docs.{said, contents_of}
 use Rattle.wit_arena.specs.Meaning.{package_text}
 use Rattle.wit_arena.specs.Unfold.{Owners, IsWhole}
-use Rattle.wit_package_types.specs.Foreign.{ForeignName}
-use Rattle.wit_foreign.specs.Needs.{NeedTree}
-use Rattle.wit_foreign.specs.Items.{Items, AreItemsOf}
-use Rattle.wit_foreign.specs.Unknown.{AreUnknown}
-use Rattle.wit_foreign.specs.Deps.{IsPackageName, AreDeps, package_entries}
+use Rattle.wit_placeholders.specs.Passed.wit_package_types-Foreign.{ForeignName}
+use Rattle.wit_placeholders.specs.Passed.wit_foreign-Needs.{NeedTree}
+use Rattle.wit_placeholders.specs.Passed.wit_foreign-Items.{Items, AreItemsOf}
+use Rattle.wit_placeholders.specs.Passed.wit_foreign-Unknown.{AreUnknown}
+use Rattle.wit_placeholders.specs.Passed.wit_foreign-Deps.{IsPackageName, AreDeps, package_entries}
 use Rattle.wit_package.specs.TopUses.{files_need}
-use Rattle.wit_resolved_scopes.specs.InArena.{Context}
-use Rattle.wit_resolved_scopes.specs.Texts.{AreItemsSorted, worlds_of, interface_texts}
-use Rattle.wit_interfaces.specs.Interfaces.{AreInterfacesIn}
-use Rattle.wit_interfaces.specs.Listed.{NewTypesAreListed}
+use Rattle.wit_built_worlds.specs.Passed.wit_resolved_scopes-InArena.{Context}
+use Rattle.wit_built_worlds.specs.Passed.wit_resolved_scopes-Texts.{AreItemsSorted, worlds_of, interface_texts}
+use Rattle.wit_built_worlds.specs.Passed.wit_interfaces-Interfaces.{AreInterfacesIn}
+use Rattle.wit_built_worlds.specs.Passed.wit_interfaces-Listed.{NewTypesAreListed}
 use Rattle.wit_built_worlds.specs.Worlds.{AreWorldsIn}
 use Rattle.wit_placeholders.specs.Placeholders.{ArePlaceholders}
 

@@ -5,12 +5,12 @@ use Rattle.wit_types.specs.declared.interface.Interface.{Interface}
 use Rattle.wit_types.specs.declared.interface.TypeDef.{TypeDef}
 use Rattle.wit_types.specs.declared.world.World.{World}
 use Rattle.wit_arena.specs.Tree.{Name}
-use Rattle.wit_package_types.specs.Known.{KnownTypes}
-use Rattle.wit_resources.specs.declared.natures.Nature.{Nature}
-use Rattle.wit_resources.specs.Natures.{natures as natures_of}
-use Rattle.wit_foreign.specs.Needs.{NeedTree}
-use Rattle.wit_foreign.specs.Items.{Items}
-use Rattle.wit_foreign.specs.Unknown.{AreUnknown}
+use Rattle.wit_placeholders.specs.Passed.wit_package_types-Known.{KnownTypes}
+use Rattle.wit_built_worlds.specs.Passed.wit_resources-declared-natures-Nature.{Nature}
+use Rattle.wit_built_worlds.specs.Passed.wit_resources-Natures.{natures as natures_of}
+use Rattle.wit_placeholders.specs.Passed.wit_foreign-Needs.{NeedTree}
+use Rattle.wit_placeholders.specs.Passed.wit_foreign-Items.{Items}
+use Rattle.wit_placeholders.specs.Passed.wit_foreign-Unknown.{AreUnknown}
 use Rattle.wit_placeholders.specs.Placeholders.{ArePlaceholders}
 
 -- nothing is known but the types, interfaces and worlds of others that are asked for

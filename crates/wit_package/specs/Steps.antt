@@ -14,14 +14,14 @@ use Rattle.wit_rules.specs.declared.fault.PackageFault.{PackageFault}
 use Rattle.wit_rules.specs.Breaks.{IsKept, IsFaultOf}
 use Rattle.wit_rules.specs.Facts.{FilesBreak}
 use Rattle.wit_rules.specs.DeclaredView.{IsDeclaredOf}
-use Rattle.wit_lookups.specs.Lookups.{LookupsBreak}
-use Rattle.wit_orders.specs.Needs.{item_entry, IsOrderOf}
+use Rattle.wit_checked_lookups.specs.Passed.wit_lookups-Lookups.{LookupsBreak}
+use Rattle.wit_built_worlds.specs.Passed.wit_orders-Needs.{item_entry, IsOrderOf}
 use Rattle.wit_arena.specs.Tree.{Name}
 use Rattle.wit_arena.specs.Meaning.{package_text}
-use Rattle.wit_package_types.specs.Known.{KnownTypes}
-use Rattle.wit_resources.specs.declared.natures.Nature.{Nature}
-use Rattle.wit_foreign.specs.Needs.{NeedTree, AreUses}
-use Rattle.wit_foreign.specs.Items.{Items, AreItemsOf}
+use Rattle.wit_placeholders.specs.Passed.wit_package_types-Known.{KnownTypes}
+use Rattle.wit_built_worlds.specs.Passed.wit_resources-declared-natures-Nature.{Nature}
+use Rattle.wit_placeholders.specs.Passed.wit_foreign-Needs.{NeedTree, AreUses}
+use Rattle.wit_placeholders.specs.Passed.wit_foreign-Items.{Items, AreItemsOf}
 use Rattle.wit_package.specs.TopUses.{files_need}
 use Rattle.wit_package.specs.Faults.{VersionsBreak, packages_in, OneScopeBreaks, PackageBreaks, MissingComesFirst}
 use Rattle.wit_package.specs.Places.{AreAt, ArePlacesOf}

@@ -4,9 +4,9 @@ use Rattle.wit_words.specs.Slice.{Slice}
 use Rattle.wit_syntax.specs.Ast.{PackageNameTree, ToplevelUseTree, FileTree}
 use Rattle.wit_scopes.specs.Paths.{TargetTree, own, foreign, by_itself, same_text, same_package, file_uses}
 use Rattle.wit_scopes.specs.Scopes.{package_scopes}
-use Rattle.wit_lookups.specs.declared.asks.Asked.{Asked}
-use Rattle.wit_lookups.specs.declared.asks.Asked.TheVariants.{Interface, World}
-use Rattle.wit_foreign.specs.Needs.{NeedTree, path_needs, needs_in}
+use Rattle.wit_checked_lookups.specs.Passed.wit_lookups-declared-asks-Asked.{Asked}
+use Rattle.wit_checked_lookups.specs.Passed.wit_lookups-declared-asks-Asked-TheVariants.{Interface, World}
+use Rattle.wit_placeholders.specs.Passed.wit_foreign-Needs.{NeedTree, path_needs, needs_in}
 
 abbrev pub is_world : Asked → Bool
 is_world Interface = false

@@ -2,22 +2,20 @@
 
 ghost use Rattle.std.specs.Prelude.{◌≡◌, List, [], map, IfOk};
 ghost use Rattle.wit_scopes.specs.View as scope_view;
-ghost use Rattle.wit_resources.specs.Natures.{natures as natures_of};
-ghost use Rattle.wit_foreign.specs.Needs.{AreUses, needs_in};
-ghost use Rattle.wit_foreign.specs.Items.{AreItemsOf};
-ghost use Rattle.wit_foreign.specs.Unknown.{AreUnknown};
-ghost use Rattle.wit_foreign.specs.View as seen;
+ghost use Rattle.wit_built_worlds.specs.Passed.wit_resources-Natures.{natures as natures_of};
+ghost use Rattle.wit_placeholders.specs.Passed.wit_foreign-Needs.{AreUses, needs_in};
+ghost use Rattle.wit_placeholders.specs.Passed.wit_foreign-Items.{AreItemsOf};
+ghost use Rattle.wit_placeholders.specs.Passed.wit_foreign-Unknown.{AreUnknown};
+ghost use Rattle.wit_placeholders.specs.Passed.wit_foreign-View as seen;
 ghost use Rattle.wit_package.specs.Start as spec;
 
 use name_places::FirstPlaces;
 use std::alloc::{AllocError, Global};
 use wit_arena::Types;
-use wit_built_worlds::BuiltWorlds;
-use wit_foreign::{ForeignItems, Need, add_unknown_types, foreign_items};
-use wit_interfaces::Building;
-use wit_package_types::Known;
-use wit_placeholders::placeholders_of;
-use wit_resources::Natures;
+use wit_built_worlds::{Building, BuiltWorlds, Natures};
+use wit_placeholders::{
+    ForeignItems, Known, Need, add_unknown_types, foreign_items, placeholders_of,
+};
 use wit_syntax::Span;
 use wit_types::{Arena, Interface};
 

@@ -2,18 +2,17 @@
 
 ghost use Rattle.std.specs.Prelude.{◌≡◌, List, [], length, map, OnOk, IfErr};
 ghost use Rattle.wit_rules.specs.Breaks.{IsKept, IsFaultOf};
-ghost use Rattle.wit_resources.specs.Natures.{natures as natures_of};
-ghost use Rattle.wit_foreign.specs.Needs.{NeedTree};
-ghost use Rattle.wit_foreign.specs.Items.{AreItemsOf, interfaces_in, worlds_in};
-ghost use Rattle.wit_resolved_scopes.specs.InArena.{Context};
+ghost use Rattle.wit_built_worlds.specs.Passed.wit_resources-Natures.{natures as natures_of};
+ghost use Rattle.wit_placeholders.specs.Passed.wit_foreign-Needs.{NeedTree};
+ghost use Rattle.wit_placeholders.specs.Passed.wit_foreign-Items.{AreItemsOf, interfaces_in, worlds_in};
+ghost use Rattle.wit_built_worlds.specs.Passed.wit_resolved_scopes-InArena.{Context};
 ghost use Rattle.wit_scopes.specs.View as scope_view;
-ghost use Rattle.wit_interfaces.specs.Places.{interfaces_at, AreInterfacePlaces};
+ghost use Rattle.wit_built_worlds.specs.Passed.wit_interfaces-Places.{interfaces_at, AreInterfacePlaces};
 ghost use Rattle.wit_built_worlds.specs.Places.{worlds_at, AreWorldPlaces};
 ghost use Rattle.wit_package.specs.Built as spec;
 
-use wit_built_worlds::{BuiltWorlds, add_worlds};
-use wit_foreign::ForeignItems;
-use wit_interfaces::{Building, add_interfaces};
+use wit_built_worlds::{Building, BuiltWorlds, add_interfaces, add_worlds};
+use wit_placeholders::ForeignItems;
 use wit_rules::PackageFault;
 use wit_scopes::ItemScope;
 

@@ -2,15 +2,15 @@
 
 ghost use Rattle.std.specs.Prelude.{◌≡◌, IfOk};
 ghost use Rattle.wit_syntax.specs.AstView as view;
-ghost use Rattle.wit_package_types.specs.Stability.{IsReadWhere};
-ghost use Rattle.wit_foreign.specs.Deps.{HaveItems, HaveGates, HaveVersions};
-ghost use Rattle.wit_foreign.specs.View as asked;
+ghost use Rattle.wit_placeholders.specs.Passed.wit_package_types-Stability.{IsReadWhere};
+ghost use Rattle.wit_placeholders.specs.Passed.wit_foreign-Deps.{HaveItems, HaveGates, HaveVersions};
+ghost use Rattle.wit_placeholders.specs.Passed.wit_foreign-View as asked;
 ghost use Rattle.wit_package.specs.Resolved as spec;
 
 use std::alloc::{AllocError, Global};
 use wit_arena::docs_of;
-use wit_foreign::{ForeignItems, Need, foreign_deps, package_name};
-use wit_interfaces::Building;
+use wit_built_worlds::Building;
+use wit_placeholders::{ForeignItems, Need, foreign_deps, package_name};
 use wit_rules::name_span;
 use wit_syntax::{Docs, PackageName, Span};
 use wit_types::{Arena, UnresolvedPackage, World};

@@ -3,15 +3,15 @@
 ghost use Rattle.std.specs.Prelude.{◌≡◌, List, [], ◌++◌, map, flat_map, IfOk, OnOk};
 ghost use Rattle.wit_syntax.specs.AstView as view;
 ghost use Rattle.wit_scopes.specs.View as scope_view;
-ghost use Rattle.wit_foreign.specs.Needs.{NeedTree};
-ghost use Rattle.wit_foreign.specs.Items.{AreItemsOf};
-ghost use Rattle.wit_foreign.specs.View as asked;
+ghost use Rattle.wit_placeholders.specs.Passed.wit_foreign-Needs.{NeedTree};
+ghost use Rattle.wit_placeholders.specs.Passed.wit_foreign-Items.{AreItemsOf};
+ghost use Rattle.wit_placeholders.specs.Passed.wit_foreign-View as asked;
 ghost use Rattle.wit_package.specs.TopUses as spec;
 
 use std::alloc::{AllocError, Global};
 use std::rc::Rc;
-use wit_foreign::{ForeignItems, Need, foreign_items};
-use wit_lookups::Asked;
+use wit_checked_lookups::Asked;
+use wit_placeholders::{ForeignItems, Need, foreign_items};
 use wit_scopes::{Front, Target, path_by_itself};
 use wit_syntax::{Docs, Id, PackageName, ToplevelUse};
 

@@ -3,10 +3,10 @@
 ghost use Rattle.std.specs.Prelude.{◌∷◌, OnOk, IfErr};
 ghost use Rattle.wit_syntax.specs.AstView as view;
 ghost use Rattle.wit_rules.specs.Breaks.{IsKept, IsFaultOf, VersionWhereBreaks};
-ghost use Rattle.wit_foreign.specs.View as asked;
+ghost use Rattle.wit_placeholders.specs.Passed.wit_foreign-View as asked;
 ghost use Rattle.wit_package.specs.Faults.{VersionsBreak, packages_in};
 
-use wit_foreign::Need;
+use wit_placeholders::Need;
 use wit_rules::{PackageFault, check_version};
 use wit_syntax::PackageName;
 

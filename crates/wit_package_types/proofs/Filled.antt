@@ -6,9 +6,9 @@ use Rattle.wit_types.specs.declared.kind.«Type».TheVariants as ref
 use Rattle.wit_types.specs.declared.kind.TypeDefKind.{TypeDefKind}
 use Rattle.wit_types.specs.declared.interface.TypeDef.{TypeDef}
 use Rattle.wit_types.specs.declared.interface.TypeOwner.{TypeOwner}
-use Rattle.wit_scopes.specs.Paths.{own, foreign}
-use Rattle.wit_scopes.specs.Members.{MemberKind, MemberTree}
-use Rattle.wit_scopes.specs.Scopes.{ItemScope}
+use Rattle.wit_rules.specs.Passed.wit_scopes-Paths.{own, foreign}
+use Rattle.wit_rules.specs.Passed.wit_scopes-Members.{MemberKind, MemberTree}
+use Rattle.wit_rules.specs.Passed.wit_scopes-Scopes.{ItemScope}
 use Rattle.wit_arena.specs.Tree.{Name, PackageText, Place, in_interface, Owner, Tree}
 use Rattle.wit_arena.specs.Table.{Entries}
 use Rattle.wit_arena.specs.Meaning.{Has, Declares}

@@ -6,9 +6,9 @@ use Rattle.std.specs.Prelude.{slice_get, option_map}
 use Rattle.wit_types.specs.declared.kind.TypeDefKind.{TypeDefKind}
 use Rattle.wit_types.specs.declared.interface.TypeDef.{TypeDef}
 use Rattle.wit_types.specs.declared.interface.TypeOwner.{TypeOwner}
-use Rattle.wit_scopes.specs.declared.members.Member.{Member}
-use Rattle.wit_scopes.specs.Members.{MemberKind, MemberTree}
-use Rattle.wit_scopes.specs.View as scope_view
+use Rattle.wit_rules.specs.Passed.wit_scopes-declared-members-Member.{Member}
+use Rattle.wit_rules.specs.Passed.wit_scopes-Members.{MemberKind, MemberTree}
+use Rattle.wit_rules.specs.Passed.wit_scopes-View as scope_view
 use Rattle.wit_rules.proofs.Places.{read_at, taken}
 use Rattle.wit_arena.specs.Tree.{Name}
 use Rattle.wit_arena.specs.Table.{Entries}

@@ -2,12 +2,12 @@
 use Rattle.std.proofs.Common.{◌≡◌, List, [], ◌∷◌, refl, sym, subst, ap, ◌∙◌, map}
 use Rattle.std.proofs.lemmas.Option.{same_Some, slice_get-map}
 use Rattle.std.specs.Prelude.{slice_get, option_map}
-use Rattle.wit_words.specs.Slice.{Slice}
-use Rattle.wit_scopes.specs.declared.worlds.Side.{Side}
-use Rattle.wit_scopes.specs.declared.worlds.Side.TheVariants.{Import, Export}
-use Rattle.wit_scopes.specs.Members.{MemberKind, MemberTree, used, defined, function, method, static, constructor}
-use Rattle.wit_scopes.specs.Scopes as scope
-use Rattle.wit_scopes.specs.Scopes.{ItemScope, InterfaceScope, WorldScope, ListedTree, WorldMemberTree}
+use Rattle.wit_types.specs.Passed.wit_words-Slice.{Slice}
+use Rattle.wit_rules.specs.Passed.wit_scopes-declared-worlds-Side.{Side}
+use Rattle.wit_rules.specs.Passed.wit_scopes-declared-worlds-Side-TheVariants.{Import, Export}
+use Rattle.wit_rules.specs.Passed.wit_scopes-Members.{MemberKind, MemberTree, used, defined, function, method, static, constructor}
+use Rattle.wit_rules.specs.Passed.wit_scopes-Scopes as scope
+use Rattle.wit_rules.specs.Passed.wit_scopes-Scopes.{ItemScope, InterfaceScope, WorldScope, ListedTree, WorldMemberTree}
 use Rattle.wit_rules.specs.Labels.{full_name, member_label, side_labels, scope_name}
 use Rattle.wit_rules.specs.Breaks.{IsKept}
 use Rattle.wit_rules.specs.Facts as fact

@@ -3,8 +3,8 @@ use Rattle.std.proofs.Common.{◌≡◌, ℕ, Bool, true, false, List, [], ◌�
 use Rattle.std.proofs.lemmas.Bool.{cases_Bool}
 use Rattle.std.specs.Prelude.{is_ok}
 use Rattle.semver.specs.Parse.{version_parts}
-use Rattle.wit_words.specs.Slice.{Slice}
-use Rattle.wit_items.specs.ItemTree.{AttributeTree}
+use Rattle.wit_types.specs.Passed.wit_words-Slice.{Slice}
+use Rattle.wit_rules.specs.Passed.wit_items-ItemTree.{AttributeTree}
 use Rattle.wit_rules.specs.declared.fault.PackageRule.TheVariants.{BadGate, BadVersion}
 use Rattle.wit_rules.specs.Gates.{GatesTree, ungated, of_feature, from_version, gates_in}
 use Rattle.wit_rules.specs.Breaks as fact

@@ -4,3 +4,4 @@ pub mod Filling
 pub mod Filled
 pub mod Functional
 pub mod Gated
+pub mod Passed

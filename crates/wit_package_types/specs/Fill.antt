@@ -1,15 +1,15 @@
 -- One way to bring the types of a scope into an arena (WIT, Items, Use).
 use Rattle.std.specs.Prelude.{◌≡◌, ℕ, List, [], ◌∷◌, ◌++◌, Some, map, take, length, slice_get, option_map, string_bytes}
-use Rattle.wit_words.specs.Slice.{Slice}
+use Rattle.wit_types.specs.Passed.wit_words-Slice.{Slice}
 use Rattle.wit_types.specs.declared.kind.«Type».TheVariants.{Id}
 use Rattle.wit_types.specs.declared.kind.TypeDefKind.{TypeDefKind}
 use Rattle.wit_types.specs.declared.kind.TypeDefKind.TheVariants as kind
 use Rattle.wit_types.specs.declared.interface.TypeDef.{TypeDef}
 use Rattle.wit_types.specs.declared.interface.TypeOwner.{TypeOwner}
-use Rattle.wit_items.specs.ItemTree.{TypeDefKindTree}
-use Rattle.wit_scopes.specs.Paths.{TargetTree}
-use Rattle.wit_scopes.specs.Members.{MemberKind, MemberTree, used, defined, function, method, static, constructor}
-use Rattle.wit_type_names.specs.TypeNames.{definition_parts, names_in_parts}
+use Rattle.wit_rules.specs.Passed.wit_items-ItemTree.{TypeDefKindTree}
+use Rattle.wit_rules.specs.Passed.wit_scopes-Paths.{TargetTree}
+use Rattle.wit_rules.specs.Passed.wit_scopes-Members.{MemberKind, MemberTree, used, defined, function, method, static, constructor}
+use Rattle.wit_arena.specs.Passed.wit_type_names-TypeNames.{definition_parts, names_in_parts}
 use Rattle.wit_arena.specs.Tree.{Name}
 use Rattle.wit_arena.specs.Table.{Entries}
 use Rattle.wit_arena.specs.Meaning.{Has}

@@ -1,7 +1,7 @@
 -- Types of other packages, by the texts of their names.
 use Rattle.std.specs.Prelude.{ℕ, List, map, option_map}
-use Rattle.wit_words.specs.Slice.{Slice}
-use Rattle.wit_syntax.specs.Ast.{PackageNameTree}
+use Rattle.wit_types.specs.Passed.wit_words-Slice.{Slice}
+use Rattle.wit_rules.specs.Passed.wit_syntax-Ast.{PackageNameTree}
 use Rattle.wit_arena.specs.Tree.{Name, in_interface, Owner}
 use Rattle.wit_arena.specs.Meaning.{package_text}
 use Rattle.wit_package_types.specs.declared.foreign.TypePath.{TypePath}

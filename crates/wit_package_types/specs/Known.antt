@@ -1,8 +1,8 @@
 -- What `use` finds.
 use Rattle.std.specs.Prelude.{◌≡◌, ℕ, List, [], ◌∷◌, ◌++◌, Some, slice_get}
 use Rattle.name_places.specs.FirstPlaces.{place_of}
-use Rattle.wit_words.specs.Slice.{Slice}
-use Rattle.wit_scopes.specs.Paths.{TargetTree, own, foreign}
+use Rattle.wit_types.specs.Passed.wit_words-Slice.{Slice}
+use Rattle.wit_rules.specs.Passed.wit_scopes-Paths.{TargetTree, own, foreign}
 use Rattle.wit_arena.specs.Tree.{Name}
 use Rattle.wit_arena.specs.Table.{Entries}
 use Rattle.wit_arena.specs.Meaning.{Has}

@@ -3,3 +3,4 @@ pub mod Foreign
 pub mod Known
 pub mod Fill
 pub mod Standing
+pub mod Passed

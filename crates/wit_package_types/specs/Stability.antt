@@ -4,8 +4,8 @@ use Rattle.std.specs.declared.alloc.Global.{Global}
 use Rattle.semver.specs.declared.Version.{Version}
 use Rattle.semver.specs.Parse.{version_parts}
 use Rattle.semver.specs.Identifiers.{parts_of}
-use Rattle.wit_words.specs.Slice.{Slice}
-use Rattle.wit_items.specs.ItemTree.{AttributeTree}
+use Rattle.wit_types.specs.Passed.wit_words-Slice.{Slice}
+use Rattle.wit_rules.specs.Passed.wit_items-ItemTree.{AttributeTree}
 use Rattle.wit_types.specs.declared.stability.Stability.{Stability}
 use Rattle.wit_types.specs.declared.stability.Stability.TheVariants.{Unknown, Unstable, Stable}
 use Rattle.wit_rules.specs.Gates.{GatesTree, ungated, of_feature, from_version, gates_in}

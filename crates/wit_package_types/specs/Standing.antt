@@ -2,8 +2,8 @@
 use Rattle.std.specs.Prelude.{◌≡◌, ℕ, List, Some, length}
 use Rattle.wit_types.specs.declared.interface.TypeDef.{TypeDef}
 use Rattle.wit_types.specs.declared.interface.TypeOwner.{TypeOwner}
-use Rattle.wit_scopes.specs.Members.{MemberTree}
-use Rattle.wit_scopes.specs.Scopes.{ItemScope}
+use Rattle.wit_rules.specs.Passed.wit_scopes-Members.{MemberTree}
+use Rattle.wit_rules.specs.Passed.wit_scopes-Scopes.{ItemScope}
 use Rattle.wit_arena.specs.Tree.{Name, PackageText, Place, in_interface, Owner, Tree}
 use Rattle.wit_arena.specs.Table.{Entries}
 use Rattle.wit_arena.specs.Meaning.{Has, Declares}

@@ -1,7 +1,7 @@
 //! The types of a scope.
 
 ghost use Rattle.std.specs.Prelude.{◌≡◌, map, IfOk};
-ghost use Rattle.wit_scopes.specs.View as scope_view;
+ghost use Rattle.wit_rules.specs.Passed.wit_scopes-View as scope_view;
 ghost use Rattle.wit_package_types.specs.Stability.{AreGates};
 ghost use Rattle.wit_package_types.specs.Fill as spec;
 
@@ -9,7 +9,7 @@ use crate::known::Known;
 use crate::stability::stability_in;
 use std::alloc::AllocError;
 use wit_arena::{Table, Types, docs_of, lower_kind};
-use wit_scopes::{Member, MemberKind};
+use wit_rules::{Member, MemberKind};
 use wit_types::{Type, TypeDef, TypeDefKind, TypeId, TypeOwner};
 
 /// What a type of a scope is in the arena, behind the types that stand in it.

@@ -1,14 +1,14 @@
 //! Types of other packages.
 
 ghost use Rattle.std.specs.Prelude.{◌≡◌, ℕ, ◌∷◌, ◌++◌, [], OnErr, OnOk, IfSome, IfNone};
-ghost use Rattle.wit_syntax.specs.AstView as view;
+ghost use Rattle.wit_rules.specs.Passed.wit_syntax-AstView as view;
 ghost use Rattle.wit_arena.specs.Meaning.{Has};
 ghost use Rattle.wit_package_types.specs.Foreign.{foreign_name, path_name};
 
 use indexmap::IndexMap;
 use std::alloc::{AllocError, Global};
 use std::marker::Model;
-use wit_syntax::{Id, PackageName};
+use wit_rules::{Id, PackageName};
 use wit_types::TypeId;
 
 /// A type of an interface of another package, by its texts. `==` compares these.

@@ -2,8 +2,8 @@
 
 ghost use Rattle.std.specs.Prelude.{◌≡◌, ℕ, [], IfOk, OnErr, OnOk, IfSome, IfNone};
 ghost use Rattle.name_places.specs.FirstPlaces.{place_of};
-ghost use Rattle.wit_syntax.specs.AstView as view;
-ghost use Rattle.wit_scopes.specs.View as scope_view;
+ghost use Rattle.wit_rules.specs.Passed.wit_syntax-AstView as view;
+ghost use Rattle.wit_rules.specs.Passed.wit_scopes-View as scope_view;
 ghost use Rattle.wit_package_types.specs.Known.{KnownTypes, with_interface, FindsOwn, Finds};
 
 use crate::foreign::{ForeignTypes, TypePath};
@@ -11,8 +11,7 @@ use name_places::FirstPlaces;
 use std::alloc::{AllocError, Global};
 use std::marker::Model;
 use wit_arena::Table;
-use wit_scopes::Target;
-use wit_syntax::Id;
+use wit_rules::{Id, Target};
 use wit_types::TypeId;
 
 /// The types that `use` finds: those of the interfaces of the package that are filled, and those of other packages.

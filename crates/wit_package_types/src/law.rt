@@ -1,8 +1,8 @@
 //! Laws of the types of a package.
 
 ghost use Rattle.std.specs.Prelude.{List};
-ghost use Rattle.wit_scopes.specs.Scopes.{ItemScope};
-ghost use Rattle.wit_items.specs.ItemTree.{AttributeTree};
+ghost use Rattle.wit_rules.specs.Passed.wit_scopes-Scopes.{ItemScope};
+ghost use Rattle.wit_rules.specs.Passed.wit_items-ItemTree.{AttributeTree};
 ghost use Rattle.wit_rules.specs.Breaks.{IsKept, GatesBreak};
 ghost use Rattle.wit_package_types.specs.Stability.{AreGates};
 ghost use Rattle.wit_rules.specs.Facts.{ScopesBreak};

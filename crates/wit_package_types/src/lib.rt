@@ -15,3 +15,5 @@ pub use law::{
     law_kept_attributes_are_gates,
 };
 pub use stability::{optional_version, stability_in};
+pub use wit_arena::{Table, Types, docs_of, lower_borrow, lower_own, lower_params, lower_result};
+pub use wit_rules::{Func, Id, Member, MemberKind, Param, Span, Type};

@@ -1,19 +1,17 @@
 //! How stable items are, by the gates in front of them.
 
 ghost use Rattle.std.specs.Prelude.{◌≡◌, map, Option, option_map, IfOk};
-ghost use Rattle.wit_syntax.specs.AstView as view;
+ghost use Rattle.wit_rules.specs.Passed.wit_syntax-AstView as view;
 ghost use Rattle.wit_rules.specs.View as rule_view;
 ghost use Rattle.wit_package_types.specs.Stability as spec;
 
 use semver::Version;
 use std::alloc::{AllocError, Global};
-use wit_rules::{Gates, gates_of};
-use wit_scopes::Front;
-use wit_syntax::Attribute;
+use wit_rules::{Attribute, Front, Gates, gates_of};
 use wit_types::Stability;
 
 /// The version that `semver` reads.
-fn version_of(alloc: Global, version: &wit_syntax::Version<'_>) -> Result<Version, AllocError>
+fn version_of(alloc: Global, version: &wit_rules::Version<'_>) -> Result<Version, AllocError>
     requires { spec.IsRead (view.version version.now) }
     ensures { IfOk result (spec.IsVersionOf (view.version version.now)) }
 {
@@ -32,7 +30,7 @@ fn version_of(alloc: Global, version: &wit_syntax::Version<'_>) -> Result<Versio
 /// The version that `semver` reads, if there is one.
 pub fn optional_version(
     alloc: Global,
-    version: &Option<wit_syntax::Version<'_>>,
+    version: &Option<wit_rules::Version<'_>>,
 ) -> Result<Option<Version>, AllocError>
     requires { spec.IsReadWhere (option_map view.version version.now) }
     ensures { IfOk result (spec.IsVersionWhere (option_map view.version version.now)) }

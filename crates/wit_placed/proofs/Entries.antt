@@ -3,8 +3,8 @@ use Rattle.std.proofs.Common.{◌≡◌, ℕ, zero, suc, Bool, true, List, ◌�
 use Rattle.std.proofs.lemmas.Option.{same_Some}
 use Rattle.std.specs.Prelude.{slice_get, string_bytes}
 use Rattle.std.specs.declared.alloc.Global.{Global}
-use Rattle.wit_order.specs.Order.{Has}
-use Rattle.wit_moves.specs.Interfaces.{AreKept, no_entries, one_goes, one_stays}
+use Rattle.wit_plans.specs.Passed.wit_order-Order.{Has}
+use Rattle.wit_moved_trees.specs.Passed.wit_moves-Interfaces.{AreKept, no_entries, one_goes, one_stays}
 use Rattle.wit_placed.specs.Naming.{AreNamesApart}
 use Rattle.wit_placed.proofs.Members.{has_at, has_get}
 

@@ -4,25 +4,25 @@ use Rattle.std.proofs.lemmas.Option.{same_Some}
 use Rattle.std.specs.Map.{lookup}
 use Rattle.std.specs.Prelude.{slice_get, flat_map, option_map, string_bytes, bytes_eq, if◌then◌else◌}
 use Rattle.std.specs.declared.alloc.Global.{Global}
-use Rattle.wit_order.specs.Order.{Has}
-use Rattle.wit_types.specs.declared.interface.Interface.{Interface}
-use Rattle.wit_types.specs.declared.interface.TypeDef.{TypeDef}
-use Rattle.wit_types.specs.declared.interface.TypeOwner.{TypeOwner}
-use Rattle.wit_types.specs.declared.interface.TypeOwner.TheVariants as belongs
-use Rattle.wit_types.specs.declared.«package».AstItem.{AstItem}
-use Rattle.wit_types.specs.declared.«package».AstItem.TheVariants as asked
-use Rattle.wit_types.specs.declared.«package».Package.{Package}
-use Rattle.wit_types.specs.declared.«package».PackageName.{PackageName}
-use Rattle.wit_types.specs.declared.«package».UnresolvedPackage.{UnresolvedPackage}
-use Rattle.wit_features.specs.Features.{FeatureSet}
-use Rattle.wit_moves.specs.Moved.{Places, place_of}
-use Rattle.wit_finding.specs.Asks.{Ask, ItemEntry, asks_at, asks_in, is_kept, item_in, finds, pair_of, found_by, items_of, interface_in, world_in}
-use Rattle.wit_finding.specs.Foreign.{AreForeignPlaces}
-use Rattle.wit_finding.specs.Places.{interface_pair, world_pair}
-use Rattle.wit_finding.specs.Types.{type_in, interface_at, interface_of, type_found}
-use Rattle.wit_reach.proofs.Holding.{mapped_has}
+use Rattle.wit_plans.specs.Passed.wit_order-Order.{Has}
+use Rattle.wit_plans.specs.Passed.wit_types-declared-interface-Interface.{Interface}
+use Rattle.wit_plans.specs.Passed.wit_types-declared-interface-TypeDef.{TypeDef}
+use Rattle.wit_plans.specs.Passed.wit_types-declared-interface-TypeOwner.{TypeOwner}
+use Rattle.wit_plans.specs.Passed.wit_types-declared-interface-TypeOwner-TheVariants as belongs
+use Rattle.wit_plans.specs.Passed.wit_types-declared-package-AstItem.{AstItem}
+use Rattle.wit_plans.specs.Passed.wit_types-declared-package-AstItem-TheVariants as asked
+use Rattle.wit_plans.specs.Passed.wit_types-declared-package-Package.{Package}
+use Rattle.wit_plans.specs.Passed.wit_types-declared-package-PackageName.{PackageName}
+use Rattle.wit_plans.specs.Passed.wit_types-declared-package-UnresolvedPackage.{UnresolvedPackage}
+use Rattle.wit_plans.specs.Passed.wit_features-Features.{FeatureSet}
+use Rattle.wit_moved_trees.specs.Passed.wit_moves-Moved.{Places, place_of}
+use Rattle.wit_plans.specs.Passed.wit_finding-Asks.{Ask, ItemEntry, asks_at, asks_in, is_kept, item_in, finds, pair_of, found_by, items_of, interface_in, world_in}
+use Rattle.wit_plans.specs.Passed.wit_finding-Foreign.{AreForeignPlaces}
+use Rattle.wit_plans.specs.Passed.wit_finding-Places.{interface_pair, world_pair}
+use Rattle.wit_plans.specs.Passed.wit_finding-Types.{type_in, interface_at, interface_of, type_found}
+use Rattle.wit_moved_trees.proofs.Passed.wit_reach-Holding.{mapped_has}
 use Rattle.wit_placed.proofs.Members.{has_get}
-use Rattle.wit_reach.specs.Types.{AreTypesThere}
+use Rattle.wit_moved_trees.specs.Passed.wit_reach-Types.{AreTypesThere}
 use Rattle.wit_placed.specs.There.{AreBelow}
 use Rattle.wit_placed.specs.Found.{FoundAreThere, FoundTypesAreThere}
 

@@ -4,28 +4,28 @@ use Rattle.std.proofs.lemmas.Bool.{and_parts}
 use Rattle.std.proofs.lemmas.Option.{same_Some, slice_get_within}
 use Rattle.std.specs.Prelude.{slice_get, unwrap_or, bytes_eq, string_bytes}
 use Rattle.std.specs.declared.alloc.Global.{Global}
-use Rattle.wit_order.specs.Order.{Has}
-use Rattle.wit_types.specs.declared.function.Function.{Function}
-use Rattle.wit_types.specs.declared.interface.Interface.{Interface}
-use Rattle.wit_types.specs.declared.interface.TypeDef.{TypeDef}
-use Rattle.wit_types.specs.declared.interface.TypeOwner.{TypeOwner}
-use Rattle.wit_types.specs.declared.interface.TypeOwner.TheVariants as belongs
-use Rattle.wit_features.specs.Features.{FeatureSet, stays as gate_stays}
-use Rattle.wit_moves.specs.Breaks.{AnyOf, IsKept}
-use Rattle.wit_moves.specs.Moved.{Places, place_of, is_placed, to, resource_of, is_resource_placed, IsMovedFunction}
-use Rattle.wit_moves.specs.Interfaces.{AreMovedNames, AreMovedFunctions, function_stays, FunctionsBreak}
-use Rattle.wit_moves.specs.Plan.{OwnerPlaces, is_owner_placed, moved_owner}
-use Rattle.wit_finding.specs.Types.{type_in, interface_at, interface_of, type_found}
+use Rattle.wit_plans.specs.Passed.wit_order-Order.{Has}
+use Rattle.wit_plans.specs.Passed.wit_types-declared-function-Function.{Function}
+use Rattle.wit_plans.specs.Passed.wit_types-declared-interface-Interface.{Interface}
+use Rattle.wit_plans.specs.Passed.wit_types-declared-interface-TypeDef.{TypeDef}
+use Rattle.wit_plans.specs.Passed.wit_types-declared-interface-TypeOwner.{TypeOwner}
+use Rattle.wit_plans.specs.Passed.wit_types-declared-interface-TypeOwner-TheVariants as belongs
+use Rattle.wit_plans.specs.Passed.wit_features-Features.{FeatureSet, stays as gate_stays}
+use Rattle.wit_moved_trees.specs.Passed.wit_moves-Breaks.{AnyOf, IsKept}
+use Rattle.wit_moved_trees.specs.Passed.wit_moves-Moved.{Places, place_of, is_placed, to, resource_of, is_resource_placed, IsMovedFunction}
+use Rattle.wit_moved_trees.specs.Passed.wit_moves-Interfaces.{AreMovedNames, AreMovedFunctions, function_stays, FunctionsBreak}
+use Rattle.wit_moved_trees.specs.Passed.wit_moves-Plan.{OwnerPlaces, is_owner_placed, moved_owner}
+use Rattle.wit_plans.specs.Passed.wit_finding-Types.{type_in, interface_at, interface_of, type_found}
 use Rattle.wit_plans.specs.Checks.{Standing, InterfaceBreaks}
-use Rattle.wit_reach.specs.Holding.{IsUpTo, IsMadeUpTo, listed_types, functions_ids, AreNamedOwned, IsTypeUnder, HoldTheirTypes}
-use Rattle.wit_reach.specs.Ids.{kind_ids, function_ids}
-use Rattle.wit_reach.specs.Types.{IsMadeOf, AreTypesBackward}
-use Rattle.wit_reach.proofs.Ends.{closed_ends}
-use Rattle.wit_reach.proofs.Growing.{get_same}
-use Rattle.wit_reach.proofs.Holding.{mapped_has, has_flat, flat_has, made_from, held_more, held_append}
+use Rattle.wit_moved_trees.specs.Passed.wit_reach-Holding.{IsUpTo, IsMadeUpTo, listed_types, functions_ids, AreNamedOwned, IsTypeUnder, HoldTheirTypes}
+use Rattle.wit_moved_trees.specs.Passed.wit_reach-Ids.{kind_ids, function_ids}
+use Rattle.wit_moved_trees.specs.Passed.wit_reach-Types.{IsMadeOf, AreTypesBackward}
+use Rattle.wit_moved_trees.proofs.Passed.wit_reach-Ends.{closed_ends}
+use Rattle.wit_moved_trees.proofs.Passed.wit_reach-Growing.{get_same}
+use Rattle.wit_moved_trees.proofs.Passed.wit_reach-Holding.{mapped_has, has_flat, flat_has, made_from, held_more, held_append}
 use Rattle.wit_moved_trees.proofs.Moving.{placed_some}
 use Rattle.wit_moved_trees.proofs.Parts.{kind_from, function_from, function_placed}
-use Rattle.wit_arena.proofs.Lists.{get_kept}
+use Rattle.wit_moved_trees.proofs.Passed.wit_arena-Lists.{get_kept}
 use Rattle.wit_placed.specs.There.{IsInterfaceThere}
 use Rattle.wit_placed.specs.Order.{AreBehind, MovedInterfacesHoldTheirTypes, interface_places}
 use Rattle.wit_placed.proofs.Entries.{entry_was}

@@ -10,3 +10,4 @@ pub mod Finding
 mod Listing
 mod Names
 mod Nameless
+pub mod Passed

@@ -3,19 +3,19 @@ use Rattle.std.proofs.Common.{◌≡◌, ℕ, zero, suc, ◌+◌, ◌<◌, ◌�
 use Rattle.std.proofs.lemmas.Bool.{cases_lt}
 use Rattle.std.specs.Prelude.{slice_get, unwrap_or, is_some}
 use Rattle.std.specs.declared.alloc.Global.{Global}
-use Rattle.wit_order.specs.Order.{Has}
-use Rattle.wit_types.specs.declared.interface.Interface.{Interface}
-use Rattle.wit_types.specs.declared.interface.TypeDef.{TypeDef}
-use Rattle.wit_types.specs.declared.interface.TypeOwner.TheVariants as belongs
-use Rattle.wit_features.specs.Features.{FeatureSet}
-use Rattle.wit_moves.specs.Moved.{Places, place_of, is_placed, to}
-use Rattle.wit_moves.specs.Interfaces.{AreMovedNames}
-use Rattle.wit_moves.specs.Plan.{OwnerPlaces}
+use Rattle.wit_plans.specs.Passed.wit_order-Order.{Has}
+use Rattle.wit_plans.specs.Passed.wit_types-declared-interface-Interface.{Interface}
+use Rattle.wit_plans.specs.Passed.wit_types-declared-interface-TypeDef.{TypeDef}
+use Rattle.wit_plans.specs.Passed.wit_types-declared-interface-TypeOwner-TheVariants as belongs
+use Rattle.wit_plans.specs.Passed.wit_features-Features.{FeatureSet}
+use Rattle.wit_moved_trees.specs.Passed.wit_moves-Moved.{Places, place_of, is_placed, to}
+use Rattle.wit_moved_trees.specs.Passed.wit_moves-Interfaces.{AreMovedNames}
+use Rattle.wit_moved_trees.specs.Passed.wit_moves-Plan.{OwnerPlaces}
 use Rattle.wit_plans.specs.Checks.{Standing}
-use Rattle.wit_reach.specs.Deps.{interface_of}
-use Rattle.wit_reach.specs.Holding.{listed_types, AreListed}
-use Rattle.wit_reach.proofs.Growing.{get_same}
-use Rattle.wit_reach.proofs.Holding.{has_mapped, mapped_has}
+use Rattle.wit_moved_trees.specs.Passed.wit_reach-Deps.{interface_of}
+use Rattle.wit_moved_trees.specs.Passed.wit_reach-Holding.{listed_types, AreListed}
+use Rattle.wit_moved_trees.proofs.Passed.wit_reach-Growing.{get_same}
+use Rattle.wit_moved_trees.proofs.Passed.wit_reach-Holding.{has_mapped, mapped_has}
 use Rattle.wit_placed.specs.Order.{AreBehind, interface_places}
 use Rattle.wit_placed.specs.Listed.{AreOwnersBehind, MovedTypesAreListed}
 use Rattle.wit_placed.proofs.Entries.{entry_stays}

@@ -1,11 +1,11 @@
 -- Types without names belong nowhere still, where they stand in a graph.
 use Rattle.std.proofs.Common.{◌≡◌, ℕ, zero, suc, List, [], ◌∷◌, ◌++◌, inl, inr, None, sym, subst, ap, ◌∙◌, length}
 use Rattle.std.specs.Prelude.{slice_get}
-use Rattle.wit_types.specs.declared.interface.TypeDef.{TypeDef}
-use Rattle.wit_types.specs.declared.interface.TypeOwner.TheVariants as belongs
-use Rattle.wit_moves.specs.Moved.{Places}
-use Rattle.wit_moves.specs.Plan.{OwnerPlaces, moved_owner, AreMovedDefs, no_defs, left_out, moved as moved_def}
-use Rattle.wit_arena.proofs.Lists.{get_kept, get_last, get_more}
+use Rattle.wit_plans.specs.Passed.wit_types-declared-interface-TypeDef.{TypeDef}
+use Rattle.wit_plans.specs.Passed.wit_types-declared-interface-TypeOwner-TheVariants as belongs
+use Rattle.wit_moved_trees.specs.Passed.wit_moves-Moved.{Places}
+use Rattle.wit_moved_trees.specs.Passed.wit_moves-Plan.{OwnerPlaces, moved_owner, AreMovedDefs, no_defs, left_out, moved as moved_def}
+use Rattle.wit_moved_trees.proofs.Passed.wit_arena-Lists.{get_kept, get_last, get_more}
 use Rattle.wit_placed.specs.Order.{AreNamelessFree, MovedNamelessAreFree}
 
 moved_free : (owners : OwnerPlaces) (places : Places) (first : ℕ) (own moved : List TypeDef) → AreMovedDefs owners places first own moved → AreNamelessFree own → AreNamelessFree moved

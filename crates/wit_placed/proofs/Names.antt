@@ -1,10 +1,10 @@
 -- Names within an interface of which only some entries stay.
 use Rattle.std.proofs.Common.{◌≡◌, ℕ, inl, inr, refl, sym, subst, ap, ◌∙◌}
 use Rattle.std.specs.Prelude.{string_bytes}
-use Rattle.wit_types.specs.declared.interface.Interface.{Interface}
-use Rattle.wit_features.specs.Features.{FeatureSet}
-use Rattle.wit_moves.specs.Moved.{Places, is_placed, to, IsMovedFunction}
-use Rattle.wit_moves.specs.Interfaces.{function_stays, IsMovedInterface}
+use Rattle.wit_plans.specs.Passed.wit_types-declared-interface-Interface.{Interface}
+use Rattle.wit_plans.specs.Passed.wit_features-Features.{FeatureSet}
+use Rattle.wit_moved_trees.specs.Passed.wit_moves-Moved.{Places, is_placed, to, IsMovedFunction}
+use Rattle.wit_moved_trees.specs.Passed.wit_moves-Interfaces.{function_stays, IsMovedInterface}
 use Rattle.wit_plans.specs.Moves.{no_interfaces, interface_goes, interface_stays}
 use Rattle.wit_placed.specs.Naming.{HasNamesApart, MovedInterfacesHaveNamesApart}
 use Rattle.wit_placed.proofs.Entries.{entry_was, kept_apart}

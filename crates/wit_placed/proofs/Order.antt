@@ -1,9 +1,9 @@
 -- Types that belong to interfaces that are there.
 use Rattle.std.proofs.Common.{◌≡◌, ℕ, zero, suc, ◌+◌, ◌<◌, List, [], ◌∷◌, ◌++◌, ◌⊎◌, inl, inr, Some, sym, subst, ap, ◌∙◌, arith, length}
 use Rattle.std.specs.Prelude.{slice_get}
-use Rattle.wit_types.specs.declared.interface.TypeDef.{TypeDef}
-use Rattle.wit_moves.specs.Moved.{Places, place_of}
-use Rattle.wit_reach.specs.Deps.{interface_of}
+use Rattle.wit_plans.specs.Passed.wit_types-declared-interface-TypeDef.{TypeDef}
+use Rattle.wit_moved_trees.specs.Passed.wit_moves-Moved.{Places, place_of}
+use Rattle.wit_moved_trees.specs.Passed.wit_reach-Deps.{interface_of}
 use Rattle.wit_placed.specs.Order.{MovedTypesBelong}
 use Rattle.wit_placed.proofs.Own.{interfaces_take_places}
 use Rattle.wit_placed.proofs.Sources.{all_sources, owner_stands}

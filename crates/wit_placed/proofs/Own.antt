@@ -2,17 +2,17 @@
 use Rattle.std.proofs.Common.{◌≡◌, ℕ, ◌+◌, ◌<◌, ◌≤◌, zero, suc, Bool, true, false, List, [], ◌∷◌, ◌++◌, inl, inr, Some, None, refl, sym, subst, ap, ◌∙◌, arith, length, length-append, map}
 use Rattle.std.proofs.lemmas.Option.{same_Some}
 use Rattle.std.specs.Prelude.{slice_get}
-use Rattle.wit_types.specs.declared.interface.Interface.{Interface}
-use Rattle.wit_types.specs.declared.stability.Stability.{Stability}
-use Rattle.wit_types.specs.declared.world.World.{World}
-use Rattle.wit_features.specs.Features.{FeatureSet, stays}
-use Rattle.wit_moves.specs.Moved.{Places, place_of}
-use Rattle.wit_moves.specs.Plan.{Plan, with_place}
-use Rattle.wit_finding.specs.Own.{with_own, placed}
+use Rattle.wit_plans.specs.Passed.wit_types-declared-interface-Interface.{Interface}
+use Rattle.wit_plans.specs.Passed.wit_types-declared-stability-Stability.{Stability}
+use Rattle.wit_plans.specs.Passed.wit_types-declared-world-World.{World}
+use Rattle.wit_plans.specs.Passed.wit_features-Features.{FeatureSet, stays}
+use Rattle.wit_moved_trees.specs.Passed.wit_moves-Moved.{Places, place_of}
+use Rattle.wit_moved_trees.specs.Passed.wit_moves-Plan.{Plan, with_place}
+use Rattle.wit_plans.specs.Passed.wit_finding-Own.{with_own, placed}
 use Rattle.wit_plans.specs.Checks.{Standing}
 use Rattle.wit_plans.specs.Moves.{AreMovedInterfaces, no_interfaces, interface_goes, interface_stays, IsMovedWorld, AreMovedWorlds, no_worlds, world_goes, world_stays}
 use Rattle.wit_plans.specs.declared.moves.MovedWorld.{MovedWorld}
-use Rattle.wit_moves.specs.Interfaces.{IsMovedInterface}
+use Rattle.wit_moved_trees.specs.Passed.wit_moves-Interfaces.{IsMovedInterface}
 use Rattle.wit_moved_trees.proofs.Moving.{place_more, place_kept}
 use Rattle.wit_placed.specs.There.{AreBelow}
 use Rattle.wit_placed.specs.Order.{interface_places, InterfacesTakePlaces}

@@ -3,22 +3,22 @@ use Rattle.std.proofs.Common.{◌≡◌, ℕ, ◌<◌, Bool, true, false, List, 
 use Rattle.std.proofs.lemmas.Bool.{and_parts}
 use Rattle.std.specs.Prelude.{unwrap_or}
 use Rattle.std.specs.declared.alloc.Global.{Global}
-use Rattle.wit_order.specs.Order.{Has}
-use Rattle.wit_types.specs.declared.interface.TypeDef.{TypeDef}
-use Rattle.wit_types.specs.declared.function.Function.{Function}
-use Rattle.wit_types.specs.declared.world.WorldItem.{WorldItem}
-use Rattle.wit_types.specs.declared.world_key.WorldKey.{WorldKey}
-use Rattle.wit_types.specs.declared.world_key.WorldKey.TheVariants as key
-use Rattle.wit_types.specs.World.{span_of}
-use Rattle.wit_features.specs.Features.{FeatureSet, stays as gate_stays}
-use Rattle.wit_moves.specs.Breaks.{IsKept}
-use Rattle.wit_moves.specs.Moved.{Places, place_of, is_placed, to, resource_of, is_resource_placed, is_signature_placed, IsMovedFunction}
-use Rattle.wit_moves.specs.Interfaces.{no_entries, one_goes, one_stays, AreMovedNames, AreMovedFunctions, function_stays, FunctionsBreak}
-use Rattle.wit_moves.specs.Worlds.{item_stays, is_item_placed, IsMovedItem, moved_interface, moved_function, moved_type, moved_entry, AreMovedItems, IsMovedSide, SideBreaks}
-use Rattle.wit_reach.specs.Ids.{function_ids, item_ids, side_ids}
-use Rattle.wit_reach.specs.Types.{AreTypesThere}
-use Rattle.wit_reach.specs.Lists.{item_interface, interfaces_of}
-use Rattle.wit_reach.proofs.Lists.{has_parts}
+use Rattle.wit_plans.specs.Passed.wit_order-Order.{Has}
+use Rattle.wit_plans.specs.Passed.wit_types-declared-interface-TypeDef.{TypeDef}
+use Rattle.wit_plans.specs.Passed.wit_types-declared-function-Function.{Function}
+use Rattle.wit_plans.specs.Passed.wit_types-declared-world-WorldItem.{WorldItem}
+use Rattle.wit_plans.specs.Passed.wit_types-declared-world_key-WorldKey.{WorldKey}
+use Rattle.wit_plans.specs.Passed.wit_types-declared-world_key-WorldKey-TheVariants as key
+use Rattle.wit_plans.specs.Passed.wit_types-World.{span_of}
+use Rattle.wit_plans.specs.Passed.wit_features-Features.{FeatureSet, stays as gate_stays}
+use Rattle.wit_moved_trees.specs.Passed.wit_moves-Breaks.{IsKept}
+use Rattle.wit_moved_trees.specs.Passed.wit_moves-Moved.{Places, place_of, is_placed, to, resource_of, is_resource_placed, is_signature_placed, IsMovedFunction}
+use Rattle.wit_moved_trees.specs.Passed.wit_moves-Interfaces.{no_entries, one_goes, one_stays, AreMovedNames, AreMovedFunctions, function_stays, FunctionsBreak}
+use Rattle.wit_moved_trees.specs.Passed.wit_moves-Worlds.{item_stays, is_item_placed, IsMovedItem, moved_interface, moved_function, moved_type, moved_entry, AreMovedItems, IsMovedSide, SideBreaks}
+use Rattle.wit_moved_trees.specs.Passed.wit_reach-Ids.{function_ids, item_ids, side_ids}
+use Rattle.wit_moved_trees.specs.Passed.wit_reach-Types.{AreTypesThere}
+use Rattle.wit_moved_trees.specs.Passed.wit_reach-Lists.{item_interface, interfaces_of}
+use Rattle.wit_moved_trees.proofs.Passed.wit_reach-Lists.{has_parts}
 use Rattle.wit_elaborated.specs.Worlds.{IsKeyOfItem, AreKeysOfItems}
 use Rattle.wit_moved_trees.proofs.Moving.{either, placed_some}
 use Rattle.wit_moved_trees.proofs.Parts.{function_from, function_placed}

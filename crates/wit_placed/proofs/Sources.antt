@@ -5,16 +5,16 @@ use Rattle.std.proofs.lemmas.List.{append-nil}
 use Rattle.std.proofs.lemmas.Option.{same_Some}
 use Rattle.std.specs.Prelude.{slice_get, is_some}
 use Rattle.std.specs.declared.alloc.Global.{Global}
-use Rattle.wit_types.specs.declared.interface.TypeDef.{TypeDef}
-use Rattle.wit_types.specs.declared.interface.TypeOwner.{TypeOwner}
-use Rattle.wit_types.specs.declared.interface.TypeOwner.TheVariants as belongs
-use Rattle.wit_features.specs.Features.{FeatureSet, stays as gate_stays}
-use Rattle.wit_moves.specs.Moved.{Places, place_of, flat, is_placed, is_kind_placed, to, IsMovedDef}
-use Rattle.wit_moves.specs.Plan.{OwnerPlaces, is_owner_placed, moved_owner, named_stays, type_stays, Plan, with_place, with_types, AreTypesPlaced, AreMovedDefs, no_defs, left_out, moved as moved_def}
-use Rattle.wit_reach.specs.Deps.{interface_of}
-use Rattle.wit_reach.specs.Ids.{kind_ids}
+use Rattle.wit_plans.specs.Passed.wit_types-declared-interface-TypeDef.{TypeDef}
+use Rattle.wit_plans.specs.Passed.wit_types-declared-interface-TypeOwner.{TypeOwner}
+use Rattle.wit_plans.specs.Passed.wit_types-declared-interface-TypeOwner-TheVariants as belongs
+use Rattle.wit_plans.specs.Passed.wit_features-Features.{FeatureSet, stays as gate_stays}
+use Rattle.wit_moved_trees.specs.Passed.wit_moves-Moved.{Places, place_of, flat, is_placed, is_kind_placed, to, IsMovedDef}
+use Rattle.wit_moved_trees.specs.Passed.wit_moves-Plan.{OwnerPlaces, is_owner_placed, moved_owner, named_stays, type_stays, Plan, with_place, with_types, AreTypesPlaced, AreMovedDefs, no_defs, left_out, moved as moved_def}
+use Rattle.wit_moved_trees.specs.Passed.wit_reach-Deps.{interface_of}
+use Rattle.wit_moved_trees.specs.Passed.wit_reach-Ids.{kind_ids}
 use Rattle.wit_moved_trees.proofs.Parts.{ArePlaced, kind_placed}
-use Rattle.wit_arena.proofs.Lists.{get_kept, get_last, get_more}
+use Rattle.wit_moved_trees.proofs.Passed.wit_arena-Lists.{get_kept, get_last, get_more}
 use Rattle.wit_moved_trees.proofs.Moving.{either, placed_some, place_kept, place_more, plan_grows, plan_append, plan_length, take_front, get_here}
 use Rattle.wit_moved_trees.proofs.Earlier.{placed_where_stays}
 use Rattle.wit_placed.specs.Order.{AreNamelessFree}

@@ -1,17 +1,17 @@
 -- What a package asks of others is found among what is there (WIT, Use, Packages).
 use Rattle.std.specs.Prelude.{ℕ, ◌<◌, Bool, List, String, length, map}
 use Rattle.std.specs.declared.alloc.Global.{Global}
-use Rattle.wit_order.specs.Order.{Has}
-use Rattle.wit_types.specs.declared.interface.Interface.{Interface}
-use Rattle.wit_types.specs.declared.interface.TypeDef.{TypeDef}
-use Rattle.wit_types.specs.declared.«package».Package.{Package}
-use Rattle.wit_types.specs.declared.«package».PackageName.{PackageName}
-use Rattle.wit_types.specs.declared.«package».UnresolvedPackage.{UnresolvedPackage}
-use Rattle.wit_features.specs.Features.{FeatureSet}
-use Rattle.wit_moves.specs.Moved.{Places}
-use Rattle.wit_finding.specs.Foreign.{AreForeignPlaces}
-use Rattle.wit_finding.specs.Types.{type_found}
-use Rattle.wit_reach.specs.Types.{AreTypesThere}
+use Rattle.wit_plans.specs.Passed.wit_order-Order.{Has}
+use Rattle.wit_plans.specs.Passed.wit_types-declared-interface-Interface.{Interface}
+use Rattle.wit_plans.specs.Passed.wit_types-declared-interface-TypeDef.{TypeDef}
+use Rattle.wit_plans.specs.Passed.wit_types-declared-package-Package.{Package}
+use Rattle.wit_plans.specs.Passed.wit_types-declared-package-PackageName.{PackageName}
+use Rattle.wit_plans.specs.Passed.wit_types-declared-package-UnresolvedPackage.{UnresolvedPackage}
+use Rattle.wit_plans.specs.Passed.wit_features-Features.{FeatureSet}
+use Rattle.wit_moved_trees.specs.Passed.wit_moves-Moved.{Places}
+use Rattle.wit_plans.specs.Passed.wit_finding-Foreign.{AreForeignPlaces}
+use Rattle.wit_plans.specs.Passed.wit_finding-Types.{type_found}
+use Rattle.wit_moved_trees.specs.Passed.wit_reach-Types.{AreTypesThere}
 use Rattle.wit_placed.specs.There.{AreBelow}
 
 -- all that packages name is one of so many interfaces and worlds

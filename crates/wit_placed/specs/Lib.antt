@@ -4,3 +4,4 @@ pub mod Found
 pub mod Listed
 pub mod Naming
 pub mod Worlds
+pub mod Passed

@@ -1,13 +1,13 @@
 -- What stays of a package's types stands in the interfaces to which it belongs (WIT, Item: `interface`, Packages).
 use Rattle.std.specs.Prelude.{◌≡◌, ℕ, ◌≤◌, List, ◌++◌, Some, length, slice_get}
-use Rattle.wit_types.specs.declared.interface.Interface.{Interface}
-use Rattle.wit_types.specs.declared.interface.TypeDef.{TypeDef}
-use Rattle.wit_features.specs.Features.{FeatureSet}
-use Rattle.wit_moves.specs.Moved.{Places}
-use Rattle.wit_moves.specs.Plan.{OwnerPlaces}
+use Rattle.wit_plans.specs.Passed.wit_types-declared-interface-Interface.{Interface}
+use Rattle.wit_plans.specs.Passed.wit_types-declared-interface-TypeDef.{TypeDef}
+use Rattle.wit_plans.specs.Passed.wit_features-Features.{FeatureSet}
+use Rattle.wit_moved_trees.specs.Passed.wit_moves-Moved.{Places}
+use Rattle.wit_moved_trees.specs.Passed.wit_moves-Plan.{OwnerPlaces}
 use Rattle.wit_plans.specs.Checks.{Standing}
-use Rattle.wit_reach.specs.Deps.{interface_of}
-use Rattle.wit_reach.specs.Holding.{AreListed}
+use Rattle.wit_moved_trees.specs.Passed.wit_reach-Deps.{interface_of}
+use Rattle.wit_moved_trees.specs.Passed.wit_reach-Holding.{AreListed}
 use Rattle.wit_placed.specs.Order.{AreBehind}
 
 -- types belong to none of the first so many interfaces

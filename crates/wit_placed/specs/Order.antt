@@ -1,23 +1,23 @@
 -- What stays of a package takes places one behind the other, and uses what stands before it (WIT, Packages, Use).
 use Rattle.std.specs.Prelude.{◌≡◌, ℕ, ◌+◌, ◌<◌, List, ◌++◌, None, Some, length, map, slice_get}
-use Rattle.wit_types.specs.declared.interface.Interface.{Interface}
-use Rattle.wit_types.specs.declared.interface.TypeDef.{TypeDef}
-use Rattle.wit_types.specs.declared.interface.TypeOwner.TheVariants as belongs
-use Rattle.wit_features.specs.Features.{FeatureSet}
-use Rattle.wit_moves.specs.Moved.{Places}
-use Rattle.wit_moves.specs.Plan.{OwnerPlaces, AreTypesPlaced, AreMovedDefs}
-use Rattle.wit_finding.specs.Own.{placed}
-use Rattle.wit_moves.specs.Breaks.{AnyOf, IsKept}
-use Rattle.wit_finding.specs.Types.{type_found}
+use Rattle.wit_plans.specs.Passed.wit_types-declared-interface-Interface.{Interface}
+use Rattle.wit_plans.specs.Passed.wit_types-declared-interface-TypeDef.{TypeDef}
+use Rattle.wit_plans.specs.Passed.wit_types-declared-interface-TypeOwner-TheVariants as belongs
+use Rattle.wit_plans.specs.Passed.wit_features-Features.{FeatureSet}
+use Rattle.wit_moved_trees.specs.Passed.wit_moves-Moved.{Places}
+use Rattle.wit_moved_trees.specs.Passed.wit_moves-Plan.{OwnerPlaces, AreTypesPlaced, AreMovedDefs}
+use Rattle.wit_plans.specs.Passed.wit_finding-Own.{placed}
+use Rattle.wit_moved_trees.specs.Passed.wit_moves-Breaks.{AnyOf, IsKept}
+use Rattle.wit_plans.specs.Passed.wit_finding-Types.{type_found}
 use Rattle.wit_plans.specs.Checks.{Standing, InterfaceBreaks}
 use Rattle.wit_plans.specs.Moves.{AreMovedInterfaces}
-use Rattle.wit_reach.specs.Deps.{IsInterfaceDep}
-use Rattle.wit_reach.specs.Holding.{HoldTheirTypes}
-use Rattle.wit_reach.specs.Lists.{AreOwnersThere}
-use Rattle.wit_reach.specs.Types.{AreTypesBackward}
+use Rattle.wit_moved_trees.specs.Passed.wit_reach-Deps.{IsInterfaceDep}
+use Rattle.wit_moved_trees.specs.Passed.wit_reach-Holding.{HoldTheirTypes}
+use Rattle.wit_moved_trees.specs.Passed.wit_reach-Lists.{AreOwnersThere}
+use Rattle.wit_moved_trees.specs.Passed.wit_reach-Types.{AreTypesBackward}
 use Rattle.wit_moved_trees.specs.There.{AreWithin}
 use Rattle.wit_placed.specs.There.{AreBelow, IsInterfaceThere}
-use Rattle.wit_order.specs.Order.{Has}
+use Rattle.wit_plans.specs.Passed.wit_order-Order.{Has}
 
 -- types without a name belong nowhere
 abbrev pub AreNamelessFree : List TypeDef → Type 0

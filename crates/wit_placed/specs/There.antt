@@ -1,19 +1,19 @@
 -- What a package holds stands, where it stays, among what is there (WIT, Packages, Feature Gates).
 use Rattle.std.specs.Prelude.{◌≡◌, ℕ, ◌<◌, List, Some, String, length, map}
 use Rattle.std.specs.declared.alloc.Global.{Global}
-use Rattle.wit_order.specs.Order.{Has}
-use Rattle.wit_types.specs.declared.function.Function.{Function}
-use Rattle.wit_types.specs.declared.interface.Interface.{Interface}
-use Rattle.wit_types.specs.declared.interface.TypeDef.{TypeDef}
-use Rattle.wit_types.specs.declared.world.World.{World}
-use Rattle.wit_types.specs.declared.world.WorldItem.{WorldItem}
-use Rattle.wit_types.specs.declared.world_key.WorldKey.{WorldKey}
-use Rattle.wit_features.specs.Features.{FeatureSet}
-use Rattle.wit_moves.specs.Breaks.{AnyOf, IsKept}
-use Rattle.wit_moves.specs.Moved.{Places, place_of}
-use Rattle.wit_reach.specs.Ids.{function_ids, side_ids}
-use Rattle.wit_reach.specs.Types.{AreTypesThere}
-use Rattle.wit_reach.specs.Lists.{interfaces_of}
+use Rattle.wit_plans.specs.Passed.wit_order-Order.{Has}
+use Rattle.wit_plans.specs.Passed.wit_types-declared-function-Function.{Function}
+use Rattle.wit_plans.specs.Passed.wit_types-declared-interface-Interface.{Interface}
+use Rattle.wit_plans.specs.Passed.wit_types-declared-interface-TypeDef.{TypeDef}
+use Rattle.wit_plans.specs.Passed.wit_types-declared-world-World.{World}
+use Rattle.wit_plans.specs.Passed.wit_types-declared-world-WorldItem.{WorldItem}
+use Rattle.wit_plans.specs.Passed.wit_types-declared-world_key-WorldKey.{WorldKey}
+use Rattle.wit_plans.specs.Passed.wit_features-Features.{FeatureSet}
+use Rattle.wit_moved_trees.specs.Passed.wit_moves-Breaks.{AnyOf, IsKept}
+use Rattle.wit_moved_trees.specs.Passed.wit_moves-Moved.{Places, place_of}
+use Rattle.wit_moved_trees.specs.Passed.wit_reach-Ids.{function_ids, side_ids}
+use Rattle.wit_moved_trees.specs.Passed.wit_reach-Types.{AreTypesThere}
+use Rattle.wit_moved_trees.specs.Passed.wit_reach-Lists.{interfaces_of}
 use Rattle.wit_elaborated.specs.Worlds.{AreKeysOfItems}
 use Rattle.wit_plans.specs.declared.moves.MovedWorld.{MovedWorld}
 use Rattle.wit_plans.specs.Checks.{Standing, InterfaceBreaks, WorldBreaks}

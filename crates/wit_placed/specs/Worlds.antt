@@ -1,9 +1,9 @@
 -- The worlds of a package that stay take places of their own (WIT, Packages, Item: `world`).
 use Rattle.std.specs.Prelude.{◌≡◌, ℕ, ◌+◌, true, List, Some, length, map, slice_get}
-use Rattle.wit_types.specs.declared.world.World.{World}
-use Rattle.wit_features.specs.Features.{FeatureSet, stays}
-use Rattle.wit_moves.specs.Moved.{Places, place_of}
-use Rattle.wit_finding.specs.Own.{placed}
+use Rattle.wit_plans.specs.Passed.wit_types-declared-world-World.{World}
+use Rattle.wit_plans.specs.Passed.wit_features-Features.{FeatureSet, stays}
+use Rattle.wit_moved_trees.specs.Passed.wit_moves-Moved.{Places, place_of}
+use Rattle.wit_plans.specs.Passed.wit_finding-Own.{placed}
 use Rattle.wit_plans.specs.Checks.{Standing}
 use Rattle.wit_plans.specs.Moves.{AreMovedWorlds, IsMovedWorld}
 use Rattle.wit_plans.specs.declared.moves.MovedWorld.{MovedWorld}

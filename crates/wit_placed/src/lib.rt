@@ -15,3 +15,4 @@ pub use places::{
     law_moved_types_belong, law_worlds_take_places, law_worlds_take_places_alone,
 };
 pub use there::{law_moved_interfaces_are_there, law_moved_worlds_are_there};
+pub use wit_moved_trees::law_moved_types_are_backward;

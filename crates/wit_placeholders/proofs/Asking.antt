@@ -9,15 +9,15 @@ use Rattle.wit_types.specs.declared.interface.Interface.{Interface}
 use Rattle.wit_types.specs.declared.world.World.{World}
 use Rattle.wit_types.specs.declared.«package».AstItem.{AstItem}
 use Rattle.wit_types.specs.declared.«package».AstItem.TheVariants as ids
-use Rattle.wit_arena.specs.Tree.{Owner}
-use Rattle.wit_arena.specs.Meaning.{Has}
-use Rattle.wit_arena.proofs.Lists.{get_more, has_none}
+use Rattle.wit_foreign.specs.Passed.wit_arena-Tree.{Owner}
+use Rattle.wit_foreign.specs.Passed.wit_arena-Meaning.{Has}
+use Rattle.wit_foreign.proofs.Passed.wit_arena-Lists.{get_more, has_none}
 use Rattle.wit_foreign.specs.declared.needs.Need.{Need}
 use Rattle.wit_foreign.specs.View as seen
 use Rattle.wit_foreign.specs.Needs.{NeedTree}
 use Rattle.wit_foreign.specs.Items.{Items, need_owner, interfaces_in, worlds_in, interface_count, world_count, AreItemsOf}
 use Rattle.wit_placeholders.specs.Placeholders.{IsFirstAsk, IsUnknownInterface, IsUnknownWorld, ArePlaceholders}
-use Rattle.wit_rules.proofs.Places.{taken}
+use Rattle.wit_foreign.proofs.Passed.wit_rules-Places.{taken}
 use Rattle.wit_foreign.proofs.Gathering.{length_more, take_whole, interfaces_more, worlds_more}
 use Rattle.wit_foreign.proofs.Standing.{got_at}
 use Rattle.wit_foreign.proofs.Numbers.{interfaces_between, worlds_between, interface_or_world, interface_number, world_number, interface_alone, world_alone}

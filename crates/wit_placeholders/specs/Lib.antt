@@ -1,1 +1,2 @@
 pub mod Placeholders
+pub mod Passed

@@ -4,8 +4,8 @@ use Rattle.wit_types.specs.declared.interface.Interface.{Interface}
 use Rattle.wit_types.specs.declared.stability.Stability.TheVariants as stability
 use Rattle.wit_types.specs.declared.world.World.{World}
 use Rattle.wit_types.specs.declared.«package».AstItem.TheVariants as ids
-use Rattle.wit_arena.specs.Tree.{Owner}
-use Rattle.wit_arena.specs.Meaning.{Has}
+use Rattle.wit_foreign.specs.Passed.wit_arena-Tree.{Owner}
+use Rattle.wit_foreign.specs.Passed.wit_arena-Meaning.{Has}
 use Rattle.wit_foreign.specs.Needs.{NeedTree}
 use Rattle.wit_foreign.specs.Items.{Items, need_owner, interfaces_in, worlds_in}
 

@@ -4,3 +4,7 @@
 mod placeholders;
 
 pub use placeholders::{Placeholders, placeholders_of};
+pub use wit_foreign::{
+    ForeignItems, Known, Need, add_unknown_types, foreign_deps, foreign_items, foreign_needs,
+    package_name,
+};

@@ -5,17 +5,17 @@ use Rattle.wit_words.specs.declared.source_map.Span.{Span}
 use Rattle.wit_words.specs.declared.token.Kind.TheVariants as kind
 use Rattle.wit_words.specs.Slice.{Slice}
 use Rattle.wit_words.specs.Token.{What, plain}
-use Rattle.wit_productions.specs.Production.{Production, ◌>>=◌, ◌>>◌, yield, sign, branch, optional, documented, located, Next, next_then, commas, until, many, all, at_end}
-use Rattle.wit_productions.specs.Terminal.{id}
-use Rattle.wit_productions.specs.NameGrammar.{package_name, path_behind, use_path}
-use Rattle.wit_productions.specs.WholeText.{IsTextOf}
-use Rattle.wit_productions.proofs.NameLaws.{path_behind_law}
-use Rattle.wit_items.specs.ItemTree.{AttributeTree, GatedTree, TypeDefTree}
-use Rattle.wit_items.specs.ItemGrammar.{attribute, gated, use_behind, toplevel_use_behind, func_behind, type_def_at, defined, interface_items, interface_behind}
-use Rattle.wit_items.proofs.ItemLaws.{attribute_law, attributes_law, toplevel_use_behind_law}
-use Rattle.wit_syntax.specs.Ast as tree
-use Rattle.wit_syntax.specs.Ast.{PackageNameTree, ExternTree, IncludeNameTree, IncludeTree, WorldItemTree, AstItemTree, PackageTree, FileItemTree, OpeningTree, FirstTree, FileTree}
-use Rattle.wit_syntax.specs.FileGrammar.{extern_func, extern_behind, extern_item, include_name, include_behind, world_item_at, world_item, world_behind, ast_item_at, ast_item, package_items, file_item_at, file_item, package_opening, opening, gated_first, without_gates, first, file_of, some_file, file}
+use Rattle.wit_nested.specs.Passed.wit_productions-Production.{Production, ◌>>=◌, ◌>>◌, yield, sign, branch, optional, documented, located, Next, next_then, commas, until, many, all, at_end}
+use Rattle.wit_nested.specs.Passed.wit_productions-Terminal.{id}
+use Rattle.wit_nested.specs.Passed.wit_productions-NameGrammar.{package_name, path_behind, use_path}
+use Rattle.wit_nested.specs.Passed.wit_productions-WholeText.{IsTextOf}
+use Rattle.wit_nested.proofs.Passed.wit_productions-NameLaws.{path_behind_law}
+use Rattle.wit_nested.specs.Passed.wit_items-ItemTree.{AttributeTree, GatedTree, TypeDefTree}
+use Rattle.wit_nested.specs.Passed.wit_items-ItemGrammar.{attribute, gated, use_behind, toplevel_use_behind, func_behind, type_def_at, defined, interface_items, interface_behind}
+use Rattle.wit_nested.proofs.Passed.wit_items-ItemLaws.{attribute_law, attributes_law, toplevel_use_behind_law}
+use Rattle.wit_nested.specs.Passed.wit_syntax-Ast as tree
+use Rattle.wit_nested.specs.Passed.wit_syntax-Ast.{PackageNameTree, ExternTree, IncludeNameTree, IncludeTree, WorldItemTree, AstItemTree, PackageTree, FileItemTree, OpeningTree, FirstTree, FileTree}
+use Rattle.wit_nested.specs.Passed.wit_syntax-FileGrammar.{extern_func, extern_behind, extern_item, include_name, include_behind, world_item_at, world_item, world_behind, ast_item_at, ast_item, package_items, file_item_at, file_item, package_opening, opening, gated_first, without_gates, first, file_of, some_file, file}
 use Rattle.wit_plain_texts.specs.Trees.{IsPlainName, IsPlainPackage, IsPlainExtern, ArePlainIncludes, IsPlainWorldItem, IsPlainWorld, IsPlainItem, ArePlainItems, IsPlainNested, IsPlainFileItem, IsPlainFile, IsPlainType}
 use Rattle.wit_plain_texts.specs.Law.{NamesOfTextsArePlain}
 use Rattle.wit_plain_texts.proofs.Tokens.{text_plain}

@@ -7,18 +7,18 @@ use Rattle.wit_words.specs.declared.token.Kind.{Kind}
 use Rattle.wit_words.specs.declared.token.Kind.TheVariants as kind
 use Rattle.wit_words.specs.Slice.{Slice}
 use Rattle.wit_words.specs.Token.{What, plain}
-use Rattle.wit_productions.specs.Production.{Production, ◌>>=◌, ◌>>◌, yield, sign, branch, optional, documented, located, Next, commas, some_commas, until, many}
-use Rattle.wit_productions.specs.Terminal.{id, version}
-use Rattle.wit_productions.specs.TypeGrammar.{any_type}
-use Rattle.wit_productions.specs.NameGrammar.{package_behind, package_name, use_path}
-use Rattle.wit_productions.proofs.Terminals.{version_law}
-use Rattle.wit_productions.proofs.NameLaws.{use_path_law}
-use Rattle.wit_productions.proofs.TypeLaws.{any_type_law}
-use Rattle.wit_items.specs.ItemTree as tree
-use Rattle.wit_items.specs.ItemTree.{AttributeTree, GatedTree, UseNameTree, UseTree, NamedFuncTree, FieldTree, LabelTree, CaseTree, ResourceFuncTree, TypeDefKindTree, TypeDefTree, InterfaceTree}
-use Rattle.wit_items.specs.ItemGrammar.{attribute, attributed, gated, use_name, use_behind, param, params, func_behind, func, named_func_behind, alias_behind, field, label, carried, case_parts, case, parts, defined_by, constructor_behind, method_behind, method, resource_func, resource_behind, record_behind, flags_behind, enum_behind, variant_behind, type_def_at, interface_items, interface_behind}
-use Rattle.wit_items.proofs.ItemLaws.{attributes_law, func_behind_law, interface_items_law}
-use Rattle.wit_syntax.specs.Ast.{PackageNameTree}
+use Rattle.wit_nested.specs.Passed.wit_productions-Production.{Production, ◌>>=◌, ◌>>◌, yield, sign, branch, optional, documented, located, Next, commas, some_commas, until, many}
+use Rattle.wit_nested.specs.Passed.wit_productions-Terminal.{id, version}
+use Rattle.wit_nested.specs.Passed.wit_productions-TypeGrammar.{any_type}
+use Rattle.wit_nested.specs.Passed.wit_productions-NameGrammar.{package_behind, package_name, use_path}
+use Rattle.wit_nested.proofs.Passed.wit_productions-Terminals.{version_law}
+use Rattle.wit_nested.proofs.Passed.wit_productions-NameLaws.{use_path_law}
+use Rattle.wit_nested.proofs.Passed.wit_productions-TypeLaws.{any_type_law}
+use Rattle.wit_nested.specs.Passed.wit_items-ItemTree as tree
+use Rattle.wit_nested.specs.Passed.wit_items-ItemTree.{AttributeTree, GatedTree, UseNameTree, UseTree, NamedFuncTree, FieldTree, LabelTree, CaseTree, ResourceFuncTree, TypeDefKindTree, TypeDefTree, InterfaceTree}
+use Rattle.wit_nested.specs.Passed.wit_items-ItemGrammar.{attribute, attributed, gated, use_name, use_behind, param, params, func_behind, func, named_func_behind, alias_behind, field, label, carried, case_parts, case, parts, defined_by, constructor_behind, method_behind, method, resource_func, resource_behind, record_behind, flags_behind, enum_behind, variant_behind, type_def_at, interface_items, interface_behind}
+use Rattle.wit_nested.proofs.Passed.wit_items-ItemLaws.{attributes_law, func_behind_law, interface_items_law}
+use Rattle.wit_nested.specs.Passed.wit_syntax-Ast.{PackageNameTree}
 use Rattle.wit_plain_texts.specs.Trees.{IsPlainName, IsPlainPackage, IsPlainUse, IsPlainMethod, ArePlainMethods, IsPlainType}
 use Rattle.wit_plain_texts.proofs.Keeping.{Any, Keeps, of_law, then_keeps, yield_keeps, sign_keeps, skip, branch_keeps, IfSaid, optional_keeps, weaker, any, documented_keeps, located_keeps, NextKeeps, until_keeps, commas_keeps, some_commas_keeps, id_keeps}
 

@@ -8,9 +8,9 @@ use Rattle.wit_words.specs.declared.token.Kind.{Kind}
 use Rattle.wit_words.specs.declared.token.Kind.TheVariants as kind
 use Rattle.wit_words.specs.Slice.{Slice}
 use Rattle.wit_words.specs.Token.{What, Tok, plain, number, version, ident, explicit}
-use Rattle.wit_productions.specs.Production.{Production, ◌>>=◌, ◌>>◌, Then, yield, Stands, sign, Branches, branch, optional, Documents, documented, Locates, located, Next, none, goes, next_front, next_then, Chosen, by, turns, repeat, commas, comma_step, some_commas, until, until_step, at_end, all, all_step}
-use Rattle.wit_productions.specs.Terminal.{id, id_in}
-use Rattle.wit_productions.proofs.Laws.{Law, Suffix, sign_law}
+use Rattle.wit_nested.specs.Passed.wit_productions-Production.{Production, ◌>>=◌, ◌>>◌, Then, yield, Stands, sign, Branches, branch, optional, Documents, documented, Locates, located, Next, none, goes, next_front, next_then, Chosen, by, turns, repeat, commas, comma_step, some_commas, until, until_step, at_end, all, all_step}
+use Rattle.wit_nested.specs.Passed.wit_productions-Terminal.{id, id_in}
+use Rattle.wit_nested.proofs.Passed.wit_productions-Laws.{Law, Suffix, sign_law}
 use Rattle.wit_plain_texts.specs.Plain.{IsPlain}
 use Rattle.wit_plain_texts.specs.Trees.{IsPlainName}
 use Rattle.wit_plain_texts.proofs.Tokens.{SaysPlain, ArePlain}

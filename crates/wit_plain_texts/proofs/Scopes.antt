@@ -5,16 +5,16 @@ use Rattle.std.specs.List.{AllByRecursion as Each, list_any}
 use Rattle.std.specs.Prelude.{flat_map, codes, nat_eq}
 use Rattle.wit_order.specs.Order.{Has}
 use Rattle.wit_words.specs.Slice.{Slice}
-use Rattle.wit_items.specs.ItemTree as item
-use Rattle.wit_items.specs.ItemTree.{AttributeTree, GatedTree, UseNameTree, UseTree, ResourceFuncTree, TypeDefTree}
-use Rattle.wit_syntax.specs.Ast as tree
-use Rattle.wit_syntax.specs.Ast.{PackageNameTree, ToplevelUseTree, ExternTree, WorldItemTree, AstItemTree, PackageTree, FileItemTree, HeaderTree, FileTree}
-use Rattle.wit_scopes.specs.declared.worlds.Side.{Side}
-use Rattle.wit_scopes.specs.declared.worlds.Side.TheVariants.{Import, Export}
-use Rattle.wit_scopes.specs.Paths.{TargetTree, target, item_uses}
-use Rattle.wit_scopes.specs.Members.{MemberTree, used_member, uses_members, resource_member, resource_funcs, type_members}
-use Rattle.wit_scopes.specs.Scopes as scope
-use Rattle.wit_scopes.specs.Scopes.{WorldMemberTree, ItemScope, extern_name, extern_kind, world_item_members, world_members, ast_item_scopes, file_item_scopes, items_scopes, scopes_from}
+use Rattle.wit_nested.specs.Passed.wit_items-ItemTree as item
+use Rattle.wit_nested.specs.Passed.wit_items-ItemTree.{AttributeTree, GatedTree, UseNameTree, UseTree, ResourceFuncTree, TypeDefTree}
+use Rattle.wit_nested.specs.Passed.wit_syntax-Ast as tree
+use Rattle.wit_nested.specs.Passed.wit_syntax-Ast.{PackageNameTree, ToplevelUseTree, ExternTree, WorldItemTree, AstItemTree, PackageTree, FileItemTree, HeaderTree, FileTree}
+use Rattle.wit_nested.specs.Passed.wit_scopes-declared-worlds-Side.{Side}
+use Rattle.wit_nested.specs.Passed.wit_scopes-declared-worlds-Side-TheVariants.{Import, Export}
+use Rattle.wit_nested.specs.Passed.wit_scopes-Paths.{TargetTree, target, item_uses}
+use Rattle.wit_nested.specs.Passed.wit_scopes-Members.{MemberTree, used_member, uses_members, resource_member, resource_funcs, type_members}
+use Rattle.wit_nested.specs.Passed.wit_scopes-Scopes as scope
+use Rattle.wit_nested.specs.Passed.wit_scopes-Scopes.{WorldMemberTree, ItemScope, extern_name, extern_kind, world_item_members, world_members, ast_item_scopes, file_item_scopes, items_scopes, scopes_from}
 use Rattle.wit_rules.specs.Facts.{name_of_header, package_name}
 use Rattle.wit_nested.specs.Nested.{file_item, nested_file, own_or_none, own_item, own_file, own_files, nested_or_none, nested_item, nested_in, nested_files}
 use Rattle.wit_plain_texts.specs.Plain.{IsWithout, IsPlain}

@@ -2,8 +2,8 @@
 use Rattle.std.specs.Prelude.{◌≡◌, ℕ, List, true}
 use Rattle.wit_words.specs.Identifier.{is_identifier}
 use Rattle.wit_tokens.specs.Lex.{Text}
-use Rattle.wit_syntax.specs.Ast.{FileTree}
-use Rattle.wit_syntax.specs.WholeText.{IsText}
+use Rattle.wit_nested.specs.Passed.wit_syntax-Ast.{FileTree}
+use Rattle.wit_nested.specs.Passed.wit_syntax-WholeText.{IsText}
 use Rattle.wit_plain_texts.specs.Plain.{IsPlain}
 use Rattle.wit_plain_texts.specs.Trees.{IsPlainFile}
 

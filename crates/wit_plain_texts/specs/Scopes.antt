@@ -2,10 +2,10 @@
 use Rattle.std.specs.Prelude.{◌≡◌, List, Some}
 use Rattle.std.specs.List.{AllByRecursion as Each}
 use Rattle.wit_words.specs.Slice.{Slice}
-use Rattle.wit_syntax.specs.Ast.{PackageNameTree, FileTree}
-use Rattle.wit_scopes.specs.Members.{MemberTree}
-use Rattle.wit_scopes.specs.Scopes as scope
-use Rattle.wit_scopes.specs.Scopes.{ExternKind, WorldMemberTree, ItemScope, package_scopes}
+use Rattle.wit_nested.specs.Passed.wit_syntax-Ast.{PackageNameTree, FileTree}
+use Rattle.wit_nested.specs.Passed.wit_scopes-Members.{MemberTree}
+use Rattle.wit_nested.specs.Passed.wit_scopes-Scopes as scope
+use Rattle.wit_nested.specs.Passed.wit_scopes-Scopes.{ExternKind, WorldMemberTree, ItemScope, package_scopes}
 use Rattle.wit_rules.specs.Facts.{package_name}
 use Rattle.wit_rules.specs.Labels.{full_name}
 use Rattle.wit_nested.specs.Nested.{own_files, nested_files}

@@ -2,11 +2,11 @@
 use Rattle.std.specs.Prelude.{List, Option, Some, None, unwrap_or}
 use Rattle.std.specs.List.{AllByRecursion as Each}
 use Rattle.wit_words.specs.Slice.{Slice}
-use Rattle.wit_items.specs.ItemTree as item
-use Rattle.wit_items.specs.ItemTree.{GatedTree, UseNameTree, UseTree, NamedFuncTree, ResourceFuncTree, TypeDefKindTree, TypeDefTree, InterfaceTree}
-use Rattle.wit_syntax.specs.Ast as tree
-use Rattle.wit_syntax.specs.Ast.{PackageNameTree, ExternTree, IncludeNameTree, WorldItemTree, WorldTree, AstItemTree, PackageTree, FileItemTree, HeaderTree, FileTree}
-use Rattle.wit_scopes.specs.Members.{resource_funcs}
+use Rattle.wit_nested.specs.Passed.wit_items-ItemTree as item
+use Rattle.wit_nested.specs.Passed.wit_items-ItemTree.{GatedTree, UseNameTree, UseTree, NamedFuncTree, ResourceFuncTree, TypeDefKindTree, TypeDefTree, InterfaceTree}
+use Rattle.wit_nested.specs.Passed.wit_syntax-Ast as tree
+use Rattle.wit_nested.specs.Passed.wit_syntax-Ast.{PackageNameTree, ExternTree, IncludeNameTree, WorldItemTree, WorldTree, AstItemTree, PackageTree, FileItemTree, HeaderTree, FileTree}
+use Rattle.wit_nested.specs.Passed.wit_scopes-Members.{resource_funcs}
 use Rattle.wit_plain_texts.specs.Plain.{IsPlain}
 
 abbrev pub IsPlainName : Slice → Type 0

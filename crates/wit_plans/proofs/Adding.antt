@@ -4,10 +4,10 @@ use Rattle.std.proofs.lemmas.List.{append-nil}
 use Rattle.std.proofs.lemmas.Option.{same_Some}
 use Rattle.std.specs.Prelude.{if◌then◌else◌, OnOk, IfOk}
 use Rattle.std.specs.Result.{result_and}
-use Rattle.wit_types.specs.declared.interface.Interface.{Interface}
-use Rattle.wit_types.specs.declared.world.World.{World}
-use Rattle.wit_features.specs.Features.{FeatureSet, stays}
-use Rattle.wit_moves.specs.Interfaces.{IsMovedInterface}
+use Rattle.wit_finding.specs.Passed.wit_types-declared-interface-Interface.{Interface}
+use Rattle.wit_finding.specs.Passed.wit_types-declared-world-World.{World}
+use Rattle.wit_finding.specs.Passed.wit_features-Features.{FeatureSet, stays}
+use Rattle.wit_finding.specs.Passed.wit_moves-Interfaces.{IsMovedInterface}
 use Rattle.wit_plans.specs.declared.moves.MovedWorld.{MovedWorld}
 use Rattle.wit_plans.specs.Checks.{Standing}
 use Rattle.wit_plans.specs.Moves.{IsMovedWorld, AreMovedInterfaces, interface_goes, interface_stays, AddsInterface, adds_no_interface, adds_interface, AreMovedWorlds, world_goes, world_stays, AddsWorld, adds_no_world, adds_world}

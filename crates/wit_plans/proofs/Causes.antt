@@ -1,11 +1,11 @@
 -- What is refused last is a cause of all of it.
 use Rattle.std.proofs.Common.{◌≡◌, List, subst}
-use Rattle.wit_types.specs.declared.interface.Interface.{Interface}
-use Rattle.wit_features.specs.Features.{FeatureSet}
-use Rattle.wit_moves.specs.declared.plan.MoveFault.{MoveFault}
-use Rattle.wit_moves.specs.declared.plan.MoveFault.TheVariants.{ItemNotFound, OutOfMemory}
-use Rattle.wit_moves.specs.Moved.{Places}
-use Rattle.wit_moves.specs.Plan.{OwnerPlaces, AreTypesPlaced}
+use Rattle.wit_finding.specs.Passed.wit_types-declared-interface-Interface.{Interface}
+use Rattle.wit_finding.specs.Passed.wit_features-Features.{FeatureSet}
+use Rattle.wit_finding.specs.Passed.wit_moves-declared-plan-MoveFault.{MoveFault}
+use Rattle.wit_finding.specs.Passed.wit_moves-declared-plan-MoveFault-TheVariants.{ItemNotFound, OutOfMemory}
+use Rattle.wit_finding.specs.Passed.wit_moves-Moved.{Places}
+use Rattle.wit_finding.specs.Passed.wit_moves-Plan.{OwnerPlaces, AreTypesPlaced}
 use Rattle.wit_plans.specs.declared.plans.Sizes.{Sizes}
 use Rattle.wit_plans.specs.Checks.{PartsBreak, IsCauseOf}
 use Rattle.wit_plans.specs.Plans.{Parts, owners_of, found_of, standing, part_breaks, IsPlanCause}

@@ -1,15 +1,15 @@
 -- What stays needs what doesn't (WIT, Feature Gates).
 use Rattle.std.specs.Prelude.{◌≡◌, ◌⊎◌, true, false, List}
-use Rattle.wit_types.specs.declared.interface.Interface.{Interface}
-use Rattle.wit_types.specs.declared.world.World.{World}
-use Rattle.wit_types.specs.declared.world.WorldInclude.{WorldInclude}
-use Rattle.wit_features.specs.Features.{FeatureSet, stays}
-use Rattle.wit_moves.specs.declared.plan.MoveFault.{MoveFault}
-use Rattle.wit_moves.specs.declared.plan.MoveFault.TheVariants.{ItemNotFound, OutOfMemory}
-use Rattle.wit_moves.specs.Breaks.{Breaks, AnyOf}
-use Rattle.wit_moves.specs.Moved.{Places, is_placed}
-use Rattle.wit_moves.specs.Interfaces.{FunctionsBreak}
-use Rattle.wit_moves.specs.Worlds.{SideBreaks}
+use Rattle.wit_finding.specs.Passed.wit_types-declared-interface-Interface.{Interface}
+use Rattle.wit_finding.specs.Passed.wit_types-declared-world-World.{World}
+use Rattle.wit_finding.specs.Passed.wit_types-declared-world-WorldInclude.{WorldInclude}
+use Rattle.wit_finding.specs.Passed.wit_features-Features.{FeatureSet, stays}
+use Rattle.wit_finding.specs.Passed.wit_moves-declared-plan-MoveFault.{MoveFault}
+use Rattle.wit_finding.specs.Passed.wit_moves-declared-plan-MoveFault-TheVariants.{ItemNotFound, OutOfMemory}
+use Rattle.wit_finding.specs.Passed.wit_moves-Breaks.{Breaks, AnyOf}
+use Rattle.wit_finding.specs.Passed.wit_moves-Moved.{Places, is_placed}
+use Rattle.wit_finding.specs.Passed.wit_moves-Interfaces.{FunctionsBreak}
+use Rattle.wit_finding.specs.Passed.wit_moves-Worlds.{SideBreaks}
 
 -- where types, interfaces and worlds stand
 pub record Standing : Type 0 where

@@ -1,12 +1,12 @@
 -- What stays of a package, where it stands (WIT, Feature Gates).
 use Rattle.std.specs.Prelude.{◌≡◌, ℕ, true, false, List, [], ◌∷◌, flat_map, if◌then◌else◌}
-use Rattle.wit_types.specs.declared.interface.Interface.{Interface}
-use Rattle.wit_types.specs.declared.world.World.{World}
-use Rattle.wit_types.specs.declared.world.WorldInclude.{WorldInclude}
-use Rattle.wit_features.specs.Features.{FeatureSet, stays}
-use Rattle.wit_moves.specs.Moved.{Places, to}
-use Rattle.wit_moves.specs.Interfaces.{IsMovedInterface}
-use Rattle.wit_moves.specs.Worlds.{IsMovedSide}
+use Rattle.wit_finding.specs.Passed.wit_types-declared-interface-Interface.{Interface}
+use Rattle.wit_finding.specs.Passed.wit_types-declared-world-World.{World}
+use Rattle.wit_finding.specs.Passed.wit_types-declared-world-WorldInclude.{WorldInclude}
+use Rattle.wit_finding.specs.Passed.wit_features-Features.{FeatureSet, stays}
+use Rattle.wit_finding.specs.Passed.wit_moves-Moved.{Places, to}
+use Rattle.wit_finding.specs.Passed.wit_moves-Interfaces.{IsMovedInterface}
+use Rattle.wit_finding.specs.Passed.wit_moves-Worlds.{IsMovedSide}
 use Rattle.wit_plans.specs.declared.moves.MovedWorld.{MovedWorld}
 use Rattle.wit_plans.specs.Checks.{Standing}
 

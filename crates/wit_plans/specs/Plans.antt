@@ -1,15 +1,15 @@
 -- Where all that a package holds stands in a graph.
 use Rattle.std.specs.Prelude.{◌≡◌, List, map}
 use Rattle.wit_words.specs.declared.source_map.Span.{Span}
-use Rattle.wit_types.specs.declared.interface.Interface.{Interface}
-use Rattle.wit_types.specs.declared.interface.TypeDef.{TypeDef}
-use Rattle.wit_types.specs.declared.world.World.{World}
-use Rattle.wit_features.specs.Features.{FeatureSet}
-use Rattle.wit_moves.specs.declared.plan.MoveFault.{MoveFault}
-use Rattle.wit_moves.specs.declared.plan.MoveFault.TheVariants.{ItemNotFound, OutOfMemory}
-use Rattle.wit_moves.specs.Breaks.{IsKept}
-use Rattle.wit_moves.specs.Moved.{Places}
-use Rattle.wit_moves.specs.Plan.{OwnerPlaces, AreTypesPlaced, TypesBreak}
+use Rattle.wit_finding.specs.Passed.wit_types-declared-interface-Interface.{Interface}
+use Rattle.wit_finding.specs.Passed.wit_types-declared-interface-TypeDef.{TypeDef}
+use Rattle.wit_finding.specs.Passed.wit_types-declared-world-World.{World}
+use Rattle.wit_finding.specs.Passed.wit_features-Features.{FeatureSet}
+use Rattle.wit_finding.specs.Passed.wit_moves-declared-plan-MoveFault.{MoveFault}
+use Rattle.wit_finding.specs.Passed.wit_moves-declared-plan-MoveFault-TheVariants.{ItemNotFound, OutOfMemory}
+use Rattle.wit_finding.specs.Passed.wit_moves-Breaks.{IsKept}
+use Rattle.wit_finding.specs.Passed.wit_moves-Moved.{Places}
+use Rattle.wit_finding.specs.Passed.wit_moves-Plan.{OwnerPlaces, AreTypesPlaced, TypesBreak}
 use Rattle.wit_finding.specs.Own.{placed}
 use Rattle.wit_finding.specs.Types.{type_found}
 use Rattle.wit_plans.specs.declared.plans.Sizes.{Sizes}

@@ -1,13 +1,14 @@
 //! Whether what stays needs what doesn't.
 
 ghost use Rattle.std.specs.Prelude.{◌≡◌, OnOk, IfErr};
-ghost use Rattle.wit_moves.specs.Breaks.{AnyOf, IsKept};
+ghost use Rattle.wit_finding.specs.Passed.wit_moves-Breaks.{AnyOf, IsKept};
 ghost use Rattle.wit_plans.specs.Checks as spec;
 
 use std::marker::Model;
-use wit_features::Features;
-use wit_moves::{InterfacePlaces, MoveFault, TypePlaces, WorldPlaces, check_functions, check_side};
-use wit_types::{Interface, World, WorldInclude};
+use wit_finding::{
+    Features, Interface, InterfacePlaces, MoveFault, TypePlaces, World, WorldInclude, WorldPlaces,
+    check_functions, check_side,
+};
 
 /// Where types, interfaces and worlds stand.
 #[derive(Drop)]

@@ -8,3 +8,4 @@ mod plans;
 pub use checks::Standing;
 pub use moves::{MovedWorld, moved_interfaces, moved_worlds};
 pub use plans::{Parts, Plan, Sizes, plan_of};
+pub use wit_finding::FindFault;

@@ -1,20 +1,21 @@
 //! What stays of a package, where it stands.
 
 ghost use Rattle.std.specs.Prelude.{◌≡◌, ◌∷◌, ◌++◌, true, Some, None, List, [], flat_map, if◌then◌else◌, IfOk, OnOk};
-ghost use Rattle.wit_types.specs.declared.interface.Interface.{Interface};
-ghost use Rattle.wit_features.specs.Features.{stays};
-ghost use Rattle.wit_moves.specs.Interfaces.{IsMovedInterface};
-ghost use Rattle.wit_moves.specs.Moved.{to};
-ghost use Rattle.wit_moves.specs.Worlds.{IsMovedSide};
+ghost use Rattle.wit_finding.specs.Passed.wit_types-declared-interface-Interface.{Interface};
+ghost use Rattle.wit_finding.specs.Passed.wit_features-Features.{stays};
+ghost use Rattle.wit_finding.specs.Passed.wit_moves-Interfaces.{IsMovedInterface};
+ghost use Rattle.wit_finding.specs.Passed.wit_moves-Moved.{to};
+ghost use Rattle.wit_finding.specs.Passed.wit_moves-Worlds.{IsMovedSide};
 ghost use Rattle.wit_plans.specs.declared.moves.MovedWorld.{MovedWorld};
 ghost use Rattle.wit_plans.specs.Moves as spec;
 
 use crate::checks::Standing;
 use indexmap::IndexMap;
 use std::alloc::{AllocError, Global};
-use wit_features::Features;
-use wit_moves::{WorldPlaces, move_interface, moved_side};
-use wit_types::{Docs, Interface, PackageId, Stability, World, WorldInclude, WorldItem, WorldKey};
+use wit_finding::{
+    Docs, Features, Interface, PackageId, Stability, World, WorldInclude, WorldItem, WorldKey,
+    WorldPlaces, move_interface, moved_side,
+};
 use wit_words::Span;
 
 /// A world where it stands, without what it includes.

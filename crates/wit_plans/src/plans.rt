@@ -1,18 +1,18 @@
 //! Where all that a package holds stands in a graph.
 
 ghost use Rattle.std.specs.Prelude.{◌≡◌, IfOk, IfErr};
-ghost use Rattle.wit_moves.specs.Plan.{AreTypesPlaced, IsPlaceCause};
-ghost use Rattle.wit_moves.specs.View.{owners};
+ghost use Rattle.wit_finding.specs.Passed.wit_moves-Plan.{AreTypesPlaced, IsPlaceCause};
+ghost use Rattle.wit_finding.specs.Passed.wit_moves-View.{owners};
 ghost use Rattle.wit_finding.specs.Types.{AreWithin};
 ghost use Rattle.wit_plans.specs.Plans as spec;
 ghost use Rattle.wit_plans.specs.View as seen;
 
 use crate::checks::{Standing, check_parts};
 use std::alloc::{AllocError, Global};
-use wit_features::Features;
-use wit_finding::{found_types, own_interfaces, own_worlds};
-use wit_moves::{MoveFault, OwnerPlaces, TypePlaces, type_places};
-use wit_types::{Arena, Interface, TypeDef, World};
+use wit_finding::{
+    Arena, Features, Interface, MoveFault, OwnerPlaces, TypeDef, TypePlaces, World, found_types,
+    own_interfaces, own_worlds, type_places,
+};
 
 /// How many types, interfaces and worlds there are in a graph.
 #[derive(Clone, Copy)]

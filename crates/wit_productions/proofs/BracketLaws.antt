@@ -4,20 +4,20 @@ use Rattle.std.specs.Prelude.{IsOk}
 use Rattle.semver.specs.Parse.{version_parts}
 use Rattle.std.proofs.lemmas.Bool.{cases_Bool}
 use Rattle.wit_productions.specs.declared.fault.Fault.{Fault}
-use Rattle.wit_words.specs.declared.fault.Rule.{Rule}
-use Rattle.wit_words.specs.declared.fault.Rule.TheVariants as rules
-use Rattle.wit_words.specs.declared.source_map.Span.{Span}
-use Rattle.wit_words.specs.declared.token.Kind.{Kind}
-use Rattle.wit_words.specs.declared.token.Kind.TheVariants as kind
+use Rattle.wit_tokens.specs.Passed.wit_words-declared-fault-Rule.{Rule}
+use Rattle.wit_tokens.specs.Passed.wit_words-declared-fault-Rule-TheVariants as rules
+use Rattle.wit_tokens.specs.Passed.wit_words-declared-source_map-Span.{Span}
+use Rattle.wit_tokens.specs.Passed.wit_words-declared-token-Kind.{Kind}
+use Rattle.wit_tokens.specs.Passed.wit_words-declared-token-Kind-TheVariants as kind
 use Rattle.wit_productions.specs.Broken.{IsBadNumber, count}
 use Rattle.wit_tokens.specs.Lex.{Text}
 use Rattle.wit_productions.specs.Place.{ahead}
 use Rattle.wit_productions.specs.Production.{Outcome, between, extent, located, Production, wrong, ◌>>=◌, ◌>>◌, yield, refuse, is_kind, sees, after, Stands, sign, one_at, one, spanned, slice_at, slice, docs_at, documented, branch, optional, Next, none, goes, leads_on, next_at, by_at, by, or_at, by_or_at, by_or, turns, repeat, comma_step, commas, until_step, until, many_step, many, some_commas, at_end_at, at_end, all_step, all, finish, next_then}
-use Rattle.wit_words.specs.Slice.{Slice}
-use Rattle.wit_words.specs.Token.{What, Tok, plain, number, version, ident, explicit, same_kind}
+use Rattle.wit_tokens.specs.Passed.wit_words-Slice.{Slice}
+use Rattle.wit_tokens.specs.Passed.wit_words-Token.{What, Tok, plain, number, version, ident, explicit, same_kind}
 use Rattle.wit_productions.specs.TypeGrammar.{begins_type}
 use Rattle.wit_productions.proofs.Laws.{bind_ok, bind_err, ok_parts, err_is, judged_err, kind_is, sees_is, after_unseen, one_law, slice_law, sign_law, spanned_err}
-use Rattle.wit_words.proofs.SameKinds.{same_self}
+use Rattle.wit_tokens.proofs.Passed.wit_words-SameKinds.{same_self}
 
 -- ---- counts
 

@@ -1,11 +1,11 @@
 -- Of a text of a production nothing but want of memory is a cause of a refusal.
 use Rattle.std.proofs.Common.{◌≡◌, ℕ, List, [], ◌++◌, refl, subst, ◌∙◌, arith, inl, inr}
-use Rattle.wit_words.specs.declared.fault.Rule.{Rule}
-use Rattle.wit_words.specs.declared.fault.SyntaxFault.{SyntaxFault}
-use Rattle.wit_words.specs.declared.fault.SyntaxFault.TheVariants as faults
-use Rattle.wit_words.specs.declared.source_map.Span.{Span}
+use Rattle.wit_tokens.specs.Passed.wit_words-declared-fault-Rule.{Rule}
+use Rattle.wit_tokens.specs.Passed.wit_words-declared-fault-SyntaxFault.{SyntaxFault}
+use Rattle.wit_tokens.specs.Passed.wit_words-declared-fault-SyntaxFault-TheVariants as faults
+use Rattle.wit_tokens.specs.Passed.wit_words-declared-source_map-Span.{Span}
 use Rattle.wit_tokens.specs.Lex.{Text}
-use Rattle.wit_words.specs.Token.{Tok}
+use Rattle.wit_tokens.specs.Passed.wit_words-Token.{Tok}
 use Rattle.wit_tokens.proofs.Lexemes.{one_lexing}
 use Rattle.wit_tokens.proofs.OneBreak.{no_tokens}
 use Rattle.wit_productions.specs.Broken.{IsBrokenTree, IsSyntaxFault}

@@ -3,14 +3,14 @@ use Rattle.std.proofs.Common.{◌≡◌, ℕ, zero, suc, ◌<◌, ◌≤◌, Boo
 use Rattle.std.proofs.lemmas.Bool.{cases_Bool}
 use Rattle.std.proofs.lemmas.List.{length-append}
 use Rattle.wit_productions.specs.declared.fault.Fault.{Fault}
-use Rattle.wit_words.specs.declared.fault.Rule.{Rule}
-use Rattle.wit_words.specs.declared.fault.Rule.TheVariants as rule
-use Rattle.wit_words.specs.declared.token.Kind.{Kind}
-use Rattle.wit_words.specs.Token.{What, Tok, plain, number, version, ident, explicit, same_kind}
+use Rattle.wit_tokens.specs.Passed.wit_words-declared-fault-Rule.{Rule}
+use Rattle.wit_tokens.specs.Passed.wit_words-declared-fault-Rule-TheVariants as rule
+use Rattle.wit_tokens.specs.Passed.wit_words-declared-token-Kind.{Kind}
+use Rattle.wit_tokens.specs.Passed.wit_words-Token.{What, Tok, plain, number, version, ident, explicit, same_kind}
 use Rattle.wit_productions.specs.Production.{Outcome, Production, ◌>>=◌, yield, is_kind, sees, sign, one, slice, branch, Next, none, goes, leads_on, next_at, next_front, by_at, by, Chosen, or_at, by_or_at, by_or, turns, repeat}
 use Rattle.wit_productions.specs.Place.{ahead}
 use Rattle.wit_productions.proofs.Laws.{Clear, Moves, Stuck, Suffix, Law, Avoids, err_is, ahead_is, ahead_none, ahead_more, NextLaw, kind_is}
-use Rattle.wit_words.proofs.SameKinds.{same_is}
+use Rattle.wit_tokens.proofs.Passed.wit_words-SameKinds.{same_is}
 
 next_found : {X : Type 0} (ends : List Kind) (whole : List Tok) (n : Next X) → NextLaw ends n → (ts : List Tok) (x : X) (rest : List Tok) → next_at whole n ts ≡ Ok (x, rest) → next_front n x ts rest
 next_found ends whole none l ts x rest e = absurd cc

@@ -1,8 +1,8 @@
 -- The number that digits write.
 use Rattle.std.proofs.Common.{◌≡◌, ℕ, ◌+◌, ◌-◌, ◌*◌, ◌^◌, ◌≤◌, nat_le, [], ◌∷◌, Option, Some, None, Result, Err, arith, rules, refl, sym, inl, inr}
 use Rattle.std.proofs.lemmas.Bool.{cases_Bool, leb-true}
-use Rattle.wit_words.specs.declared.fault.Rule.{Rule}
-use Rattle.wit_words.specs.declared.fault.Rule.TheVariants.{BadNumber}
+use Rattle.wit_tokens.specs.Passed.wit_words-declared-fault-Rule.{Rule}
+use Rattle.wit_tokens.specs.Passed.wit_words-declared-fault-Rule-TheVariants.{BadNumber}
 use Rattle.wit_tokens.specs.Lex.{Text}
 use Rattle.wit_productions.specs.TypeGrammar.{decimal, decimal_after, list_length, longer}
 

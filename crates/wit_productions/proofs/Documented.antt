@@ -1,9 +1,9 @@
 -- What is read with the docs in front of it.
 use Rattle.std.proofs.Common.{◌≡◌, ◌<◌, List, [], ◌∷◌, ◌++◌, length, Ok, Err, refl, sym, ap, ◌∙◌, arith, inl, inr}
 use Rattle.wit_productions.specs.declared.fault.Fault.{Fault}
-use Rattle.wit_words.specs.declared.token.Kind.{Kind}
-use Rattle.wit_words.specs.Slice.{Slice}
-use Rattle.wit_words.specs.Token.{Tok}
+use Rattle.wit_tokens.specs.Passed.wit_words-declared-token-Kind.{Kind}
+use Rattle.wit_tokens.specs.Passed.wit_words-Slice.{Slice}
+use Rattle.wit_tokens.specs.Passed.wit_words-Token.{Tok}
 use Rattle.wit_productions.specs.Production.{Outcome, Production, docs_at, Documents, documented}
 use Rattle.wit_productions.proofs.Laws.{Stuck, Law, Avoids, bind_ok, bind_err, both, ok_parts}
 use Rattle.wit_productions.proofs.Choices.{Goes}

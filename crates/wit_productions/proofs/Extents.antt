@@ -1,8 +1,8 @@
 -- Where tokens begin and end.
 use Rattle.std.proofs.Common.{◌≡◌, ℕ, zero, suc, ◌-◌, ◌≤◌, List, [], ◌∷◌, length, refl, sym, ap, arith, slice_index_or}
-use Rattle.wit_words.specs.declared.source_map.Span.{Span}
-use Rattle.wit_words.specs.declared.token.DocumentedToken.{DocumentedToken}
-use Rattle.wit_words.specs.Token.{tok, toks}
+use Rattle.wit_tokens.specs.Passed.wit_words-declared-source_map-Span.{Span}
+use Rattle.wit_tokens.specs.Passed.wit_words-declared-token-DocumentedToken.{DocumentedToken}
+use Rattle.wit_tokens.specs.Passed.wit_words-Token.{tok, toks}
 use Rattle.wit_productions.specs.Production.{last_end, extent}
 
 last_is : (n : ℕ) (t : DocumentedToken) (ts : List DocumentedToken) (d : DocumentedToken) → n ≡ length ts → d ≡ slice_index_or (t ∷ ts) n d → last_end (tok t) (toks ts) ≡ d.span.end

@@ -2,15 +2,15 @@
 use Rattle.std.proofs.Common.{◌≡◌, ◌⊎◌, ℕ, Bool, true, false, cond, List, [], ◌∷◌, ◌++◌, length, Option, Some, None, Result, Ok, Err, refl, sym, ap, subst, ◌∙◌, inl, inr, append_assoc}
 use Rattle.std.proofs.lemmas.Bool.{cases_Bool}
 use Rattle.wit_productions.specs.declared.fault.Fault.{Fault}
-use Rattle.wit_words.specs.declared.fault.Rule.{Rule}
-use Rattle.wit_words.specs.declared.fault.Rule.TheVariants as rule
-use Rattle.wit_words.specs.declared.token.Kind.{Kind}
-use Rattle.wit_words.specs.declared.source_map.Span.{Span}
-use Rattle.wit_words.specs.Slice.{Slice}
-use Rattle.wit_words.specs.Token.{What, Tok, plain, number, version, ident, explicit}
+use Rattle.wit_tokens.specs.Passed.wit_words-declared-fault-Rule.{Rule}
+use Rattle.wit_tokens.specs.Passed.wit_words-declared-fault-Rule-TheVariants as rule
+use Rattle.wit_tokens.specs.Passed.wit_words-declared-token-Kind.{Kind}
+use Rattle.wit_tokens.specs.Passed.wit_words-declared-source_map-Span.{Span}
+use Rattle.wit_tokens.specs.Passed.wit_words-Slice.{Slice}
+use Rattle.wit_tokens.specs.Passed.wit_words-Token.{What, Tok, plain, number, version, ident, explicit}
 use Rattle.wit_productions.specs.Production.{Outcome, Production, wrong, and_then, ◌>>=◌, yield, refuse, is_kind, sees, after, Stands, sign, judged, one_at, one, spanned, slice_at, slice, branch, Next, none, goes}
 use Rattle.wit_productions.specs.Place.{ahead}
-use Rattle.wit_words.proofs.SameKinds.{same_is, same_self}
+use Rattle.wit_tokens.proofs.Passed.wit_words-SameKinds.{same_is, same_self}
 
 -- ---- what stands next
 

@@ -3,9 +3,9 @@ use Rattle.std.proofs.Common.{◌≡◌, ◌<◌, ◌≤◌, length, arith, true
 use Rattle.std.specs.Result.{result_and}
 use Rattle.wit_productions.specs.declared.fault.ReadError.{ReadError}
 use Rattle.wit_productions.specs.declared.fault.ReadError.TheVariants as errors
-use Rattle.wit_words.specs.declared.token.Kind.{Kind}
-use Rattle.wit_words.specs.declared.token.Kind.TheVariants as kind
-use Rattle.wit_words.specs.Token.{Tok}
+use Rattle.wit_tokens.specs.Passed.wit_words-declared-token-Kind.{Kind}
+use Rattle.wit_tokens.specs.Passed.wit_words-declared-token-Kind-TheVariants as kind
+use Rattle.wit_tokens.specs.Passed.wit_words-Token.{Tok}
 use Rattle.wit_productions.specs.Production.{Outcome, Production, Takes, Reads, Fails, and_then, sees, after, sign, branch, commas, until, at_end_at, all_step, all, many, ◌>>=◌, yield, onto}
 use Rattle.wit_productions.proofs.Laws.{after_unseen}
 use Rattle.wit_productions.proofs.Turns.{comma_turn, until_turn, all_turn, many_turn}

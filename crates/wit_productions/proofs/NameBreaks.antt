@@ -1,8 +1,8 @@
 -- What stands where a name or a path breaks a rule.
 use Rattle.std.proofs.Common.{refl, inl}
-use Rattle.wit_words.specs.declared.token.Kind.TheVariants as kind
-use Rattle.wit_words.specs.Slice.{Slice}
-use Rattle.wit_words.specs.Token.{same_kind}
+use Rattle.wit_tokens.specs.Passed.wit_words-declared-token-Kind-TheVariants as kind
+use Rattle.wit_tokens.specs.Passed.wit_words-Slice.{Slice}
+use Rattle.wit_tokens.specs.Passed.wit_words-Token.{same_kind}
 use Rattle.wit_productions.specs.Production.{optional}
 use Rattle.wit_productions.specs.Terminal.{version}
 use Rattle.wit_productions.specs.NameGrammar.{package_behind, package_name, path_behind, use_path, whole_use_path}

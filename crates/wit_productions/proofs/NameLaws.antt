@@ -1,9 +1,9 @@
 -- Each production of names is read as it says.
 use Rattle.std.proofs.Common.{[], ◌∷◌, List, refl}
-use Rattle.wit_words.specs.declared.token.Kind.{Kind}
-use Rattle.wit_words.specs.declared.token.Kind.TheVariants as kind
-use Rattle.wit_words.specs.Slice.{Slice}
-use Rattle.wit_words.specs.Token.{same_kind}
+use Rattle.wit_tokens.specs.Passed.wit_words-declared-token-Kind.{Kind}
+use Rattle.wit_tokens.specs.Passed.wit_words-declared-token-Kind-TheVariants as kind
+use Rattle.wit_tokens.specs.Passed.wit_words-Slice.{Slice}
+use Rattle.wit_tokens.specs.Passed.wit_words-Token.{same_kind}
 use Rattle.wit_productions.specs.Production.{sign, optional}
 use Rattle.wit_productions.specs.Terminal.{id, version}
 use Rattle.wit_productions.specs.NameGrammar.{package_behind, package_name, path_behind, use_path, whole_use_path}

@@ -1,6 +1,6 @@
 -- One reading behind another.
 use Rattle.std.proofs.Common.{◌≡◌, List, refl, Ok, Err}
-use Rattle.wit_words.specs.Token.{Tok}
+use Rattle.wit_tokens.specs.Passed.wit_words-Token.{Tok}
 use Rattle.wit_productions.specs.Production.{Outcome, and_then}
 
 pub then_same : {A B : Type 0} (o : Outcome A) {f g : A → List Tok → Outcome B} → ((x : A) (rest : List Tok) → f x rest ≡ g x rest) → and_then o f ≡ and_then o g

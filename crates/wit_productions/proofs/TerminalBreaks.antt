@@ -4,15 +4,15 @@ use Rattle.std.specs.Prelude.{IsOk, is_ok}
 use Rattle.std.proofs.lemmas.Bool.{cases_Bool}
 use Rattle.semver.specs.Parse.{version_parts}
 use Rattle.wit_productions.specs.declared.fault.Fault.{Fault}
-use Rattle.wit_words.specs.declared.fault.Rule.{Rule}
-use Rattle.wit_words.specs.declared.fault.Rule.TheVariants as rules
-use Rattle.wit_words.specs.declared.token.Kind.{Kind}
-use Rattle.wit_words.specs.declared.token.Kind.TheVariants as kind
+use Rattle.wit_tokens.specs.Passed.wit_words-declared-fault-Rule.{Rule}
+use Rattle.wit_tokens.specs.Passed.wit_words-declared-fault-Rule-TheVariants as rules
+use Rattle.wit_tokens.specs.Passed.wit_words-declared-token-Kind.{Kind}
+use Rattle.wit_tokens.specs.Passed.wit_words-declared-token-Kind-TheVariants as kind
 use Rattle.wit_tokens.specs.Lex.{Text}
 use Rattle.wit_productions.specs.Production.{Stands, spanned, slice_at}
-use Rattle.wit_words.specs.Slice.{Slice}
+use Rattle.wit_tokens.specs.Passed.wit_words-Slice.{Slice}
 use Rattle.wit_productions.specs.Terminal.{id_in, id, version_in, version, word_in, word}
-use Rattle.wit_words.specs.Token.{What, Tok, plain, number, version as version_token, ident, explicit, same_kind}
+use Rattle.wit_tokens.specs.Passed.wit_words-Token.{What, Tok, plain, number, version as version_token, ident, explicit, same_kind}
 use Rattle.wit_productions.proofs.Laws.{judged_err, spanned_err}
 use Rattle.wit_productions.proofs.BracketLaws.{Tells, Behind, Break, Said, Asked, said_plain, wrong_break, break_on, level_on, stands_level, slice_level, tells_one, tells_slice}
 

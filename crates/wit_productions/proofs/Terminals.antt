@@ -1,10 +1,10 @@
 -- Tokens by what they say, optional parts, and the end.
 use Rattle.std.proofs.Common.{◌≡◌, ℕ, List, [], ◌∷◌, refl, true, false, Option, Some, None, Ok, inl, inr}
-use Rattle.wit_words.specs.declared.fault.Rule.TheVariants as rules
-use Rattle.wit_words.specs.declared.token.Kind.{Kind}
-use Rattle.wit_words.specs.Slice.{Slice}
+use Rattle.wit_tokens.specs.Passed.wit_words-declared-fault-Rule-TheVariants as rules
+use Rattle.wit_tokens.specs.Passed.wit_words-declared-token-Kind.{Kind}
+use Rattle.wit_tokens.specs.Passed.wit_words-Slice.{Slice}
 use Rattle.wit_productions.specs.Terminal.{id_in, id, version_in, version, word_in, word}
-use Rattle.wit_words.specs.Token.{What, Tok, plain, number, version as version_token, ident, explicit}
+use Rattle.wit_tokens.specs.Passed.wit_words-Token.{What, Tok, plain, number, version as version_token, ident, explicit}
 use Rattle.wit_productions.specs.Production.{Production, ◌>>=◌, Next, leads_on, yield, refuse, optional, sees, finish}
 use Rattle.wit_productions.proofs.Laws.{Clear, Law, Avoids, bind_open, yield_law, refuse_law, one_law, slice_law, branch_law}
 use Rattle.wit_productions.proofs.Choices.{Goes, Beyond, avoid_yield, avoid_slice, goes_slice, is_within}

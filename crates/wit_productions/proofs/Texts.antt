@@ -5,17 +5,17 @@ use Rattle.std.proofs.lemmas.List.{length-map}
 use Rattle.std.specs.Prelude.{IfOk, IfErr}
 use Rattle.std.specs.declared.alloc.Global.{Global}
 use Rattle.wit_productions.specs.declared.fault.Fault.{Fault}
-use Rattle.wit_words.specs.declared.fault.Rule.{Rule}
-use Rattle.wit_words.specs.declared.fault.SyntaxFault.{SyntaxFault}
-use Rattle.wit_words.specs.declared.fault.SyntaxFault.TheVariants as faults
-use Rattle.wit_words.specs.declared.source_map.Span.{Span}
-use Rattle.wit_words.specs.declared.token.DocumentedToken.{DocumentedToken}
+use Rattle.wit_tokens.specs.Passed.wit_words-declared-fault-Rule.{Rule}
+use Rattle.wit_tokens.specs.Passed.wit_words-declared-fault-SyntaxFault.{SyntaxFault}
+use Rattle.wit_tokens.specs.Passed.wit_words-declared-fault-SyntaxFault-TheVariants as faults
+use Rattle.wit_tokens.specs.Passed.wit_words-declared-source_map-Span.{Span}
+use Rattle.wit_tokens.specs.Passed.wit_words-declared-token-DocumentedToken.{DocumentedToken}
 use Rattle.wit_productions.specs.Broken.{place_of, IsBrokenTree, IsSyntaxFault}
 use Rattle.wit_tokens.specs.Lex.{Text}
 use Rattle.wit_tokens.specs.Lexical.{LexesText}
-use Rattle.wit_words.specs.Outcome.{AnswersText}
+use Rattle.wit_tokens.specs.Passed.wit_words-Outcome.{AnswersText}
 use Rattle.wit_productions.specs.Production.{Production, Outcome, ◌>>=◌, at_end, all, all_step, turns, finish, yield}
-use Rattle.wit_words.specs.Token.{Tok, tok, toks}
+use Rattle.wit_tokens.specs.Passed.wit_words-Token.{Tok, tok, toks}
 use Rattle.wit_productions.specs.WholeText.{IsTextOf, place_at, AgreesWith, GivesTree}
 use Rattle.wit_productions.proofs.Laws.{Law, ok_parts}
 use Rattle.wit_tokens.proofs.Lexemes.{one_lexing}

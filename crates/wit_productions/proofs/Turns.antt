@@ -3,10 +3,10 @@ use Rattle.std.proofs.Common.{◌≡◌, ℕ, zero, suc, ◌+◌, ◌<◌, true,
 use Rattle.std.proofs.lemmas.Bool.{cases_Bool}
 use Rattle.std.proofs.lemmas.List.{length-append}
 use Rattle.wit_productions.specs.declared.fault.Fault.{Fault}
-use Rattle.wit_words.specs.declared.fault.Rule.TheVariants as rule
-use Rattle.wit_words.specs.declared.token.Kind.{Kind}
-use Rattle.wit_words.specs.declared.token.Kind.TheVariants as kind
-use Rattle.wit_words.specs.Token.{Tok, same_kind}
+use Rattle.wit_tokens.specs.Passed.wit_words-declared-fault-Rule-TheVariants as rule
+use Rattle.wit_tokens.specs.Passed.wit_words-declared-token-Kind.{Kind}
+use Rattle.wit_tokens.specs.Passed.wit_words-declared-token-Kind-TheVariants as kind
+use Rattle.wit_tokens.specs.Passed.wit_words-Token.{Tok, same_kind}
 use Rattle.wit_productions.specs.Production.{Outcome, Production, and_then, ◌>>=◌, ◌>>◌, yield, sees, after, sign, branch, turns, repeat, comma_step, commas, some_commas, until_step, until, at_end_at, at_end, all_step, all, many_step, many, Takes, Next, none, goes, next_then}
 use Rattle.wit_productions.specs.Place.{ahead}
 use Rattle.wit_productions.proofs.Laws.{Clear, Moves, Stuck, Suffix, Law, Avoids, refuse_law, bind_law, bind_open, yield_law, sign_law, branch_law, sees_is, NextLaw, ok_parts, ahead_more, ahead_none, ahead_is}

@@ -1,12 +1,12 @@
 -- What stands where the text of a type breaks a rule.
 use Rattle.std.proofs.Common.{◌≡◌, ◌⊎◌, ℕ, zero, suc, ◌+◌, ◌≤◌, ◌^◌, ◌==◌, nat_le, Bool, true, false, if◌then◌else◌, List, ◌∷◌, Some, Result, Ok, Err, refl, sym, ap, ◌∙◌, inl, inr, arith, rules}
 use Rattle.std.proofs.lemmas.Bool.{cases_Bool, leb-true}
-use Rattle.wit_words.specs.declared.fault.Rule.{Rule}
-use Rattle.wit_words.specs.declared.fault.Rule.TheVariants as rule
-use Rattle.wit_words.specs.declared.token.Kind.TheVariants as kind
+use Rattle.wit_tokens.specs.Passed.wit_words-declared-fault-Rule.{Rule}
+use Rattle.wit_tokens.specs.Passed.wit_words-declared-fault-Rule-TheVariants as rule
+use Rattle.wit_tokens.specs.Passed.wit_words-declared-token-Kind-TheVariants as kind
 use Rattle.wit_productions.specs.Broken.{IsBadNumber}
 use Rattle.wit_productions.specs.Production.{Production, one, located, optional, commas}
-use Rattle.wit_words.specs.Token.{What, Tok, plain, number, version, ident, explicit, same_kind}
+use Rattle.wit_tokens.specs.Passed.wit_words-Token.{What, Tok, plain, number, version, ident, explicit, same_kind}
 use Rattle.wit_productions.specs.TypeGrammar.{decimal, list_length, length_in, list_len, list_after, option_after, tuple_after, result_parts, result_after, handle_of, payload, type_after, begins_type, too_deep, named_type, shape_of, type_in, any_type, whole_type}
 use Rattle.wit_productions.specs.TypeTree.{TypeTree}
 use Rattle.wit_productions.specs.Terminal.{id}

@@ -1,8 +1,8 @@
 -- Each production of types is read as it says.
 use Rattle.std.proofs.Common.{◌≡◌, ℕ, zero, suc, List, [], ◌∷◌, refl, ap, ◌∙◌, Option}
-use Rattle.wit_words.specs.declared.token.Kind.{Kind}
-use Rattle.wit_words.specs.declared.token.Kind.TheVariants as kind
-use Rattle.wit_words.specs.Token.{What, Tok, plain, same_kind}
+use Rattle.wit_tokens.specs.Passed.wit_words-declared-token-Kind.{Kind}
+use Rattle.wit_tokens.specs.Passed.wit_words-declared-token-Kind-TheVariants as kind
+use Rattle.wit_tokens.specs.Passed.wit_words-Token.{What, Tok, plain, same_kind}
 use Rattle.wit_productions.specs.Terminal.{id}
 use Rattle.wit_productions.specs.TypeTree.{TypeTree, TypeShape}
 use Rattle.wit_productions.specs.Production.{Production, Takes, located, ◌>>=◌, yield, Next, none, goes, next_at, or_at, by_or}

@@ -1,7 +1,7 @@
 -- The productions of types, by those of the last of their parts.
 use Rattle.std.proofs.Common.{◌≡◌, ℕ, List, refl, ap, Option, Some, None, Ok, Err, Bool, true, false, if◌then◌else◌}
-use Rattle.wit_words.specs.declared.token.Kind.TheVariants as kind
-use Rattle.wit_words.specs.Token.{Tok}
+use Rattle.wit_tokens.specs.Passed.wit_words-declared-token-Kind-TheVariants as kind
+use Rattle.wit_tokens.specs.Passed.wit_words-Token.{Tok}
 use Rattle.wit_productions.specs.TypeTree as tree
 use Rattle.wit_productions.specs.TypeTree.{TypeTree, TypeShape, opt, no_type, a_type}
 use Rattle.wit_productions.specs.Production.{Outcome, Production, and_then, sees, after, sign, branch, optional, ◌>>=◌, ◌>>◌, yield}

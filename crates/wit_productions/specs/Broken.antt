@@ -1,19 +1,19 @@
 -- Why a text of tokens isn't taken.
 use Rattle.std.specs.Prelude.{◌≡◌, ℕ, suc, ◌+◌, ◌^◌, ◌≤◌, ◌⊎◌, true, if◌then◌else◌, List, [], ◌∷◌, ◌++◌, length, Some, IsOk}
 use Rattle.semver.specs.Parse.{version_parts}
-use Rattle.wit_words.specs.declared.fault.Rule.{Rule}
-use Rattle.wit_words.specs.declared.fault.Rule.TheVariants as rules
-use Rattle.wit_words.specs.declared.fault.SyntaxFault.{SyntaxFault}
-use Rattle.wit_words.specs.declared.fault.SyntaxFault.TheVariants as faults
-use Rattle.wit_words.specs.declared.source_map.Span.{Span}
-use Rattle.wit_words.specs.declared.token.Kind.{Kind}
-use Rattle.wit_words.specs.declared.token.Kind.TheVariants as kind
+use Rattle.wit_tokens.specs.Passed.wit_words-declared-fault-Rule.{Rule}
+use Rattle.wit_tokens.specs.Passed.wit_words-declared-fault-Rule-TheVariants as rules
+use Rattle.wit_tokens.specs.Passed.wit_words-declared-fault-SyntaxFault.{SyntaxFault}
+use Rattle.wit_tokens.specs.Passed.wit_words-declared-fault-SyntaxFault-TheVariants as faults
+use Rattle.wit_tokens.specs.Passed.wit_words-declared-source_map-Span.{Span}
+use Rattle.wit_tokens.specs.Passed.wit_words-declared-token-Kind.{Kind}
+use Rattle.wit_tokens.specs.Passed.wit_words-declared-token-Kind-TheVariants as kind
 use Rattle.wit_tokens.specs.Cause.{IsLexFault, IsBrokenText}
 use Rattle.wit_tokens.specs.Lex.{Text}
 use Rattle.wit_tokens.specs.Lexical.{LexesText}
 use Rattle.wit_productions.specs.Place.{ahead}
 use Rattle.wit_productions.specs.Production.{Production, is_kind}
-use Rattle.wit_words.specs.Token.{What, Tok, plain, number, version}
+use Rattle.wit_tokens.specs.Passed.wit_words-Token.{What, Tok, plain, number, version}
 use Rattle.wit_productions.specs.TypeGrammar.{decimal, begins_type}
 
 -- a number stands there that is 0 or above 4,294,967,295

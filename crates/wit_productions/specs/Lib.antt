@@ -9,3 +9,4 @@ pub mod TypeGrammar
 pub mod TypeView
 pub mod WholeText
 pub mod Broken
+pub mod Passed

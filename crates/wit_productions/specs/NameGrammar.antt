@@ -1,6 +1,6 @@
 -- The grammar of names of packages and of paths (WIT, Package Names).
-use Rattle.wit_words.specs.declared.token.Kind.TheVariants as kind
-use Rattle.wit_words.specs.Slice.{Slice}
+use Rattle.wit_tokens.specs.Passed.wit_words-declared-token-Kind-TheVariants as kind
+use Rattle.wit_tokens.specs.Passed.wit_words-Slice.{Slice}
 use Rattle.wit_productions.specs.NameTree as tree
 use Rattle.wit_productions.specs.NameTree.{PackageNameTree, UsePathTree}
 use Rattle.wit_productions.specs.Production.{Production, ◌>>=◌, ◌>>◌, yield, sign, branch, optional, finish}

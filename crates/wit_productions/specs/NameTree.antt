@@ -1,6 +1,6 @@
 -- Names of packages and paths, without where they lie in memory (WIT, Package Names).
 use Rattle.std.specs.Prelude.{Option}
-use Rattle.wit_words.specs.Slice.{Slice}
+use Rattle.wit_tokens.specs.Passed.wit_words-Slice.{Slice}
 
 -- namespace:name@version
 pub record PackageNameTree : Type 0 where

@@ -1,8 +1,8 @@
 -- Names, versions, paths and docs as values.
 use Rattle.std.specs.Prelude.{List, map, option_map}
-use Rattle.wit_words.specs.declared.docs.Docs.{Docs}
-use Rattle.wit_words.specs.Slice.{Slice}
-use Rattle.wit_words.specs.Token.{comment}
+use Rattle.wit_tokens.specs.Passed.wit_words-declared-docs-Docs.{Docs}
+use Rattle.wit_tokens.specs.Passed.wit_words-Slice.{Slice}
+use Rattle.wit_tokens.specs.Passed.wit_words-Token.{comment}
 use Rattle.wit_productions.specs.declared.names.Id.{Id}
 use Rattle.wit_productions.specs.declared.names.Version.{Version}
 use Rattle.wit_productions.specs.declared.names.PackageName.{PackageName}

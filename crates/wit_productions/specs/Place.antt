@@ -1,6 +1,6 @@
 -- What stands next.
 use Rattle.std.specs.Prelude.{List, [], ◌∷◌, Option, Some, None}
-use Rattle.wit_words.specs.Token.{What, Tok}
+use Rattle.wit_tokens.specs.Passed.wit_words-Token.{What, Tok}
 
 -- the next token, if any, whatever docs are in front of it, and wherever it stands
 abbrev pub ahead : List Tok → Option What

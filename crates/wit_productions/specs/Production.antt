@@ -1,15 +1,15 @@
 -- Productions: which tokens stand for which value between two places, and the reading from left to right that finds it.
 use Rattle.std.specs.Prelude.{◌≡◌, ℕ, zero, suc, ◌-◌, ◌<◌, ◌⊎◌, List, [], ◌∷◌, ◌++◌, length, take, Option, Some, None, Result, Ok, Err, Bool, true, false, if◌then◌else◌}
 use Rattle.wit_productions.specs.declared.fault.Fault.{Fault}
-use Rattle.wit_words.specs.declared.fault.Rule.{Rule}
-use Rattle.wit_words.specs.declared.fault.Rule.TheVariants as rules
+use Rattle.wit_tokens.specs.Passed.wit_words-declared-fault-Rule.{Rule}
+use Rattle.wit_tokens.specs.Passed.wit_words-declared-fault-Rule-TheVariants as rules
 use Rattle.wit_productions.specs.declared.fault.ReadError.{ReadError}
 use Rattle.wit_productions.specs.declared.fault.ReadError.TheVariants as errors
-use Rattle.wit_words.specs.declared.token.Kind.{Kind}
-use Rattle.wit_words.specs.declared.token.Kind.TheVariants as kind
-use Rattle.wit_words.specs.declared.source_map.Span.{Span}
-use Rattle.wit_words.specs.Slice.{Slice}
-use Rattle.wit_words.specs.Token.{What, Tok, plain, number, version, ident, explicit, same_kind}
+use Rattle.wit_tokens.specs.Passed.wit_words-declared-token-Kind.{Kind}
+use Rattle.wit_tokens.specs.Passed.wit_words-declared-token-Kind-TheVariants as kind
+use Rattle.wit_tokens.specs.Passed.wit_words-declared-source_map-Span.{Span}
+use Rattle.wit_tokens.specs.Passed.wit_words-Slice.{Slice}
+use Rattle.wit_tokens.specs.Passed.wit_words-Token.{What, Tok, plain, number, version, ident, explicit, same_kind}
 
 abbrev pub Outcome : Type 0 → Type 0
 Outcome A = Result (A × List Tok) Fault

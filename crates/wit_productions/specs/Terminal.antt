@@ -1,11 +1,11 @@
 -- Tokens that the grammar takes by what they say.
 use Rattle.std.specs.Prelude.{ℕ, List, if◌then◌else◌, Result, Ok, Err, is_ok, bytes_eq}
 use Rattle.semver.specs.Parse.{version_parts}
-use Rattle.wit_words.specs.declared.fault.Rule.{Rule}
-use Rattle.wit_words.specs.declared.fault.Rule.TheVariants as rules
+use Rattle.wit_tokens.specs.Passed.wit_words-declared-fault-Rule.{Rule}
+use Rattle.wit_tokens.specs.Passed.wit_words-declared-fault-Rule-TheVariants as rules
 use Rattle.wit_productions.specs.Production.{Production, one, slice}
-use Rattle.wit_words.specs.Slice.{Slice}
-use Rattle.wit_words.specs.Token.{What, version as version_token, ident, explicit}
+use Rattle.wit_tokens.specs.Passed.wit_words-Slice.{Slice}
+use Rattle.wit_tokens.specs.Passed.wit_words-Token.{What, version as version_token, ident, explicit}
 
 abbrev pub id_in : What → Result (List ℕ) Rule
 id_in (ident s) = Ok s

@@ -1,14 +1,14 @@
 -- The grammar of types (WIT, Types).
 use Rattle.std.specs.Prelude.{ℕ, zero, suc, ◌+◌, ◌-◌, ◌*◌, ◌^◌, ◌==◌, ◌||◌, nat_le, Bool, true, if◌then◌else◌, [], ◌∷◌, Option, Some, None, Result, Ok, Err}
-use Rattle.wit_words.specs.declared.fault.Rule.{Rule}
-use Rattle.wit_words.specs.declared.fault.Rule.TheVariants as rules
-use Rattle.wit_words.specs.declared.token.Kind.TheVariants as kind
+use Rattle.wit_tokens.specs.Passed.wit_words-declared-fault-Rule.{Rule}
+use Rattle.wit_tokens.specs.Passed.wit_words-declared-fault-Rule-TheVariants as rules
+use Rattle.wit_tokens.specs.Passed.wit_words-declared-token-Kind-TheVariants as kind
 use Rattle.wit_tokens.specs.Lex.{Text}
-use Rattle.wit_words.specs.Token.{What, plain, number, ident, explicit}
+use Rattle.wit_tokens.specs.Passed.wit_words-Token.{What, plain, number, ident, explicit}
 use Rattle.wit_productions.specs.TypeTree as tree
 use Rattle.wit_productions.specs.TypeTree.{TypeTree, TypeShape, row, opt, no_type, a_type}
 use Rattle.wit_productions.specs.Production.{Production, ◌>>=◌, ◌>>◌, yield, refuse, sign, one, located, branch, optional, Next, none, goes, leads_on, by_or, commas, finish}
-use Rattle.wit_words.specs.Slice.{Slice}
+use Rattle.wit_tokens.specs.Passed.wit_words-Slice.{Slice}
 use Rattle.wit_productions.specs.Terminal.{id}
 
 -- ---- the length of a list

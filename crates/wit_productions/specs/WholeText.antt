@@ -2,16 +2,16 @@
 use Rattle.std.specs.Prelude.{◌≡◌, ℕ, ◌+◌, ◌-◌, ◌^◌, ◌<◌, List, [], length, drop, Result, Ok, Err}
 use Rattle.wit_productions.specs.declared.fault.ReadError.{ReadError}
 use Rattle.wit_productions.specs.declared.fault.ReadError.TheVariants as errors
-use Rattle.wit_words.specs.declared.fault.SyntaxFault.{SyntaxFault}
-use Rattle.wit_words.specs.declared.fault.SyntaxFault.TheVariants as faults
-use Rattle.wit_words.specs.declared.source_map.Span.{Span}
+use Rattle.wit_tokens.specs.Passed.wit_words-declared-fault-SyntaxFault.{SyntaxFault}
+use Rattle.wit_tokens.specs.Passed.wit_words-declared-fault-SyntaxFault-TheVariants as faults
+use Rattle.wit_tokens.specs.Passed.wit_words-declared-source_map-Span.{Span}
 use Rattle.wit_productions.specs.NameTree.{UsePathTree}
 use Rattle.wit_productions.specs.Broken.{place_of}
 use Rattle.wit_productions.specs.NameGrammar.{whole_use_path}
 use Rattle.wit_tokens.specs.Lex.{Text}
 use Rattle.wit_tokens.specs.Lexical.{LexesText}
 use Rattle.wit_productions.specs.Production.{Production, Outcome}
-use Rattle.wit_words.specs.Token.{Tok}
+use Rattle.wit_tokens.specs.Passed.wit_words-Token.{Tok}
 use Rattle.wit_productions.specs.TypeGrammar.{whole_type}
 use Rattle.wit_productions.specs.TypeTree.{TypeTree}
 

@@ -1,7 +1,7 @@
 //! A cursor over tokens.
 
 ghost use Rattle.std.specs.Prelude.{◌≡◌, ◌<◌, ◌∷◌, [], false, length, IfOk, IfErr, MatchOption};
-ghost use Rattle.wit_words.specs.Token.{Tok, what, toks};
+ghost use Rattle.wit_tokens.specs.Passed.wit_words-Token.{Tok, what, toks};
 ghost use Rattle.wit_productions.specs.Production as spec;
 ghost use Rattle.wit_productions.specs.Production.{Reads};
 ghost use Rattle.wit_productions.specs.NameView as view;
@@ -52,7 +52,7 @@ pub struct Cursor<'t, 'a> {
 
 impl<'t, 'a> Model for Cursor<'t, 'a> {
     ghost use Rattle.std.specs.Prelude.{List};
-    ghost use Rattle.wit_words.specs.Token.{Tok, toks};
+    ghost use Rattle.wit_tokens.specs.Passed.wit_words-Token.{Tok, toks};
 
     ghost Value = { List Tok };
 

@@ -1,7 +1,7 @@
 //! From tokens to names of packages, and paths.
 
 ghost use Rattle.std.specs.Prelude.{◌≡◌, option_map};
-ghost use Rattle.wit_words.specs.declared.token.Kind.TheVariants as kind;
+ghost use Rattle.wit_tokens.specs.Passed.wit_words-declared-token-Kind-TheVariants as kind;
 ghost use Rattle.wit_productions.specs.NameGrammar as spec;
 ghost use Rattle.wit_productions.specs.NameView as view;
 ghost use Rattle.wit_productions.specs.Production.{Reads, optional};

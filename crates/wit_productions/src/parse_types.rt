@@ -2,13 +2,13 @@
 
 ghost use Rattle.std.specs.Prelude.{◌≡◌, List, length, map, option_map, IfOk, IfErr};
 ghost use Rattle.wit_productions.specs.Production.{Reads, commas, next_at, one};
-ghost use Rattle.wit_words.specs.Token.{Tok, plain, what};
+ghost use Rattle.wit_tokens.specs.Passed.wit_words-Token.{Tok, plain, what};
 ghost use Rattle.wit_productions.specs.TypeGrammar as spec;
 ghost use Rattle.wit_productions.specs.TypeGrammar.{too_deep, type_in, type_after};
 ghost use Rattle.wit_productions.specs.TypeView.{type_shape, type_tree, boxed_tree};
 ghost use Rattle.wit_productions.specs.NameView.{id};
 ghost use Rattle.wit_productions.specs.declared.fault.ReadError.TheVariants.{Memory};
-ghost use Rattle.wit_words.specs.declared.token.Kind.TheVariants as kind;
+ghost use Rattle.wit_tokens.specs.Passed.wit_words-declared-token-Kind-TheVariants as kind;
 
 use crate::cursor::{Cursor, fault_at};
 use crate::fault::ReadError;

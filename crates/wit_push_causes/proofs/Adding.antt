@@ -6,10 +6,10 @@ use Rattle.wit_types.specs.declared.interface.Interface.{Interface}
 use Rattle.wit_types.specs.declared.world.WorldInclude.{WorldInclude}
 use Rattle.wit_plans.specs.declared.moves.MovedWorld.{MovedWorld}
 use Rattle.wit_joined.specs.Joined.{IncludesBreak, SidesClash, own_state, IsJoinedWorld}
-use Rattle.wit_graph_worlds.specs.Worlds.{State}
-use Rattle.wit_graph_worlds.specs.Added.{IsAdded, AreAdded, none_added, one_added, IsConflict, IsAddCause, AreAddCause}
-use Rattle.wit_graph_worlds.specs.declared.worlds.WorldFault.{WorldFault}
-use Rattle.wit_graph_worlds.specs.declared.worlds.WorldFault.TheVariants.{ItemNotFound, IncludeClash, ExportConflict, OutOfMemory}
+use Rattle.wit_groups.specs.Passed.wit_graph_worlds-Worlds.{State}
+use Rattle.wit_groups.specs.Passed.wit_graph_worlds-Added.{IsAdded, AreAdded, none_added, one_added, IsConflict, IsAddCause, AreAddCause}
+use Rattle.wit_groups.specs.Passed.wit_graph_worlds-declared-worlds-WorldFault.{WorldFault}
+use Rattle.wit_groups.specs.Passed.wit_graph_worlds-declared-worlds-WorldFault-TheVariants.{ItemNotFound, IncludeClash, ExportConflict, OutOfMemory}
 use Rattle.wit_push_causes.specs.Said.{SaidWorld, type_said, interface_said, world_said}
 use Rattle.wit_push_causes.proofs.Lists.{head_of, tail_of, not_empty, same_append, same_size}
 use Rattle.wit_push_causes.proofs.Moving.{SaidMoved, moved_world_said}

@@ -15,7 +15,7 @@ use Rattle.wit_types.specs.declared.world.WorldItem.{WorldItem}
 use Rattle.wit_types.specs.declared.world_key.WorldKey.{WorldKey}
 use Rattle.wit_types.specs.WorldKey.{spelled, known}
 use Rattle.wit_copies.specs.Same as same
-use Rattle.wit_graph_worlds.specs.Copies.{AreSameEntries, IsSameWorld}
+use Rattle.wit_groups.specs.Passed.wit_graph_worlds-Copies.{AreSameEntries, IsSameWorld}
 use Rattle.wit_push_causes.specs.Said
 use Rattle.wit_push_causes.specs.Said.{SaidEntry, stability_said, field_said, case_said, flag_said, enum_case_said, kind_said, type_said, param_said, function_said, item_said, entry_said, world_said}
 

@@ -13,11 +13,11 @@ use Rattle.wit_plans.specs.Checks.{Standing}
 use Rattle.wit_resources.specs.Natures.{natures}
 use Rattle.wit_resources.specs.declared.natures.Nature.{Nature}
 use Rattle.wit_shapes.specs.Shapes.{TypeBreaks}
-use Rattle.wit_graph_worlds.specs.Worlds.{Worlds, state}
-use Rattle.wit_graph_worlds.specs.declared.worlds.WorldFault.{WorldFault}
-use Rattle.wit_graph_worlds.specs.declared.worlds.WorldFault.TheVariants.{OutOfMemory}
-use Rattle.wit_graph_parts.specs.Interfaces.{Interfaces}
-use Rattle.wit_graph_parts.specs.Parts.{AreTypesAdded, TypesBreak, InterfaceBreaks, AreInterfacesAdded, InterfacesBreak, WorldBreaks, AreWorldsAdded, WorldsBreak, AreWorldsRefused}
+use Rattle.wit_groups.specs.Passed.wit_graph_worlds-Worlds.{Worlds, state}
+use Rattle.wit_groups.specs.Passed.wit_graph_worlds-declared-worlds-WorldFault.{WorldFault}
+use Rattle.wit_groups.specs.Passed.wit_graph_worlds-declared-worlds-WorldFault-TheVariants.{OutOfMemory}
+use Rattle.wit_groups.specs.Passed.wit_graph_parts-Interfaces.{Interfaces}
+use Rattle.wit_groups.specs.Passed.wit_graph_parts-Parts.{AreTypesAdded, TypesBreak, InterfaceBreaks, AreInterfacesAdded, InterfacesBreak, WorldBreaks, AreWorldsAdded, WorldsBreak, AreWorldsRefused}
 use Rattle.wit_push_causes.specs.Graphs.{AreSameRows}
 use Rattle.wit_push_causes.specs.Said.{names_said, type_said, interface_said, world_said}
 use Rattle.wit_push_causes.proofs.Lists.{same_append, same_size}

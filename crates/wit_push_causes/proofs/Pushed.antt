@@ -15,14 +15,14 @@ use Rattle.wit_finding.specs.Foreign.{AreForeignPlaces, ItemsBreak}
 use Rattle.wit_finding.specs.Packages.{PackagesBreak}
 use Rattle.wit_plans.specs.Plans.{Parts, standing, IsPlanned, PlanBreaks}
 use Rattle.wit_plans.specs.declared.plans.Sizes.{Sizes}
-use Rattle.wit_graph_worlds.specs.declared.worlds.WorldFault.{WorldFault}
-use Rattle.wit_graph_worlds.specs.declared.worlds.WorldFault.TheVariants as world
-use Rattle.wit_graph_parts.specs.Own.{own_parts}
-use Rattle.wit_graph_parts.specs.Parts.{AreTypesAdded}
-use Rattle.wit_graph_parts.specs.declared.fault.PushFault.{PushFault}
-use Rattle.wit_graph_parts.specs.declared.fault.PushFault.TheVariants.{GateVersion, DuplicatePackage, PackageNotFound, ItemNotFound, IncludeClash, ExportConflict, ForeignShape, OutOfMemory}
-use Rattle.wit_graph.specs.Graph.{Graph, Items, items_of, sizes}
-use Rattle.wit_graph.specs.Push.{ArePartsAdded, ShapesBreak, of_types, of_interfaces, of_worlds, WorldsRefuse, ArePlaces, IsPushed, ItemsMissing, not_found, left_out, not_included, IsPushCause}
+use Rattle.wit_groups.specs.Passed.wit_graph_worlds-declared-worlds-WorldFault.{WorldFault}
+use Rattle.wit_groups.specs.Passed.wit_graph_worlds-declared-worlds-WorldFault-TheVariants as world
+use Rattle.wit_groups.specs.Passed.wit_graph_parts-Own.{own_parts}
+use Rattle.wit_groups.specs.Passed.wit_graph_parts-Parts.{AreTypesAdded}
+use Rattle.wit_groups.specs.Passed.wit_graph_parts-declared-fault-PushFault.{PushFault}
+use Rattle.wit_groups.specs.Passed.wit_graph_parts-declared-fault-PushFault-TheVariants.{GateVersion, DuplicatePackage, PackageNotFound, ItemNotFound, IncludeClash, ExportConflict, ForeignShape, OutOfMemory}
+use Rattle.wit_groups.specs.Passed.wit_graph-Graph.{Graph, Items, items_of, sizes}
+use Rattle.wit_groups.specs.Passed.wit_graph-Push.{ArePartsAdded, ShapesBreak, of_types, of_interfaces, of_worlds, WorldsRefuse, ArePlaces, IsPushed, ItemsMissing, not_found, left_out, not_included, IsPushCause}
 use Rattle.wit_push_causes.specs.Asked.{AsksForOne}
 use Rattle.wit_push_causes.specs.Graphs.{IsSameGraph}
 use Rattle.wit_push_causes.specs.Said.{SaidPackage, names_said, package_said, type_said, interface_said, world_said}

@@ -5,7 +5,7 @@ use Rattle.std.specs.Prelude.{Vec}
 use Rattle.wit_order.specs.Places.{Rows}
 use Rattle.wit_types.specs.declared.interface.Interface.{Interface}
 use Rattle.wit_types.specs.declared.interface.TypeDef.{TypeDef}
-use Rattle.wit_graph_parts.specs.Interfaces.{IsRow, AreRows, no_rows, rows_and}
+use Rattle.wit_groups.specs.Passed.wit_graph_parts-Interfaces.{IsRow, AreRows, no_rows, rows_and}
 use Rattle.wit_push_causes.specs.Graphs.{HaveSameMembers, AreSameRows}
 use Rattle.wit_push_causes.specs.Said.{type_said, interface_said}
 use Rattle.wit_push_causes.proofs.Lists.{head_of, tail_of, not_empty}

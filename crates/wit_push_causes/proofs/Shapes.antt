@@ -18,7 +18,7 @@ use Rattle.wit_plans.specs.declared.moves.MovedWorld.{MovedWorld}
 use Rattle.wit_resources.specs.Natures.{a_resource, made_of, plain, holding, ref_nature, part_holds, one_holds, part_is_valid, all_valid, handle_nature, kind_nature, natures_from, natures}
 use Rattle.wit_resources.specs.declared.natures.Nature.{Nature}
 use Rattle.wit_shapes.specs.Shapes.{target, is_bad_handle, TypeBreaks, FunctionBreaks, ItemBreaks, SideBreaks}
-use Rattle.wit_graph_parts.specs.Parts.{InterfaceBreaks, WorldBreaks}
+use Rattle.wit_groups.specs.Passed.wit_graph_parts-Parts.{InterfaceBreaks, WorldBreaks}
 use Rattle.wit_push_causes.specs.Said
 use Rattle.wit_push_causes.specs.Said.{Text, Labelled, SaidKind, SaidType, SaidFunction, SaidInterface, SaidItem, SaidEntry, field_said, case_said, kind_said, type_said, function_said, interface_said, item_said, entry_said}
 use Rattle.wit_push_causes.proofs.Lists.{head_of, tail_of, not_empty, map_twice, any_twice, all_twice}

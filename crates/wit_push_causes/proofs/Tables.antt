@@ -5,7 +5,7 @@ use Rattle.std.specs.declared.alloc.Global.{Global}
 use Rattle.indexmap.specs.IndexMap.{insert_all}
 use Rattle.wit_types.specs.declared.interface.Interface.{Interface}
 use Rattle.wit_plans.specs.declared.moves.MovedWorld.{MovedWorld}
-use Rattle.wit_graph_worlds.specs.Names.{Pair, name_at, interface_names, world_names, AreNames}
+use Rattle.wit_groups.specs.Passed.wit_graph_worlds-Names.{Pair, name_at, interface_names, world_names, AreNames}
 use Rattle.wit_push_causes.specs.Said.{Text, SaidInterface, text_said, names_said, interface_said}
 use Rattle.wit_push_causes.proofs.Moving.{SaidMoved, moved_world_said}
 

@@ -9,9 +9,9 @@ use Rattle.wit_types.specs.declared.«package».PackageName.{PackageName}
 use Rattle.wit_types.specs.declared.«package».UnresolvedPackage.{UnresolvedPackage}
 use Rattle.wit_features.specs.Features.{FeatureSet}
 use Rattle.wit_package_order.specs.Packages.{DependsOn, IsOrder, AreAt}
-use Rattle.wit_graph_parts.specs.declared.fault.PushFault.{PushFault}
-use Rattle.wit_graph_parts.specs.declared.fault.PushFault.TheVariants.{OutOfMemory}
-use Rattle.wit_graph.specs.Graph.{Graph}
+use Rattle.wit_groups.specs.Passed.wit_graph_parts-declared-fault-PushFault.{PushFault}
+use Rattle.wit_groups.specs.Passed.wit_graph_parts-declared-fault-PushFault-TheVariants.{OutOfMemory}
+use Rattle.wit_groups.specs.Passed.wit_graph-Graph.{Graph}
 use Rattle.wit_groups.specs.Pushed.{ArePushed, OneIsRefused}
 use Rattle.wit_groups.specs.declared.fault.GroupFault.TheVariants.{PackageCycle, ComesTwice, Push}
 use Rattle.wit_push_causes.specs.Graphs.{AreSameRows, IsSameGraph}

@@ -4,10 +4,10 @@ use Rattle.wit_order.specs.Order.{Has}
 use Rattle.wit_types.specs.declared.«package».PackageName.{PackageName}
 use Rattle.wit_types.specs.declared.«package».UnresolvedPackage.{UnresolvedPackage}
 use Rattle.wit_features.specs.Features.{FeatureSet}
-use Rattle.wit_graph_parts.specs.declared.fault.PushFault.{PushFault}
-use Rattle.wit_graph_parts.specs.declared.fault.PushFault.TheVariants.{OutOfMemory}
-use Rattle.wit_graph.specs.Graph.{Graph}
-use Rattle.wit_graph.specs.Push.{IsPushed, IsPushCause}
+use Rattle.wit_groups.specs.Passed.wit_graph_parts-declared-fault-PushFault.{PushFault}
+use Rattle.wit_groups.specs.Passed.wit_graph_parts-declared-fault-PushFault-TheVariants.{OutOfMemory}
+use Rattle.wit_groups.specs.Passed.wit_graph-Graph.{Graph}
+use Rattle.wit_groups.specs.Passed.wit_graph-Push.{IsPushed, IsPushCause}
 use Rattle.wit_groups.specs.Pushed.{AreTogether, IsTogetherCause}
 use Rattle.wit_groups.specs.declared.fault.GroupFault.{GroupFault}
 use Rattle.wit_groups.specs.declared.fault.GroupFault.TheVariants.{Push}

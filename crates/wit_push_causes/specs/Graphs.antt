@@ -4,7 +4,7 @@ use Rattle.std.specs.List.{AllZip}
 use Rattle.std.specs.declared.alloc.Global.{Global}
 use Rattle.wit_order.specs.Order.{Has}
 use Rattle.wit_order.specs.Places.{Rows}
-use Rattle.wit_graph.specs.Graph.{Graph}
+use Rattle.wit_groups.specs.Passed.wit_graph-Graph.{Graph}
 use Rattle.wit_push_causes.specs.Said.{type_said, interface_said, world_said, package_said}
 
 -- of the same members, in whatever order

@@ -4,3 +4,4 @@ pub mod Resolved
 pub mod Said
 pub mod Graphs
 pub mod Causes
+pub mod Passed

@@ -13,17 +13,17 @@ use Rattle.wit_scopes.specs.Scopes.{WorldScope, ItemScope, WorldMemberTree, List
 use Rattle.wit_arena.specs.Tree.{Name, in_world, Owner}
 use Rattle.wit_arena.specs.Meaning.{Has}
 use Rattle.wit_arena.proofs.Lists.{has_none, has_here, has_later, map_has}
-use Rattle.wit_foreign.specs.Items.{worlds_in}
-use Rattle.wit_interfaces.proofs.Behind.{get_either}
-use Rattle.wit_readiness.proofs.Flat.{in_flat, has_one}
+use Rattle.wit_well_formed.specs.Passed.wit_foreign-Items.{worlds_in}
+use Rattle.wit_well_formed.proofs.Passed.wit_interfaces-Behind.{get_either}
+use Rattle.wit_well_formed.proofs.Passed.wit_readiness-Flat.{in_flat, has_one}
 use Rattle.wit_reach.proofs.Holding.{got}
-use Rattle.wit_resolved_scopes.specs.Texts.{InterfaceText, interfaces_of, interface_text, listed_text, member_texts, extern_texts, labelled_texts, interface_texts, worlds_of}
-use Rattle.wit_package.specs.Resolved.{IsResolved}
-use Rattle.wit_package.specs.Steps.{Resolves}
+use Rattle.wit_well_formed.specs.Passed.wit_resolved_scopes-Texts.{InterfaceText, interfaces_of, interface_text, listed_text, member_texts, extern_texts, labelled_texts, interface_texts, worlds_of}
+use Rattle.wit_well_formed.specs.Passed.wit_package-Resolved.{IsResolved}
+use Rattle.wit_well_formed.specs.Passed.wit_package-Steps.{Resolves}
 use Rattle.wit_well_formed.proofs.Belonging.{worlds_are_counted}
 use Rattle.wit_well_formed.proofs.Lists.{get_drop, got_behind}
 use Rattle.wit_well_formed.proofs.Whole.{ready}
-use Rattle.wit_graph_parts.specs.Own.{asked, own_parts}
+use Rattle.wit_graph.specs.Passed.wit_graph_parts-Own.{asked, own_parts}
 use Rattle.wit_pushed_trees.specs.Apart.{ResolvedWorldsAreNamedApart, MovedWorldsAreNamedApart}
 use Rattle.wit_pushed_trees.proofs.Owning.{kept_owners}
 

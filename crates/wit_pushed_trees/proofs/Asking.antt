@@ -21,19 +21,19 @@ use Rattle.wit_offsets.specs.Offsets.{kind_by, type_def_by, package_at, span_at}
 use Rattle.wit_arena.specs.Tree.{Name, in_world, PackageText, Owner}
 use Rattle.wit_arena.specs.Meaning.{Has, package_text}
 use Rattle.wit_arena.proofs.Lists.{has_none, has_left, get_more, get_last}
-use Rattle.wit_resolved_scopes.specs.Texts.{interface_texts, worlds_of}
+use Rattle.wit_well_formed.specs.Passed.wit_resolved_scopes-Texts.{interface_texts, worlds_of}
 use Rattle.wit_scopes.specs.Scopes.{ItemScope}
 use Rattle.wit_well_formed.proofs.Lists.{got_mapped}
-use Rattle.wit_graph_parts.specs.Own.{asked_types, own_parts}
+use Rattle.wit_graph.specs.Passed.wit_graph_parts-Own.{asked_types, own_parts}
 use Rattle.wit_package_types.specs.Stability.{IsVersionWhere, no_version, a_version}
-use Rattle.wit_foreign.specs.Needs.{NeedTree}
-use Rattle.wit_foreign.specs.Items.{Items, need_owner, interfaces_in, worlds_in, IsNumbered, place_asked, AreItemsOf}
-use Rattle.wit_foreign.specs.Groups.{package_key, item_key, IsPart, no_part, of_key, of_another, AreParts}
-use Rattle.wit_package.specs.TopUses.{files_need}
-use Rattle.wit_foreign.specs.Deps.{ItemEntry, PackageEntry, package_entries, IsPackageName, IsItemDep, AreEntries, AreDeps, IsPackageDep}
-use Rattle.wit_package.proofs.Owning.{interface_owned, world_owned}
-use Rattle.wit_package.specs.Resolved.{IsResolved, owner_in, owners_of}
-use Rattle.wit_package.specs.Steps.{Resolves}
+use Rattle.wit_well_formed.specs.Passed.wit_foreign-Needs.{NeedTree}
+use Rattle.wit_well_formed.specs.Passed.wit_foreign-Items.{Items, need_owner, interfaces_in, worlds_in, IsNumbered, place_asked, AreItemsOf}
+use Rattle.wit_well_formed.specs.Passed.wit_foreign-Groups.{package_key, item_key, IsPart, no_part, of_key, of_another, AreParts}
+use Rattle.wit_well_formed.specs.Passed.wit_package-TopUses.{files_need}
+use Rattle.wit_well_formed.specs.Passed.wit_foreign-Deps.{ItemEntry, PackageEntry, package_entries, IsPackageName, IsItemDep, AreEntries, AreDeps, IsPackageDep}
+use Rattle.wit_well_formed.proofs.Passed.wit_package-Owning.{interface_owned, world_owned}
+use Rattle.wit_well_formed.specs.Passed.wit_package-Resolved.{IsResolved, owner_in, owners_of}
+use Rattle.wit_well_formed.specs.Passed.wit_package-Steps.{Resolves}
 use Rattle.wit_syntax.specs.Ast.{FileTree}
 use Rattle.wit_types.specs.declared.kind.TypeDefKind.TheVariants as kind
 use Rattle.wit_pushed_trees.proofs.Knowing.{same_count}

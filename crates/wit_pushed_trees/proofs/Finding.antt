@@ -12,12 +12,12 @@ use Rattle.wit_types.specs.declared.«package».Package.{Package}
 use Rattle.wit_types.specs.declared.«package».PackageName.{PackageName}
 use Rattle.wit_types.specs.declared.«package».UnresolvedPackage.{UnresolvedPackage}
 use Rattle.wit_features.specs.Features.{FeatureSet}
-use Rattle.wit_placed.proofs.Finding.{flat_has, has_or}
-use Rattle.wit_placed.proofs.Members.{has_at}
+use Rattle.wit_graph.proofs.Passed.wit_placed-Finding.{flat_has, has_or}
+use Rattle.wit_graph.proofs.Passed.wit_placed-Members.{has_at}
 use Rattle.wit_finding.specs.Packages.{AreNamed}
 use Rattle.wit_finding.specs.Asks.{Ask, ItemEntry, asks_of, asks_at, asks_in, is_kept, interface_in, world_in, item_in, finds, pair_of, found_by, items_of}
 use Rattle.wit_finding.specs.Places.{interface_pair, world_pair}
-use Rattle.wit_foreign.specs.Deps.{PackageEntry, package_entries}
+use Rattle.wit_well_formed.specs.Passed.wit_foreign-Deps.{PackageEntry, package_entries}
 use Rattle.wit_arena.specs.Tree.{Name, in_interface, in_world, Owner}
 use Rattle.wit_arena.specs.Unfold.{Owners}
 use Rattle.wit_arena.specs.Meaning.{Has}
@@ -27,7 +27,7 @@ use Rattle.indexmap.specs.IndexMap.{IndexMap}
 use Rattle.wit_types.specs.declared.stability.Stability.{Stability}
 use Rattle.semver.specs.declared.Version.{Version}
 use Rattle.semver.specs.Identifiers.{parts_of, parts_text, version_text}
-use Rattle.wit_graph_worlds.specs.Names.{IsSameName}
+use Rattle.wit_graph.specs.Passed.wit_graph_worlds-Names.{IsSameName}
 use Rattle.wit_pushed_trees.specs.Asked.{text_of, owner_asked, IsWhose, AsksByName}
 use Rattle.wit_pushed_trees.specs.Found.{TellsNamesApart, NamesStand, IsInterfaceOf, IsWorldOf, AskedItemsAreFoundByName}
 

@@ -21,10 +21,10 @@ use Rattle.wit_finding.specs.Types.{type_in, interface_of, type_found}
 use Rattle.wit_moves.specs.Moved.{Places, flat, place_of, to}
 use Rattle.wit_moves.specs.Plan.{is_owner_placed, moved_owner, AreMovedDefs}
 use Rattle.wit_moved_trees.specs.Law.{MovedFunctionsStandForTheSame}
-use Rattle.wit_placed.specs.Order.{AreNamelessFree}
-use Rattle.wit_placed.proofs.Sources.{all_sources}
+use Rattle.wit_graph.specs.Passed.wit_placed-Order.{AreNamelessFree}
+use Rattle.wit_graph.proofs.Passed.wit_placed-Sources.{all_sources}
 use Rattle.wit_plans.specs.Plans.{Parts, found_of}
-use Rattle.wit_graph_parts.specs.Own.{asked_types, own_parts}
+use Rattle.wit_graph.specs.Passed.wit_graph_parts-Own.{asked_types, own_parts}
 use Rattle.wit_graph.specs.Graph.{Graph, items_of, sizes}
 use Rattle.wit_graph.specs.Push.{IsPushed}
 use Rattle.wit_pushed_trees.specs.Pushed.{PushedTypesStandForTheSame, PushedWorldsMeanTheirTexts}

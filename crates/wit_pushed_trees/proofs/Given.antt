@@ -17,7 +17,7 @@ use Rattle.wit_arena.specs.Unfold.{Owners, owner_of, and_then, named_kind_tree, 
 use Rattle.wit_arena.specs.Standing.{HasTree}
 use Rattle.wit_arena.specs.Meaning.{Has}
 use Rattle.wit_arena.proofs.Unfolding.{def_at}
-use Rattle.wit_graph_parts.specs.Own.{asked_types, own_parts}
+use Rattle.wit_graph.specs.Passed.wit_graph_parts-Own.{asked_types, own_parts}
 use Rattle.wit_graph.specs.declared.tables.Tables.{Tables}
 use Rattle.wit_pushed_trees.specs.Asked.{IsName}
 use Rattle.wit_pushed_trees.specs.Found.{AskedTypesStandForTheSame}

@@ -19,8 +19,8 @@ use Rattle.wit_arena.specs.Standing.{HasTree}
 use Rattle.wit_arena.specs.Meaning.{Has}
 use Rattle.wit_arena.proofs.Lists.{has_none}
 use Rattle.wit_order.specs.Order as order
-use Rattle.wit_placed.specs.Naming.{AreNamesApart}
-use Rattle.wit_placed.proofs.Members.{has_get}
+use Rattle.wit_graph.specs.Passed.wit_placed-Naming.{AreNamesApart}
+use Rattle.wit_graph.proofs.Passed.wit_placed-Members.{has_get}
 use Rattle.wit_graph.specs.Graph.{AreWhole}
 use Rattle.wit_graph.specs.declared.tables.Tables.{Tables}
 use Rattle.wit_pushed_trees.specs.Apart.{AreTablesApart}

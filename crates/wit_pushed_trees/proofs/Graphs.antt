@@ -41,13 +41,13 @@ use Rattle.wit_plans.specs.Checks.{Standing, IncludeBreaks, WorldBreaks}
 use Rattle.wit_plans.specs.Moves.{moved_include, AreMovedWorlds, no_worlds, world_goes, world_stays, IsMovedWorld}
 use Rattle.wit_plans.specs.Plans.{standing}
 use Rattle.wit_plans.specs.declared.moves.MovedWorld.{MovedWorld}
-use Rattle.wit_placed.proofs.Holding.{interface_kept, goes_to}
-use Rattle.wit_placed.proofs.Own.{interface_from}
-use Rattle.wit_readiness.proofs.Flat.{in_flat, has_one}
+use Rattle.wit_graph.proofs.Passed.wit_placed-Holding.{interface_kept, goes_to}
+use Rattle.wit_graph.proofs.Passed.wit_placed-Own.{interface_from}
+use Rattle.wit_well_formed.proofs.Passed.wit_readiness-Flat.{in_flat, has_one}
 use Rattle.wit_package_types.specs.Stability.{IsStabilityOf}
-use Rattle.wit_resolved_scopes.specs.InArena.{Context}
-use Rattle.wit_resolved_scopes.specs.Texts.{InterfaceText, own_members}
-use Rattle.wit_graph_parts.specs.Own.{own_parts, asked}
+use Rattle.wit_well_formed.specs.Passed.wit_resolved_scopes-InArena.{Context}
+use Rattle.wit_well_formed.specs.Passed.wit_resolved_scopes-Texts.{InterfaceText, own_members}
+use Rattle.wit_graph.specs.Passed.wit_graph_parts-Own.{own_parts, asked}
 use Rattle.wit_types.specs.declared.«package».PackageName.{PackageName}
 use Rattle.wit_types.specs.declared.«package».UnresolvedPackage.{UnresolvedPackage}
 use Rattle.wit_graph.specs.Graph.{Graph}
@@ -58,7 +58,7 @@ use Rattle.wit_pushed_trees.specs.Packages.{IsPackageMeant}
 use Rattle.wit_pushed_trees.specs.Pushed.{AreAgreed, PushedTypesStandForTheSame, PushedInterfacesMeanTheirTexts}
 use Rattle.wit_pushed_trees.proofs.Parts.{parts_joined, parts_split}
 use Rattle.wit_moves.specs.Plan.{OwnerPlaces}
-use Rattle.wit_placed.specs.Order.{interface_places}
+use Rattle.wit_graph.specs.Passed.wit_placed-Order.{interface_places}
 
 -- ---- lists of which some goes
 

@@ -35,34 +35,34 @@ use Rattle.wit_copies.specs.Same as same
 use Rattle.wit_copies.specs.Same.{IsSameKind}
 use Rattle.wit_includes.specs.Included as brings
 use Rattle.wit_includes.specs.Included.{IsRenamedName, AreRenamedDefs, is_of_world}
-use Rattle.wit_interfaces.proofs.Behind.{get_either}
-use Rattle.wit_interfaces.specs.Listed.{IsListedAt}
-use Rattle.wit_joined.specs.Joined as joined
-use Rattle.wit_joined.specs.Joined.{Includes, includes_none, includes_one, own_state}
+use Rattle.wit_well_formed.proofs.Passed.wit_interfaces-Behind.{get_either}
+use Rattle.wit_well_formed.specs.Passed.wit_interfaces-Listed.{IsListedAt}
+use Rattle.wit_graph.specs.Passed.wit_joined-Joined as joined
+use Rattle.wit_graph.specs.Passed.wit_joined-Joined.{Includes, includes_none, includes_one, own_state}
 use Rattle.wit_moves.specs.Moved as moved
 use Rattle.wit_moves.specs.Moved.{Places, IsMovedKind}
 use Rattle.wit_moves.specs.Plan as plan
 use Rattle.wit_moves.specs.Plan.{OwnerPlaces, AreMovedDefs}
 use Rattle.wit_plans.specs.declared.moves.MovedWorld.{MovedWorld}
-use Rattle.wit_resolved_scopes.proofs.Eaches.{each_right}
-use Rattle.wit_resolved_scopes.specs.InArena.{Context, IsTypeIn}
-use Rattle.wit_package.specs.Resolved.{IsResolved, context_of}
-use Rattle.wit_package.specs.Steps.{Resolves}
-use Rattle.wit_foreign.specs.Items.{interfaces_in, worlds_in}
-use Rattle.wit_interfaces.specs.Interfaces.{IsInterfaceIn}
-use Rattle.wit_package.specs.TopUses.{files_need}
+use Rattle.wit_well_formed.proofs.Passed.wit_resolved_scopes-Eaches.{each_right}
+use Rattle.wit_well_formed.specs.Passed.wit_resolved_scopes-InArena.{Context, IsTypeIn}
+use Rattle.wit_well_formed.specs.Passed.wit_package-Resolved.{IsResolved, context_of}
+use Rattle.wit_well_formed.specs.Passed.wit_package-Steps.{Resolves}
+use Rattle.wit_well_formed.specs.Passed.wit_foreign-Items.{interfaces_in, worlds_in}
+use Rattle.wit_well_formed.specs.Passed.wit_interfaces-Interfaces.{IsInterfaceIn}
+use Rattle.wit_well_formed.specs.Passed.wit_package-TopUses.{files_need}
 use Rattle.wit_reach.proofs.Holding.{got}
-use Rattle.wit_resolved_scopes.specs.Texts.{InterfaceText, interface_texts, worlds_of}
+use Rattle.wit_well_formed.specs.Passed.wit_resolved_scopes-Texts.{InterfaceText, interface_texts, worlds_of}
 use Rattle.wit_scopes.specs.Scopes.{WorldScope}
 use Rattle.wit_well_formed.proofs.Counted.{interface_item, world_item}
-use Rattle.wit_worlds.specs.Worlds.{IsWorldIn}
+use Rattle.wit_well_formed.specs.Passed.wit_worlds-Worlds.{IsWorldIn}
 use Rattle.wit_well_formed.proofs.Lists.{get_drop, got_behind}
 use Rattle.wit_well_formed.proofs.Offsets.{items_are}
 use Rattle.wit_well_formed.proofs.NamesWithin.{world_type}
-use Rattle.wit_graph_worlds.specs.Added.{AreAdded, none_added, one_added}
-use Rattle.wit_graph_worlds.specs.Worlds.{State}
+use Rattle.wit_graph.specs.Passed.wit_graph_worlds-Added.{AreAdded, none_added, one_added}
+use Rattle.wit_graph.specs.Passed.wit_graph_worlds-Worlds.{State}
 use Rattle.wit_features.specs.Features.{FeatureSet}
-use Rattle.wit_graph_parts.specs.Own.{asked_types, own_parts}
+use Rattle.wit_graph.specs.Passed.wit_graph_parts-Own.{asked_types, own_parts}
 use Rattle.wit_graph.specs.Graph.{Graph}
 use Rattle.wit_graph.specs.Push.{IsPushed}
 use Rattle.wit_pushed_trees.specs.Known.{AreTypesKnown, AreOwnTypesKnown, ResolvedTypesAreKnown, MovedTypesAreKnown, EmptyTypesAreKnown, PushedTypesAreKnown}

@@ -28,3 +28,4 @@ mod StayingPaths
 mod StayingIncludes
 mod StayingInner
 mod There
+pub mod Passed

@@ -19,14 +19,14 @@ use Rattle.wit_arena.specs.Unfold.{Owners, part_tree, part_trees, ref_tree, tree
 use Rattle.wit_arena.specs.Standing.{HasTree}
 use Rattle.wit_arena.proofs.Lists.{has_here, has_right, get_kept, get_last, get_more}
 use Rattle.wit_arena.proofs.Unfolding.{ref_kept, part_kept, kept_map, kept_then}
-use Rattle.wit_interfaces.proofs.Behind.{get_either}
-use Rattle.wit_placed.proofs.Members.{has_get}
-use Rattle.wit_placed.proofs.Own.{interface_from}
+use Rattle.wit_well_formed.proofs.Passed.wit_interfaces-Behind.{get_either}
+use Rattle.wit_graph.proofs.Passed.wit_placed-Members.{has_get}
+use Rattle.wit_graph.proofs.Passed.wit_placed-Own.{interface_from}
 use Rattle.wit_plans.specs.Plans.{standing}
-use Rattle.wit_resolved_scopes.specs.InArena.{Context}
-use Rattle.wit_resolved_scopes.specs.Meaning.{function_refs}
-use Rattle.wit_resolved_scopes.specs.Texts.{InterfaceText}
-use Rattle.wit_graph_parts.specs.Own.{own_parts}
+use Rattle.wit_well_formed.specs.Passed.wit_resolved_scopes-InArena.{Context}
+use Rattle.wit_well_formed.specs.Passed.wit_resolved_scopes-Meaning.{function_refs}
+use Rattle.wit_well_formed.specs.Passed.wit_resolved_scopes-Texts.{InterfaceText}
+use Rattle.wit_graph.specs.Passed.wit_graph_parts-Own.{own_parts}
 use Rattle.wit_graph.specs.Graph.{Graph, AreWhole}
 use Rattle.wit_graph.specs.Push.{IsPushed}
 use Rattle.wit_pushed_trees.specs.Asked.{text_of}

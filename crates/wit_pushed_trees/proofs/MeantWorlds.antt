@@ -22,14 +22,14 @@ use Rattle.wit_arena.specs.Tree.{Name, in_world, Owner, Tree, PackageText}
 use Rattle.wit_arena.specs.Unfold.{Owners, trees}
 use Rattle.wit_arena.specs.Standing.{HasTree}
 use Rattle.wit_arena.proofs.Lists.{has_here, has_right, get_kept, get_last, get_more}
-use Rattle.wit_interfaces.proofs.Behind.{get_either}
-use Rattle.wit_resolved_scopes.specs.InArena.{Context, own_owner}
-use Rattle.wit_resolved_scopes.specs.Texts.{own_members}
-use Rattle.wit_joined.specs.Joined.{IsJoinedWorld, own_state}
+use Rattle.wit_well_formed.proofs.Passed.wit_interfaces-Behind.{get_either}
+use Rattle.wit_well_formed.specs.Passed.wit_resolved_scopes-InArena.{Context, own_owner}
+use Rattle.wit_well_formed.specs.Passed.wit_resolved_scopes-Texts.{own_members}
+use Rattle.wit_graph.specs.Passed.wit_joined-Joined.{IsJoinedWorld, own_state}
 use Rattle.wit_plans.specs.declared.moves.MovedWorld.{MovedWorld}
-use Rattle.wit_graph_worlds.specs.Copies.{IsSameWorld}
-use Rattle.wit_graph_worlds.specs.Added.{AreAdded, none_added, one_added}
-use Rattle.wit_graph_worlds.specs.Worlds.{State}
+use Rattle.wit_graph.specs.Passed.wit_graph_worlds-Copies.{IsSameWorld}
+use Rattle.wit_graph.specs.Passed.wit_graph_worlds-Added.{AreAdded, none_added, one_added}
+use Rattle.wit_graph.specs.Passed.wit_graph_worlds-Worlds.{State}
 use Rattle.wit_graph.specs.Graph.{Graph, AreWhole}
 use Rattle.wit_graph.specs.Push.{IsPushed}
 use Rattle.wit_pushed_trees.specs.Found.{TellsNamesApart, NamesOfGraphStand, IsGivenBy}
@@ -47,9 +47,9 @@ use Rattle.wit_pushed_trees.proofs.Types.{included_grow, all_grow}
 use Rattle.std.specs.declared.alloc.Global.{Global}
 use Rattle.wit_moves.specs.Moved.{place_of}
 use Rattle.wit_moves.specs.Plan.{OwnerPlaces}
-use Rattle.wit_placed.specs.Worlds.{world_places}
+use Rattle.wit_graph.specs.Passed.wit_placed-Worlds.{world_places}
 use Rattle.wit_plans.specs.Plans.{standing}
-use Rattle.wit_graph_parts.specs.Own.{asked, own_parts}
+use Rattle.wit_graph.specs.Passed.wit_graph_parts-Own.{asked, own_parts}
 use Rattle.wit_pushed_trees.proofs.StayingIncludes.{world_from}
 use Rattle.wit_pushed_trees.proofs.Texts.{member_kind_same}
 

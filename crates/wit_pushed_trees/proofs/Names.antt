@@ -11,7 +11,7 @@ use Rattle.wit_types.specs.declared.«package».Package.{Package}
 use Rattle.wit_types.specs.declared.«package».PackageName.{PackageName}
 use Rattle.wit_arena.proofs.Lists.{has_none, get_kept, get_last, get_more}
 use Rattle.wit_graph.proofs.Finishing.{insert_fresh}
-use Rattle.wit_graph_worlds.specs.Names.{IsSameName}
+use Rattle.wit_graph.specs.Passed.wit_graph_worlds-Names.{IsSameName}
 use Rattle.wit_pushed_trees.specs.Found.{EqualNamesAreTheSame, NamesStand, EmptyNamesStand, PushedNamesStand}
 
 -- ---- equal names

@@ -17,25 +17,25 @@ use Rattle.wit_features.specs.Features.{FeatureSet}
 use Rattle.wit_moves.specs.Moved.{place_of, to}
 use Rattle.wit_moves.specs.Plan.{OwnerPlaces, is_owner_placed, moved_owner}
 use Rattle.wit_finding.specs.Own.{placed}
-use Rattle.wit_placed.proofs.Finding.{has_or}
-use Rattle.wit_placed.proofs.Holding.{goes_to}
-use Rattle.wit_placed.proofs.Members.{has_get}
-use Rattle.wit_placed.proofs.Own.{interface_from, worlds_take_places_alone}
+use Rattle.wit_graph.proofs.Passed.wit_placed-Finding.{has_or}
+use Rattle.wit_graph.proofs.Passed.wit_placed-Holding.{goes_to}
+use Rattle.wit_graph.proofs.Passed.wit_placed-Members.{has_get}
+use Rattle.wit_graph.proofs.Passed.wit_placed-Own.{interface_from, worlds_take_places_alone}
 use Rattle.wit_plans.specs.Checks.{Standing}
 use Rattle.wit_plans.specs.Moves.{AreMovedInterfaces, no_interfaces, interface_goes, interface_stays, AreMovedWorlds, no_worlds, world_goes, world_stays}
 use Rattle.wit_plans.specs.Plans.{standing}
 use Rattle.wit_plans.specs.declared.moves.MovedWorld.{MovedWorld}
-use Rattle.wit_graph_worlds.specs.Added.{AreAdded, none_added, one_added}
-use Rattle.wit_graph_worlds.specs.Names.{Pair, AreNames, by_bytes, name_at, interface_names, world_names}
-use Rattle.wit_graph_worlds.specs.Worlds.{State}
-use Rattle.wit_graph_parts.specs.Own.{asked, own_parts}
+use Rattle.wit_graph.specs.Passed.wit_graph_worlds-Added.{AreAdded, none_added, one_added}
+use Rattle.wit_graph.specs.Passed.wit_graph_worlds-Names.{Pair, AreNames, by_bytes, name_at, interface_names, world_names}
+use Rattle.wit_graph.specs.Passed.wit_graph_worlds-Worlds.{State}
+use Rattle.wit_graph.specs.Passed.wit_graph_parts-Own.{asked, own_parts}
 use Rattle.wit_graph.specs.Graph.{Graph}
 use Rattle.wit_graph.specs.Push.{IsPushed}
 use Rattle.wit_arena.specs.Tree.{Name, PackageText, Place, in_interface, in_world, Owner}
 use Rattle.wit_arena.specs.Unfold.{Owners, owner_of}
 use Rattle.wit_arena.specs.Meaning.{Has}
 use Rattle.wit_arena.proofs.Lists.{has_none, has_here, has_right, has_map, get_kept, get_more}
-use Rattle.wit_interfaces.proofs.Behind.{get_either}
+use Rattle.wit_well_formed.proofs.Passed.wit_interfaces-Behind.{get_either}
 use Rattle.wit_reach.proofs.Holding.{got}
 use Rattle.wit_pushed_trees.specs.Apart.{IsWorldIn, AreWorldsApart, AreWorldsNamedApart, IsNewText}
 use Rattle.wit_pushed_trees.specs.Asked.{text_of}

@@ -12,10 +12,10 @@ use Rattle.wit_features.specs.Features.{FeatureSet, stays}
 use Rattle.wit_moves.specs.Moved.{Places, place_of}
 use Rattle.wit_moves.specs.Plan.{Plan, with_place}
 use Rattle.wit_finding.specs.Own.{with_own, placed}
-use Rattle.wit_placed.proofs.Own.{place_within, others_stay}
+use Rattle.wit_graph.proofs.Passed.wit_placed-Own.{place_within, others_stay}
 use Rattle.wit_arena.proofs.Lists.{get_kept}
 use Rattle.wit_arena.specs.Tree.{Owner}
-use Rattle.wit_graph_worlds.specs.Names.{Pair, by_bytes, AreNames}
+use Rattle.wit_graph.specs.Passed.wit_graph_worlds-Names.{Pair, by_bytes, AreNames}
 
 -- ---- lists
 

@@ -14,19 +14,19 @@ use Rattle.wit_arena.specs.Tree.{Name, in_interface, in_world, PackageText, Owne
 use Rattle.wit_arena.specs.Unfold.{Owners}
 use Rattle.wit_arena.specs.Meaning.{Has, package_text}
 use Rattle.wit_arena.proofs.Lists.{has_none, map_has}
-use Rattle.wit_foreign.specs.Items.{interfaces_in, worlds_in}
-use Rattle.wit_interfaces.proofs.Behind.{get_either, get_right}
-use Rattle.wit_readiness.proofs.Flat.{in_flat, has_one}
+use Rattle.wit_well_formed.specs.Passed.wit_foreign-Items.{interfaces_in, worlds_in}
+use Rattle.wit_well_formed.proofs.Passed.wit_interfaces-Behind.{get_either, get_right}
+use Rattle.wit_well_formed.proofs.Passed.wit_readiness-Flat.{in_flat, has_one}
 use Rattle.wit_reach.proofs.Holding.{got}
-use Rattle.wit_resolved_scopes.specs.Texts.{InterfaceText, interfaces_of, interface_text, listed_text, member_texts, extern_texts, labelled_texts, interface_texts, worlds_of}
+use Rattle.wit_well_formed.specs.Passed.wit_resolved_scopes-Texts.{InterfaceText, interfaces_of, interface_text, listed_text, member_texts, extern_texts, labelled_texts, interface_texts, worlds_of}
 use Rattle.wit_scopes.specs.Scopes as scope
 use Rattle.wit_scopes.specs.Scopes.{ItemScope, WorldMemberTree, ListedTree, ExternKind}
-use Rattle.wit_package.specs.Resolved.{IsResolved, foreign_owners, owner_in, context_of}
-use Rattle.wit_package.specs.Steps.{Resolves}
-use Rattle.wit_package.proofs.Owning.{interface_owners_length, world_owners_length}
+use Rattle.wit_well_formed.specs.Passed.wit_package-Resolved.{IsResolved, foreign_owners, owner_in, context_of}
+use Rattle.wit_well_formed.specs.Passed.wit_package-Steps.{Resolves}
+use Rattle.wit_well_formed.proofs.Passed.wit_package-Owning.{interface_owners_length, world_owners_length}
 use Rattle.wit_well_formed.proofs.Belonging.{counted, worlds_are_counted}
 use Rattle.wit_well_formed.proofs.Lists.{get_drop, got_behind}
-use Rattle.wit_graph_parts.specs.Own.{asked, own_parts}
+use Rattle.wit_graph.specs.Passed.wit_graph_parts-Own.{asked, own_parts}
 use Rattle.wit_pushed_trees.specs.Asked.{text_of}
 use Rattle.wit_pushed_trees.specs.Owned.{ResolvedPackagesHaveOwners, MovedPackagesHaveOwners}
 use Rattle.wit_pushed_trees.proofs.Apart.{no_world_place}

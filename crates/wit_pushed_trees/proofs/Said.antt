@@ -45,9 +45,9 @@ use Rattle.wit_copies.specs.Same.{IsSameKey, IsSameParam, IsSameFunction, IsSame
 use Rattle.wit_moves.specs.Moved.{moved_function_kind, place_of, resource_of, to}
 use Rattle.wit_moves.specs.Plan.{OwnerPlaces}
 use Rattle.wit_moved_trees.specs.Law.{StandForTheSame, MovedTypesStandForTheSame, MovedFunctionsStandForTheSame}
-use Rattle.wit_placed.proofs.Own.{worlds_take_places_alone}
+use Rattle.wit_graph.proofs.Passed.wit_placed-Own.{worlds_take_places_alone}
 use Rattle.wit_plans.specs.Plans.{standing}
-use Rattle.wit_graph_parts.specs.Own.{asked, own_parts}
+use Rattle.wit_graph.specs.Passed.wit_graph_parts-Own.{asked, own_parts}
 use Rattle.wit_graph.specs.Graph.{Graph, AreWhole}
 use Rattle.wit_graph.specs.Push.{IsPushed}
 use Rattle.wit_includes.specs.Included.{AreIncludedEntries, copies_behind}
@@ -56,21 +56,21 @@ use Rattle.wit_reach.specs.Types.{is_local, IsLocalAt, IsOfItem}
 use Rattle.wit_order.proofs.Lists.{has_was}
 use Rattle.wit_reach.proofs.Lists.{has_append}
 use Rattle.wit_reach.proofs.Holding.{got}
-use Rattle.wit_interfaces.proofs.Behind.{get_either}
+use Rattle.wit_well_formed.proofs.Passed.wit_interfaces-Behind.{get_either}
 use Rattle.wit_arena.specs.Tree.{Name, PackageText, Place, in_world, Owner, Tree, TreeOption, Trees, named_tree, resource_leaf}
 use Rattle.wit_arena.specs.Unfold.{Owners, and_then, part_tree, part_trees, owner_of, kind_tree, named_kind_tree, def_tree, def_tree_of, trees_from, trees, IsWhole}
 use Rattle.wit_arena.specs.Standing.{HasTree, Stands}
 use Rattle.wit_arena.specs.Meaning.{Has, MeansParts}
 use Rattle.wit_arena.proofs.Lists.{has_none, has_here, has_later, has_cases, has_right, get_kept, get_last, get_more}
 use Rattle.wit_arena.proofs.Unfolding.{part_kept, ref_kept, flat_some, def_at}
-use Rattle.wit_resolved_scopes.specs.Meaning.{written_parts}
-use Rattle.wit_resolved_scopes.specs.Texts.{own_members}
-use Rattle.wit_joined.specs.Joined as joined
-use Rattle.wit_joined.specs.Joined.{Includes, includes_none, includes_one, own_state}
+use Rattle.wit_well_formed.specs.Passed.wit_resolved_scopes-Meaning.{written_parts}
+use Rattle.wit_well_formed.specs.Passed.wit_resolved_scopes-Texts.{own_members}
+use Rattle.wit_graph.specs.Passed.wit_joined-Joined as joined
+use Rattle.wit_graph.specs.Passed.wit_joined-Joined.{Includes, includes_none, includes_one, own_state}
 use Rattle.wit_plans.specs.declared.moves.MovedWorld.{MovedWorld}
-use Rattle.wit_graph_worlds.specs.Added.{AreAdded, none_added, one_added}
-use Rattle.wit_graph_worlds.specs.Copies.{AreSameEntries}
-use Rattle.wit_graph_worlds.specs.Worlds.{State}
+use Rattle.wit_graph.specs.Passed.wit_graph_worlds-Added.{AreAdded, none_added, one_added}
+use Rattle.wit_graph.specs.Passed.wit_graph_worlds-Copies.{AreSameEntries}
+use Rattle.wit_graph.specs.Passed.wit_graph_worlds-Worlds.{State}
 use Rattle.wit_copied_trees.proofs.Members.{has_place, goes_own}
 use Rattle.wit_copied_trees.specs.Law.{IsOfTrees, AreIncludedBehind, IncludedTypesStandForTheSame, IncludedFunctionsStandForTheSame}
 use Rattle.wit_pushed_trees.specs.Apart.{AreWorldsApart}

@@ -36,12 +36,12 @@ use Rattle.wit_types.specs.declared.kind.«Type».TheVariants as ref
 use Rattle.wit_arena.specs.Standing.{Stands}
 use Rattle.wit_arena.specs.Meaning.{Has}
 use Rattle.wit_arena.proofs.Lists.{map_has}
-use Rattle.wit_resolved_scopes.specs.InArena.{Context}
-use Rattle.wit_resolved_scopes.specs.Meaning.{function_refs}
-use Rattle.wit_resolved_scopes.specs.Texts.{InterfaceText, own_members}
+use Rattle.wit_well_formed.specs.Passed.wit_resolved_scopes-InArena.{Context}
+use Rattle.wit_well_formed.specs.Passed.wit_resolved_scopes-Meaning.{function_refs}
+use Rattle.wit_well_formed.specs.Passed.wit_resolved_scopes-Texts.{InterfaceText, own_members}
 use Rattle.wit_well_formed.proofs.Lists.{got_behind}
 use Rattle.wit_well_formed.proofs.Offsets.{items_are}
-use Rattle.wit_graph_parts.specs.Own.{asked}
+use Rattle.wit_graph.specs.Passed.wit_graph_parts-Own.{asked}
 use Rattle.wit_pushed_trees.specs.Meaning.{IsFunctionMeant, IsInterfaceMeant}
 use Rattle.wit_pushed_trees.specs.Worlds.{all_kept, IsTypeWritten, IsTypeMeant, IsOwnFunctionMeant, IsInterfaceListed, IsIncludeMeant, IsWorldMeant}
 use Rattle.wit_pushed_trees.specs.Packages.{MovedPackagesMeanTheirTexts}

@@ -24,15 +24,15 @@ use Rattle.wit_arena.specs.Tree.{Name, Place}
 use Rattle.wit_arena.specs.Table.{Entries}
 use Rattle.wit_arena.specs.Meaning.{Has}
 use Rattle.wit_arena.proofs.Lists.{has_later, has_none, has_map, map_has}
-use Rattle.wit_foreign.specs.Items.{interfaces_in}
-use Rattle.wit_functions.specs.Signature.{IsKindOf}
-use Rattle.wit_resolved_scopes.specs.InArena.{Context, IsTypeIn, IsFunctionIn, IsScopeIn}
-use Rattle.wit_resolved_scopes.specs.Scope.{functions_among}
-use Rattle.wit_resolved_scopes.specs.Each.{Each}
+use Rattle.wit_well_formed.specs.Passed.wit_foreign-Items.{interfaces_in}
+use Rattle.wit_well_formed.specs.Passed.wit_functions-Signature.{IsKindOf}
+use Rattle.wit_well_formed.specs.Passed.wit_resolved_scopes-InArena.{Context, IsTypeIn, IsFunctionIn, IsScopeIn}
+use Rattle.wit_well_formed.specs.Passed.wit_resolved_scopes-Scope.{functions_among}
+use Rattle.wit_well_formed.specs.Passed.wit_resolved_scopes-Each.{Each}
 use Rattle.wit_package_types.specs.Stability.{IsStabilityOf}
 use Rattle.wit_reach.proofs.Holding.{got}
-use Rattle.wit_resolved_scopes.proofs.Eaches.{each_left, each_right}
-use Rattle.wit_interfaces.specs.Interfaces.{named_types, functions_in, AreNamed}
+use Rattle.wit_well_formed.proofs.Passed.wit_resolved_scopes-Eaches.{each_left, each_right}
+use Rattle.wit_well_formed.specs.Passed.wit_interfaces-Interfaces.{named_types, functions_in, AreNamed}
 use Rattle.wit_moves.specs.Moved.{Places, is_placed, resource_of}
 use Rattle.wit_moves.specs.Interfaces.{AreKept, no_entries, one_goes, one_stays, IsMovedInterface, function_stays}
 use Rattle.wit_moves.specs.Plan.{OwnerPlaces, Plan, with_place, with_types, named_stays, is_owner_placed}
@@ -40,14 +40,14 @@ use Rattle.wit_moved_trees.proofs.Earlier.{placed_where_stays}
 use Rattle.wit_moved_trees.proofs.Moving.{pushed_is}
 use Rattle.wit_finding.specs.Own.{with_own, placed}
 use Rattle.wit_finding.specs.Types.{type_found}
-use Rattle.wit_package.specs.Resolved.{IsResolved}
-use Rattle.wit_package.specs.Steps.{Resolves}
+use Rattle.wit_well_formed.specs.Passed.wit_package-Resolved.{IsResolved}
+use Rattle.wit_well_formed.specs.Passed.wit_package-Steps.{Resolves}
 use Rattle.wit_plans.specs.Plans.{IsPlanned}
 use Rattle.wit_plans.specs.declared.plans.Sizes.{Sizes}
 use Rattle.wit_reach.proofs.Growing.{get_same}
 use Rattle.wit_well_formed.proofs.Belonging.{other}
 use Rattle.wit_well_formed.proofs.Lists.{got_mapped}
-use Rattle.wit_graph_parts.specs.Own.{asked, asked_types, own_parts}
+use Rattle.wit_graph.specs.Passed.wit_graph_parts-Own.{asked, asked_types, own_parts}
 use Rattle.wit_pushed_trees.specs.Staying.{Stays, resource_text, FunctionStays, ListsMembers, IsOwnType, HasResource, HasType, HasFunction, HasMembers, own_interface}
 use Rattle.wit_pushed_trees.proofs.Knowing.{same_count}
 use Rattle.wit_pushed_trees.proofs.Owning.{dropped, rest}

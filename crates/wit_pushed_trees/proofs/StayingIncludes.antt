@@ -21,20 +21,20 @@ use Rattle.wit_arena.specs.Meaning.{Has}
 use Rattle.wit_arena.proofs.Lists.{has_none, has_left, has_right, has_map}
 use Rattle.wit_reach.proofs.Holding.{got}
 use Rattle.wit_well_formed.proofs.Offsets.{items_are}
-use Rattle.wit_readiness.proofs.Flat.{flat_has, has_one}
-use Rattle.wit_resolved_scopes.specs.Texts.{includes_of}
-use Rattle.wit_resolved_scopes.proofs.Eaches.{each_left}
-use Rattle.wit_resolved_scopes.proofs.Readying.{either}
-use Rattle.wit_worlds.specs.Worlds.{target_owner, include_name, written_name, IsIncludeOf, IsWorldIn}
-use Rattle.wit_package.specs.Resolved.{IsResolved, context_of}
-use Rattle.wit_package.specs.Steps.{Resolves}
+use Rattle.wit_well_formed.proofs.Passed.wit_readiness-Flat.{flat_has, has_one}
+use Rattle.wit_well_formed.specs.Passed.wit_resolved_scopes-Texts.{includes_of}
+use Rattle.wit_well_formed.proofs.Passed.wit_resolved_scopes-Eaches.{each_left}
+use Rattle.wit_well_formed.proofs.Passed.wit_resolved_scopes-Readying.{either}
+use Rattle.wit_well_formed.specs.Passed.wit_worlds-Worlds.{target_owner, include_name, written_name, IsIncludeOf, IsWorldIn}
+use Rattle.wit_well_formed.specs.Passed.wit_package-Resolved.{IsResolved, context_of}
+use Rattle.wit_well_formed.specs.Passed.wit_package-Steps.{Resolves}
 use Rattle.wit_moves.specs.Moved.{Places, place_of, is_placed, to}
 use Rattle.wit_moves.specs.Plan.{OwnerPlaces, Plan, with_place}
 use Rattle.wit_finding.specs.Own.{with_own}
 use Rattle.wit_moved_trees.proofs.Moving.{place_kept}
-use Rattle.wit_placed.proofs.Holding.{goes_to}
-use Rattle.wit_placed.proofs.Sides.{holds}
-use Rattle.wit_placed.proofs.Sources.{put_last}
+use Rattle.wit_graph.proofs.Passed.wit_placed-Holding.{goes_to}
+use Rattle.wit_graph.proofs.Passed.wit_placed-Sides.{holds}
+use Rattle.wit_graph.proofs.Passed.wit_placed-Sources.{put_last}
 use Rattle.wit_plans.specs.Checks.{Standing, IncludeBreaks, WorldBreaks}
 use Rattle.wit_plans.specs.Moves.{moved_include, IsMovedWorld, AreMovedWorlds, no_worlds, world_goes, world_stays}
 use Rattle.wit_plans.specs.Plans.{IsPlanned, standing}
@@ -44,8 +44,8 @@ use Rattle.wit_copies.specs.Copies.{Copies, goes, AreCopiedEntries, no_entries a
 use Rattle.wit_copies.specs.Same.{IsSameKey, same_name, same_key_interface, IsSameItem, same_interface, same_function, same_type}
 use Rattle.wit_sides.specs.Renames.{IsRenamed, IsRenamedItem, IsRenamedKey, AreRenamed, no_entries, one_more}
 use Rattle.wit_includes.specs.Included.{AreIncludedEntries}
-use Rattle.wit_joined.specs.Joined.{State as JoinedState, with_brought, Includes, includes_none, includes_one}
-use Rattle.wit_graph_parts.specs.Own.{asked, own_parts}
+use Rattle.wit_graph.specs.Passed.wit_joined-Joined.{State as JoinedState, with_brought, Includes, includes_none, includes_one}
+use Rattle.wit_graph.specs.Passed.wit_graph_parts-Own.{asked, own_parts}
 use Rattle.wit_pushed_trees.specs.Asked.{text_of}
 use Rattle.wit_pushed_trees.specs.Staying.{Stays}
 use Rattle.wit_pushed_trees.specs.StayingWorlds.{Entry, ItemSort, item_sort, HasKnown, HasNamed, HasLabel}

@@ -23,18 +23,18 @@ use Rattle.wit_arena.specs.Tree.{in_listed, Owner}
 use Rattle.wit_arena.specs.Meaning.{Has, package_text}
 use Rattle.wit_arena.proofs.Lists.{has_here, has_right, has_map}
 use Rattle.wit_package_types.specs.Stability.{IsStabilityOf}
-use Rattle.wit_foreign.specs.Items.{interfaces_in}
-use Rattle.wit_interfaces.proofs.Behind.{get_either, get_right}
+use Rattle.wit_well_formed.specs.Passed.wit_foreign-Items.{interfaces_in}
+use Rattle.wit_well_formed.proofs.Passed.wit_interfaces-Behind.{get_either, get_right}
 use Rattle.wit_reach.proofs.Holding.{got}
-use Rattle.wit_readiness.proofs.Flat.{flat_has}
-use Rattle.wit_resolved_scopes.specs.Each.{Each}
-use Rattle.wit_resolved_scopes.specs.InArena.{Context, own_owner}
-use Rattle.wit_resolved_scopes.specs.Texts.{InterfaceText, interface_text, interface_texts, interfaces_of, worlds_of, labelled_texts, listed_text, member_texts, extern_texts, side_members}
-use Rattle.wit_resolved_scopes.proofs.Eaches.{each_left}
-use Rattle.wit_worlds.specs.Worlds.{IsInterfaceEntry, IsExternEntry, IsEntryOf, IsWorldIn}
-use Rattle.wit_package.specs.Resolved.{IsResolved, foreign_owners, owner_in, context_of}
-use Rattle.wit_package.specs.Steps.{Resolves}
-use Rattle.wit_package.proofs.Owning.{are_owners}
+use Rattle.wit_well_formed.proofs.Passed.wit_readiness-Flat.{flat_has}
+use Rattle.wit_well_formed.specs.Passed.wit_resolved_scopes-Each.{Each}
+use Rattle.wit_well_formed.specs.Passed.wit_resolved_scopes-InArena.{Context, own_owner}
+use Rattle.wit_well_formed.specs.Passed.wit_resolved_scopes-Texts.{InterfaceText, interface_text, interface_texts, interfaces_of, worlds_of, labelled_texts, listed_text, member_texts, extern_texts, side_members}
+use Rattle.wit_well_formed.proofs.Passed.wit_resolved_scopes-Eaches.{each_left}
+use Rattle.wit_well_formed.specs.Passed.wit_worlds-Worlds.{IsInterfaceEntry, IsExternEntry, IsEntryOf, IsWorldIn}
+use Rattle.wit_well_formed.specs.Passed.wit_package-Resolved.{IsResolved, foreign_owners, owner_in, context_of}
+use Rattle.wit_well_formed.specs.Passed.wit_package-Steps.{Resolves}
+use Rattle.wit_well_formed.proofs.Passed.wit_package-Owning.{are_owners}
 use Rattle.wit_well_formed.proofs.Belonging.{no_more}
 use Rattle.wit_well_formed.proofs.Lists.{got_mapped}
 use Rattle.wit_well_formed.proofs.Apart.{texts_apart}
@@ -44,10 +44,10 @@ use Rattle.wit_moves.specs.Moved.{Places, place_of, to}
 use Rattle.wit_moves.specs.Plan.{Plan, with_place}
 use Rattle.wit_finding.specs.Own.{with_own}
 use Rattle.wit_moved_trees.proofs.Moving.{place_kept}
-use Rattle.wit_placed.proofs.Sources.{put_last}
+use Rattle.wit_graph.proofs.Passed.wit_placed-Sources.{put_last}
 use Rattle.wit_plans.specs.Checks.{Standing}
 use Rattle.wit_plans.specs.Moves.{AreMovedInterfaces, no_interfaces, interface_goes, interface_stays}
-use Rattle.wit_graph_parts.specs.Own.{asked, own_parts}
+use Rattle.wit_graph.specs.Passed.wit_graph_parts-Own.{asked, own_parts}
 use Rattle.wit_pushed_trees.specs.Staying.{HasMembers, own_interface}
 use Rattle.wit_pushed_trees.specs.StayingWorlds.{Entry}
 use Rattle.wit_pushed_trees.specs.StayingInner.{HasInners, HasItsInners}

@@ -22,23 +22,23 @@ use Rattle.wit_arena.specs.Tree.{Name, in_interface, in_listed, PackageText, Own
 use Rattle.wit_arena.specs.Unfold.{Owners}
 use Rattle.wit_arena.specs.Meaning.{Has, package_text}
 use Rattle.wit_arena.proofs.Lists.{has_right, has_map}
-use Rattle.wit_foreign.specs.Items.{interfaces_in}
-use Rattle.wit_interfaces.proofs.Behind.{get_either, get_right}
+use Rattle.wit_well_formed.specs.Passed.wit_foreign-Items.{interfaces_in}
+use Rattle.wit_well_formed.proofs.Passed.wit_interfaces-Behind.{get_either, get_right}
 use Rattle.wit_reach.proofs.Holding.{got}
-use Rattle.wit_readiness.proofs.Flat.{in_flat}
-use Rattle.wit_readiness.proofs.Labelled.{labelled_given}
-use Rattle.wit_resolved_scopes.specs.Each.{Each}
-use Rattle.wit_resolved_scopes.specs.Texts.{InterfaceText, interface_text, interface_texts, labelled_texts, interfaces_of, worlds_of, side_members}
-use Rattle.wit_resolved_scopes.proofs.Eaches.{each_left}
-use Rattle.wit_worlds.specs.Worlds.{target_owner, IsInterfaceEntry, IsExternEntry, IsEntryOf, IsWorldIn}
-use Rattle.wit_package.specs.Resolved.{IsResolved, foreign_owners, owner_in, context_of}
-use Rattle.wit_package.specs.Steps.{Resolves}
+use Rattle.wit_well_formed.proofs.Passed.wit_readiness-Flat.{in_flat}
+use Rattle.wit_well_formed.proofs.Passed.wit_readiness-Labelled.{labelled_given}
+use Rattle.wit_well_formed.specs.Passed.wit_resolved_scopes-Each.{Each}
+use Rattle.wit_well_formed.specs.Passed.wit_resolved_scopes-Texts.{InterfaceText, interface_text, interface_texts, labelled_texts, interfaces_of, worlds_of, side_members}
+use Rattle.wit_well_formed.proofs.Passed.wit_resolved_scopes-Eaches.{each_left}
+use Rattle.wit_well_formed.specs.Passed.wit_worlds-Worlds.{target_owner, IsInterfaceEntry, IsExternEntry, IsEntryOf, IsWorldIn}
+use Rattle.wit_well_formed.specs.Passed.wit_package-Resolved.{IsResolved, foreign_owners, owner_in, context_of}
+use Rattle.wit_well_formed.specs.Passed.wit_package-Steps.{Resolves}
 use Rattle.wit_moves.specs.Breaks.{AnyOf}
 use Rattle.wit_moves.specs.Moved.{Places, place_of, is_placed, to}
 use Rattle.wit_moves.specs.Plan.{OwnerPlaces}
 use Rattle.wit_moves.specs.Worlds.{item_stays, is_item_placed, moved_key, moved_entry, IsMovedSide, SideBreaks}
-use Rattle.wit_placed.proofs.Holding.{goes_to}
-use Rattle.wit_placed.proofs.Sides.{holds}
+use Rattle.wit_graph.proofs.Passed.wit_placed-Holding.{goes_to}
+use Rattle.wit_graph.proofs.Passed.wit_placed-Sides.{holds}
 use Rattle.wit_plans.specs.Checks.{WorldBreaks}
 use Rattle.wit_plans.specs.Moves.{IsMovedWorld}
 use Rattle.wit_plans.specs.Plans.{IsPlanned, standing}
@@ -46,7 +46,7 @@ use Rattle.wit_plans.specs.declared.moves.MovedWorld.{MovedWorld}
 use Rattle.wit_plans.specs.declared.plans.Sizes.{Sizes}
 use Rattle.wit_well_formed.proofs.Belonging.{counted, no_more}
 use Rattle.wit_well_formed.proofs.Lists.{got_mapped}
-use Rattle.wit_graph_parts.specs.Own.{asked, own_parts}
+use Rattle.wit_graph.specs.Passed.wit_graph_parts-Own.{asked, own_parts}
 use Rattle.wit_pushed_trees.specs.Asked.{text_of}
 use Rattle.wit_pushed_trees.specs.Staying.{Stays}
 use Rattle.wit_pushed_trees.specs.StayingWorlds.{Entry, HasKnown}

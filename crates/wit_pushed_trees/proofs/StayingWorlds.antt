@@ -31,14 +31,14 @@ use Rattle.wit_orders.specs.Needs.{types_of}
 use Rattle.wit_arena.specs.Tree.{Name, in_world}
 use Rattle.wit_arena.specs.Meaning.{Has}
 use Rattle.wit_arena.proofs.Lists.{has_none, has_left, has_right, has_map, get_more}
-use Rattle.wit_readiness.proofs.Flat.{has_one}
-use Rattle.wit_resolved_scopes.specs.Each.{Each}
-use Rattle.wit_resolved_scopes.specs.InArena.{Context}
-use Rattle.wit_resolved_scopes.specs.Texts.{own_members, side_members}
-use Rattle.wit_resolved_scopes.proofs.Eaches.{each_left}
-use Rattle.wit_resolved_scopes.proofs.Readying.{either}
-use Rattle.wit_worlds.specs.Worlds.{IsTypeEntry, IsExternEntry, IsEntryOf, IsWorldIn}
-use Rattle.wit_package.specs.Steps.{Resolves}
+use Rattle.wit_well_formed.proofs.Passed.wit_readiness-Flat.{has_one}
+use Rattle.wit_well_formed.specs.Passed.wit_resolved_scopes-Each.{Each}
+use Rattle.wit_well_formed.specs.Passed.wit_resolved_scopes-InArena.{Context}
+use Rattle.wit_well_formed.specs.Passed.wit_resolved_scopes-Texts.{own_members, side_members}
+use Rattle.wit_well_formed.proofs.Passed.wit_resolved_scopes-Eaches.{each_left}
+use Rattle.wit_well_formed.proofs.Passed.wit_resolved_scopes-Readying.{either}
+use Rattle.wit_well_formed.specs.Passed.wit_worlds-Worlds.{IsTypeEntry, IsExternEntry, IsEntryOf, IsWorldIn}
+use Rattle.wit_well_formed.specs.Passed.wit_package-Steps.{Resolves}
 use Rattle.wit_moves.specs.Moved.{Places, resource_of, to}
 use Rattle.wit_moves.specs.Worlds.{item_stays, moved_key, moved_entry, IsMovedItem, moved_interface, IsMovedSide}
 use Rattle.wit_moves.specs.Plan.{OwnerPlaces, is_owner_placed}
@@ -47,16 +47,16 @@ use Rattle.wit_moves.specs.Moved.{is_placed}
 use Rattle.wit_finding.specs.Own.{placed as own_places}
 use Rattle.wit_copies.specs.Same.{IsSameKey, same_name, same_key_interface, IsSameItem, same_interface}
 use Rattle.wit_sides.specs.Sides.{AreUnited, no_entries, first_of_its_key, key_again}
-use Rattle.wit_joined.specs.Joined.{State as JoinedState, Includes, includes_none, includes_one}
+use Rattle.wit_graph.specs.Passed.wit_joined-Joined.{State as JoinedState, Includes, includes_none, includes_one}
 use Rattle.wit_plans.specs.Moves.{IsMovedWorld}
 use Rattle.wit_plans.specs.Plans.{IsPlanned, standing}
 use Rattle.wit_plans.specs.declared.moves.MovedWorld.{MovedWorld}
 use Rattle.wit_plans.specs.declared.plans.Sizes.{Sizes}
-use Rattle.wit_graph_worlds.specs.Added.{IsAdded, AreAdded, none_added, one_added}
-use Rattle.wit_graph_worlds.specs.Copies.{IsSameEntry}
-use Rattle.wit_graph_worlds.specs.Worlds.{State}
-use Rattle.wit_graph_parts.specs.Own.{asked, own_parts}
-use Rattle.wit_interfaces.proofs.Behind.{get_right}
+use Rattle.wit_graph.specs.Passed.wit_graph_worlds-Added.{IsAdded, AreAdded, none_added, one_added}
+use Rattle.wit_graph.specs.Passed.wit_graph_worlds-Copies.{IsSameEntry}
+use Rattle.wit_graph.specs.Passed.wit_graph_worlds-Worlds.{State}
+use Rattle.wit_graph.specs.Passed.wit_graph_parts-Own.{asked, own_parts}
+use Rattle.wit_well_formed.proofs.Passed.wit_interfaces-Behind.{get_right}
 use Rattle.wit_reach.proofs.Growing.{get_same}
 use Rattle.wit_pushed_trees.specs.Staying.{Stays}
 use Rattle.wit_pushed_trees.specs.StayingWorlds.{Entry, ItemSort, a_type, item_sort, extern_sort, member_sort, HasKnown, HasNamed, extern_label, label_of, MemberStays, HasLabel, ListsSide, ListsSides, IsExternOf, IsItemOf, HasTypeItem, HasSide, HasSides, own_world}
@@ -67,7 +67,7 @@ use Rattle.std.specs.declared.alloc.Global.{Global}
 use Rattle.std.proofs.lemmas.Slice.Eq.{bytes_eq-Decides}
 use Rattle.wit_words.specs.declared.source_map.Span.{Span}
 use Rattle.wit_order.specs.Order as order
-use Rattle.wit_uses.proofs.Joining.{IsClear, clear_front, clash_of}
+use Rattle.wit_graph.proofs.Passed.wit_uses-Joining.{IsClear, clear_front, clash_of}
 
 -- ---- a package to which files are resolved
 

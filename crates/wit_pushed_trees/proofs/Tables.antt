@@ -7,8 +7,8 @@ use Rattle.std.specs.declared.alloc.Global.{Global}
 use Rattle.indexmap.specs.IndexMap.{insert_entry, insert_all}
 use Rattle.wit_types.specs.declared.«package».Package.{Package}
 use Rattle.wit_arena.proofs.Lists.{get_more}
-use Rattle.wit_graph_worlds.specs.Names.{Pair, by_bytes, AreNames}
-use Rattle.wit_placed.specs.Naming.{AreNamesApart}
+use Rattle.wit_graph.specs.Passed.wit_graph_worlds-Names.{Pair, by_bytes, AreNames}
+use Rattle.wit_graph.specs.Passed.wit_placed-Naming.{AreNamesApart}
 use Rattle.wit_pushed_trees.specs.Apart.{AreTablesApart, IsNewText}
 use Rattle.wit_pushed_trees.specs.Asked.{text_of}
 

@@ -21,7 +21,7 @@ use Rattle.wit_scopes.specs.declared.worlds.Side.{Side}
 use Rattle.wit_scopes.specs.declared.worlds.Side.TheVariants.{Import, Export}
 use Rattle.wit_arena.specs.LowerKind.{Label}
 use Rattle.wit_arena.specs.LowerParams.{written_param, param_label}
-use Rattle.wit_functions.specs.Signature.{all_params, IsKindOf}
+use Rattle.wit_well_formed.specs.Passed.wit_functions-Signature.{all_params, IsKindOf}
 use Rattle.wit_items.specs.ItemTree.{ParamTree}
 use Rattle.wit_types.specs.declared.function.Param.{Param}
 use Rattle.wit_types.specs.declared.function.FunctionKind.{FunctionKind}
@@ -34,22 +34,22 @@ use Rattle.wit_arena.specs.Table.{Entries}
 use Rattle.wit_arena.specs.Standing.{Stands}
 use Rattle.wit_arena.specs.Meaning.{Has}
 use Rattle.wit_arena.proofs.Lists.{has_none, has_here, has_map}
-use Rattle.wit_foreign.specs.Items.{interfaces_in, worlds_in}
-use Rattle.wit_interfaces.specs.Interfaces.{IsInterfaceIn}
-use Rattle.wit_interfaces.proofs.Behind.{get_either}
-use Rattle.wit_readiness.proofs.Flat.{in_flat, flat_has, has_one}
-use Rattle.wit_resolved_scopes.specs.Each.{Each}
-use Rattle.wit_resolved_scopes.specs.InArena.{Context, own_owner, IsTypeIn, IsFunctionIn}
-use Rattle.wit_resolved_scopes.specs.Scope.{function_of, member_function, functions_among}
-use Rattle.wit_resolved_scopes.specs.Texts.{InterfaceText, interface_texts, own_member, own_members, listed_member, at_side, side_member, side_members, includes_of, worlds_of}
-use Rattle.wit_resolved_scopes.proofs.Eaches.{each_right}
-use Rattle.wit_worlds.specs.Worlds.{Entry, function_member, target_owner, IsTypeEntry, IsFunctionEntry, IsExternEntry, IsEntryOf, IsIncludeOf, IsWorldIn}
-use Rattle.wit_package.specs.Resolved.{context_of, IsResolved}
-use Rattle.wit_package.specs.Steps.{Resolves}
+use Rattle.wit_well_formed.specs.Passed.wit_foreign-Items.{interfaces_in, worlds_in}
+use Rattle.wit_well_formed.specs.Passed.wit_interfaces-Interfaces.{IsInterfaceIn}
+use Rattle.wit_well_formed.proofs.Passed.wit_interfaces-Behind.{get_either}
+use Rattle.wit_well_formed.proofs.Passed.wit_readiness-Flat.{in_flat, flat_has, has_one}
+use Rattle.wit_well_formed.specs.Passed.wit_resolved_scopes-Each.{Each}
+use Rattle.wit_well_formed.specs.Passed.wit_resolved_scopes-InArena.{Context, own_owner, IsTypeIn, IsFunctionIn}
+use Rattle.wit_well_formed.specs.Passed.wit_resolved_scopes-Scope.{function_of, member_function, functions_among}
+use Rattle.wit_well_formed.specs.Passed.wit_resolved_scopes-Texts.{InterfaceText, interface_texts, own_member, own_members, listed_member, at_side, side_member, side_members, includes_of, worlds_of}
+use Rattle.wit_well_formed.proofs.Passed.wit_resolved_scopes-Eaches.{each_right}
+use Rattle.wit_well_formed.specs.Passed.wit_worlds-Worlds.{Entry, function_member, target_owner, IsTypeEntry, IsFunctionEntry, IsExternEntry, IsEntryOf, IsIncludeOf, IsWorldIn}
+use Rattle.wit_well_formed.specs.Passed.wit_package-Resolved.{context_of, IsResolved}
+use Rattle.wit_well_formed.specs.Passed.wit_package-Steps.{Resolves}
 use Rattle.wit_reach.proofs.Holding.{got}
 use Rattle.wit_well_formed.proofs.Belonging.{counted, worlds_are_counted}
 use Rattle.wit_well_formed.proofs.Lists.{get_drop}
-use Rattle.wit_graph_parts.specs.Own.{asked, own_parts}
+use Rattle.wit_graph.specs.Passed.wit_graph_parts-Own.{asked, own_parts}
 use Rattle.wit_package_types.specs.Stability.{IsStabilityOf}
 use Rattle.wit_orders.specs.Needs.{types_of, AreSorted}
 use Rattle.wit_pushed_trees.proofs.Resolved.{name_in, named_place, text_owned}

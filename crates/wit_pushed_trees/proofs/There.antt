@@ -14,13 +14,13 @@ use Rattle.wit_types.specs.declared.world.World.{World}
 use Rattle.wit_types.specs.declared.stability.Stability.{Stability}
 use Rattle.wit_types.specs.declared.«package».Package.{Package}
 use Rattle.wit_types.specs.WorldKey.{placed}
-use Rattle.wit_worlds.specs.Worlds.{target_owner}
-use Rattle.wit_resolved_scopes.specs.Texts.{side_members, InterfaceText}
+use Rattle.wit_well_formed.specs.Passed.wit_worlds-Worlds.{target_owner}
+use Rattle.wit_well_formed.specs.Passed.wit_resolved_scopes-Texts.{side_members, InterfaceText}
 use Rattle.wit_moves.specs.Moved.{place_of, to}
 use Rattle.wit_moves.specs.Plan.{OwnerPlaces}
-use Rattle.wit_placed.specs.Order.{interface_places}
-use Rattle.wit_placed.specs.Worlds.{world_places}
-use Rattle.wit_placed.proofs.Own.{others_stay, interface_from}
+use Rattle.wit_graph.specs.Passed.wit_placed-Order.{interface_places}
+use Rattle.wit_graph.specs.Passed.wit_placed-Worlds.{world_places}
+use Rattle.wit_graph.proofs.Passed.wit_placed-Own.{others_stay, interface_from}
 use Rattle.wit_types.specs.declared.«package».PackageName.{PackageName}
 use Rattle.wit_types.specs.declared.«package».UnresolvedPackage.{UnresolvedPackage}
 use Rattle.wit_graph.specs.Graph.{Graph, items_of, sizes}
@@ -35,10 +35,10 @@ use Rattle.wit_scopes.specs.Scopes.{ItemScope, InterfaceScope, WorldMemberTree, 
 use Rattle.wit_arena.specs.Tree.{Name, in_interface, in_world, PackageText, Owner}
 use Rattle.wit_arena.specs.Meaning.{Has}
 use Rattle.wit_arena.proofs.Lists.{has_here, has_later, has_none, has_left, has_right, has_map}
-use Rattle.wit_foreign.specs.Items.{worlds_in, interfaces_in}
-use Rattle.wit_interfaces.proofs.Behind.{get_right, get_either}
-use Rattle.wit_package.specs.Resolved.{IsResolved, context_of}
-use Rattle.wit_package.specs.Steps.{Resolves}
+use Rattle.wit_well_formed.specs.Passed.wit_foreign-Items.{worlds_in, interfaces_in}
+use Rattle.wit_well_formed.proofs.Passed.wit_interfaces-Behind.{get_right, get_either}
+use Rattle.wit_well_formed.specs.Passed.wit_package-Resolved.{IsResolved, context_of}
+use Rattle.wit_well_formed.specs.Passed.wit_package-Steps.{Resolves}
 use Rattle.wit_plans.specs.Checks.{Standing}
 use Rattle.wit_plans.specs.Plans.{standing}
 use Rattle.wit_moves.specs.Interfaces.{IsMovedInterface}
@@ -46,13 +46,13 @@ use Rattle.wit_moves.specs.Worlds.{IsMovedSide}
 use Rattle.wit_plans.specs.Moves.{AreMovedInterfaces, no_interfaces, interface_goes, interface_stays, IsMovedWorld, AreMovedWorlds, no_worlds, world_goes, world_stays}
 use Rattle.wit_plans.specs.declared.moves.MovedWorld.{MovedWorld}
 use Rattle.wit_reach.proofs.Holding.{got}
-use Rattle.wit_readiness.proofs.Flat.{in_flat, flat_has}
-use Rattle.wit_resolved_scopes.specs.Texts.{interface_of, interfaces_of, interface_text, interface_texts, labelled_texts, world_of, worlds_of, AreItemsSorted}
+use Rattle.wit_well_formed.proofs.Passed.wit_readiness-Flat.{in_flat, flat_has}
+use Rattle.wit_well_formed.specs.Passed.wit_resolved_scopes-Texts.{interface_of, interfaces_of, interface_text, interface_texts, labelled_texts, world_of, worlds_of, AreItemsSorted}
 use Rattle.wit_well_formed.proofs.Belonging.{no_more_worlds, counted, worlds_are_counted}
 use Rattle.wit_well_formed.proofs.InterfaceNames.{named_apart as interfaces_named_apart}
 use Rattle.wit_well_formed.proofs.OffsetNames.{moved_named_apart}
-use Rattle.wit_graph_worlds.specs.Names.{Pair, by_bytes, name_at, interface_names, world_names, AreNames}
-use Rattle.wit_graph_parts.specs.Own.{asked, own_parts}
+use Rattle.wit_graph.specs.Passed.wit_graph_worlds-Names.{Pair, by_bytes, name_at, interface_names, world_names, AreNames}
+use Rattle.wit_graph.specs.Passed.wit_graph_parts-Own.{asked, own_parts}
 use Rattle.wit_pushed_trees.specs.Staying.{Stays, IsListed, own_interface, Remains}
 use Rattle.wit_pushed_trees.specs.There.{HasInterface, HasWorld, HasItems, ListsInterface, ListsWorld, ResolvedPackagesHaveTheirItems, MovedPackagesHaveTheirItems, PushedPackagesListTheirItems, IsNamedBy, IsWorldNamedBy}
 use Rattle.wit_pushed_trees.specs.StayingWorlds.{Entry, HasSides, own_world}

@@ -18,11 +18,11 @@ use Rattle.wit_moved_trees.specs.Law.{StandForTheSame, MovedTypesStandForTheSame
 use Rattle.wit_plans.specs.Plans.{Parts, found_of}
 use Rattle.wit_plans.specs.declared.moves.MovedWorld.{MovedWorld}
 use Rattle.wit_finding.specs.Types.{type_found}
-use Rattle.wit_joined.specs.Joined as joined
-use Rattle.wit_joined.specs.Joined.{Includes, includes_none, includes_one, own_state}
-use Rattle.wit_graph_worlds.specs.Added.{AreAdded, none_added, one_added}
-use Rattle.wit_graph_worlds.specs.Worlds.{State}
-use Rattle.wit_graph_parts.specs.Own.{asked_types, own_parts}
+use Rattle.wit_graph.specs.Passed.wit_joined-Joined as joined
+use Rattle.wit_graph.specs.Passed.wit_joined-Joined.{Includes, includes_none, includes_one, own_state}
+use Rattle.wit_graph.specs.Passed.wit_graph_worlds-Added.{AreAdded, none_added, one_added}
+use Rattle.wit_graph.specs.Passed.wit_graph_worlds-Worlds.{State}
+use Rattle.wit_graph.specs.Passed.wit_graph_parts-Own.{asked_types, own_parts}
 use Rattle.wit_graph.specs.Graph.{Graph}
 use Rattle.wit_graph.specs.Push.{IsPushed}
 use Rattle.wit_pushed_trees.specs.Pushed.{AreAgreed, PushedTypesStandForTheSame}

@@ -21,11 +21,11 @@ use Rattle.wit_arena.specs.Tree.{Name, Owner, Tree}
 use Rattle.wit_arena.specs.Unfold.{Owners, owner_of, IsWhole}
 use Rattle.wit_copied_trees.specs.Law.{IncludedTypesStandForTheSame}
 use Rattle.wit_moved_trees.specs.Law.{MovedTypesStandForTheSame}
-use Rattle.wit_joined.specs.Joined as joined
-use Rattle.wit_joined.specs.Joined.{Includes, includes_none, includes_one, own_state}
+use Rattle.wit_graph.specs.Passed.wit_joined-Joined as joined
+use Rattle.wit_graph.specs.Passed.wit_joined-Joined.{Includes, includes_none, includes_one, own_state}
 use Rattle.wit_plans.specs.declared.moves.MovedWorld.{MovedWorld}
-use Rattle.wit_graph_worlds.specs.Added.{AreAdded, none_added, one_added}
-use Rattle.wit_graph_worlds.specs.Worlds.{State}
+use Rattle.wit_graph.specs.Passed.wit_graph_worlds-Added.{AreAdded, none_added, one_added}
+use Rattle.wit_graph.specs.Passed.wit_graph_worlds-Worlds.{State}
 use Rattle.wit_graph.specs.Graph.{Graph, AreWhole}
 use Rattle.wit_graph.specs.Push.{IsPushed}
 use Rattle.wit_pushed_trees.specs.Apart.{AreWorldsApart}

@@ -6,12 +6,12 @@ use Rattle.wit_types.specs.declared.«package».Package.{Package}
 use Rattle.wit_types.specs.declared.«package».PackageName.{PackageName}
 use Rattle.wit_types.specs.declared.«package».UnresolvedPackage.{UnresolvedPackage}
 use Rattle.wit_offsets.specs.Offsets.{package_at}
-use Rattle.wit_placed.specs.Naming.{AreNamesApart}
+use Rattle.wit_graph.specs.Passed.wit_placed-Naming.{AreNamesApart}
 use Rattle.wit_arena.specs.Tree.{Name, in_world, Owner}
 use Rattle.wit_arena.specs.Unfold.{Owners}
 use Rattle.wit_arena.specs.Meaning.{Has}
-use Rattle.wit_graph_parts.specs.Own.{own_parts}
-use Rattle.wit_package.specs.Steps.{Resolves}
+use Rattle.wit_graph.specs.Passed.wit_graph_parts-Own.{own_parts}
+use Rattle.wit_well_formed.specs.Passed.wit_package-Steps.{Resolves}
 use Rattle.wit_pushed_trees.specs.Asked.{text_of}
 
 -- it is a world of one of the packages

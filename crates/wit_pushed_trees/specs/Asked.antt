@@ -13,10 +13,10 @@ use Rattle.wit_offsets.specs.Offsets.{package_at}
 use Rattle.wit_arena.specs.Tree.{Name, in_interface, in_world, PackageText, Owner}
 use Rattle.wit_arena.specs.Unfold.{Owners}
 use Rattle.wit_arena.specs.Meaning.{Has}
-use Rattle.wit_foreign.specs.Deps.{ItemEntry, PackageEntry, package_entries}
-use Rattle.wit_package.specs.Resolved.{context_of}
-use Rattle.wit_package.specs.Steps.{Resolves}
-use Rattle.wit_graph_parts.specs.Own.{own_parts}
+use Rattle.wit_well_formed.specs.Passed.wit_foreign-Deps.{ItemEntry, PackageEntry, package_entries}
+use Rattle.wit_well_formed.specs.Passed.wit_package-Resolved.{context_of}
+use Rattle.wit_well_formed.specs.Passed.wit_package-Steps.{Resolves}
+use Rattle.wit_graph.specs.Passed.wit_graph_parts-Own.{own_parts}
 
 -- the texts of a name
 abbrev pub text_of : PackageName → PackageText

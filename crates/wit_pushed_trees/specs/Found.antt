@@ -16,8 +16,8 @@ use Rattle.wit_arena.specs.Tree.{Name, Place, in_interface, in_world, Owner, Tre
 use Rattle.wit_arena.specs.Unfold.{Owners, IsWhole}
 use Rattle.wit_arena.specs.Standing.{HasTree}
 use Rattle.wit_arena.specs.Meaning.{Has}
-use Rattle.wit_graph_worlds.specs.Names.{IsSameName}
-use Rattle.wit_graph_parts.specs.Own.{own_parts}
+use Rattle.wit_graph.specs.Passed.wit_graph_worlds-Names.{IsSameName}
+use Rattle.wit_graph.specs.Passed.wit_graph_parts-Own.{own_parts}
 use Rattle.wit_graph.specs.Graph.{Graph, nothing}
 use Rattle.wit_graph.specs.Push.{IsPushed}
 use Rattle.wit_graph.specs.declared.tables.Tables.{Tables}

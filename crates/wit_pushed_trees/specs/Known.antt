@@ -7,8 +7,8 @@ use Rattle.wit_types.specs.declared.«package».PackageName.{PackageName}
 use Rattle.wit_types.specs.declared.«package».UnresolvedPackage.{UnresolvedPackage}
 use Rattle.wit_features.specs.Features.{FeatureSet}
 use Rattle.wit_offsets.specs.Offsets.{package_at}
-use Rattle.wit_package.specs.Steps.{Resolves}
-use Rattle.wit_graph_parts.specs.Own.{own_parts}
+use Rattle.wit_well_formed.specs.Passed.wit_package-Steps.{Resolves}
+use Rattle.wit_graph.specs.Passed.wit_graph_parts-Own.{own_parts}
 use Rattle.wit_graph.specs.Graph.{Graph, nothing}
 use Rattle.wit_graph.specs.Push.{IsPushed}
 

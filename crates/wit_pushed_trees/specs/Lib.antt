@@ -19,3 +19,4 @@ pub mod StayingPaths
 pub mod StayingIncludes
 pub mod StayingInner
 pub mod There
+pub mod Passed

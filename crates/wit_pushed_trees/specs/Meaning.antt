@@ -8,17 +8,17 @@ use Rattle.wit_types.specs.declared.function.FunctionKind.TheVariants as of
 use Rattle.wit_types.specs.declared.interface.Interface.{Interface}
 use Rattle.wit_types.specs.declared.interface.TypeDef.{TypeDef}
 use Rattle.wit_items.specs.ItemTree.{ParamTree}
-use Rattle.wit_functions.specs.Signature.{all_params}
+use Rattle.wit_well_formed.specs.Passed.wit_functions-Signature.{all_params}
 use Rattle.wit_scopes.specs.Members.{MemberTree, MemberKind, used, defined, function, method, static, constructor}
 use Rattle.wit_rules.specs.Labels.{full_name}
 use Rattle.wit_arena.specs.Tree.{Name, Place, in_interface, Owner, Tree}
 use Rattle.wit_arena.specs.Unfold.{Owners}
 use Rattle.wit_arena.specs.Standing.{Stands}
 use Rattle.wit_arena.specs.Meaning.{Has}
-use Rattle.wit_resolved_scopes.specs.InArena.{Context, own_owner}
-use Rattle.wit_resolved_scopes.specs.Meaning.{StandsForFunction}
-use Rattle.wit_resolved_scopes.specs.Scope.{functions_among}
-use Rattle.wit_resolved_scopes.specs.Texts.{InterfaceText}
+use Rattle.wit_well_formed.specs.Passed.wit_resolved_scopes-InArena.{Context, own_owner}
+use Rattle.wit_well_formed.specs.Passed.wit_resolved_scopes-Meaning.{StandsForFunction}
+use Rattle.wit_well_formed.specs.Passed.wit_resolved_scopes-Scope.{functions_among}
+use Rattle.wit_well_formed.specs.Passed.wit_resolved_scopes-Texts.{InterfaceText}
 
 -- what sort of function something is, and whether it is asynchronous
 pub data FunctionSort : Type 0 where

@@ -10,10 +10,10 @@ use Rattle.wit_scopes.specs.Scopes.{WorldScope}
 use Rattle.wit_arena.specs.Tree.{Name, Owner, Tree}
 use Rattle.wit_arena.specs.Unfold.{Owners}
 use Rattle.wit_arena.specs.Meaning.{Has}
-use Rattle.wit_resolved_scopes.specs.InArena.{Context}
-use Rattle.wit_resolved_scopes.specs.Texts.{InterfaceText, interface_texts, worlds_of}
-use Rattle.wit_package.specs.Resolved.{context_of}
-use Rattle.wit_package.specs.Steps.{Resolves}
+use Rattle.wit_well_formed.specs.Passed.wit_resolved_scopes-InArena.{Context}
+use Rattle.wit_well_formed.specs.Passed.wit_resolved_scopes-Texts.{InterfaceText, interface_texts, worlds_of}
+use Rattle.wit_well_formed.specs.Passed.wit_package-Resolved.{context_of}
+use Rattle.wit_well_formed.specs.Passed.wit_package-Steps.{Resolves}
 use Rattle.wit_graph.specs.Graph.{Graph, AreWhole, nothing}
 use Rattle.wit_graph.specs.Push.{IsPushed}
 use Rattle.wit_graph.specs.declared.tables.Tables.{Tables}

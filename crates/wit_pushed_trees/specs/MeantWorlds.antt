@@ -9,10 +9,10 @@ use Rattle.wit_features.specs.Features.{FeatureSet, stays}
 use Rattle.wit_arena.specs.Tree.{Name, in_world, Owner, Tree}
 use Rattle.wit_arena.specs.Unfold.{Owners}
 use Rattle.wit_arena.specs.Meaning.{Has}
-use Rattle.wit_resolved_scopes.specs.InArena.{own_owner}
-use Rattle.wit_joined.specs.Joined.{IsJoinedWorld}
+use Rattle.wit_well_formed.specs.Passed.wit_resolved_scopes-InArena.{own_owner}
+use Rattle.wit_graph.specs.Passed.wit_joined-Joined.{IsJoinedWorld}
 use Rattle.wit_plans.specs.declared.moves.MovedWorld.{MovedWorld}
-use Rattle.wit_graph_worlds.specs.Copies.{IsSameWorld}
+use Rattle.wit_graph.specs.Passed.wit_graph_worlds-Copies.{IsSameWorld}
 use Rattle.wit_graph.specs.Graph.{Graph, AreWhole, nothing}
 use Rattle.wit_graph.specs.Push.{IsPushed}
 use Rattle.wit_graph.specs.declared.tables.Tables.{Tables}

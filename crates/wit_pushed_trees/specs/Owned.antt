@@ -12,12 +12,12 @@ use Rattle.wit_offsets.specs.Offsets.{package_at}
 use Rattle.wit_moves.specs.Plan.{is_owner_placed, moved_owner}
 use Rattle.wit_arena.specs.Tree.{Name, in_interface, in_world, Owner}
 use Rattle.wit_arena.specs.Unfold.{Owners, owner_of}
-use Rattle.wit_graph_parts.specs.Own.{asked, own_parts}
+use Rattle.wit_graph.specs.Passed.wit_graph_parts-Own.{asked, own_parts}
 use Rattle.wit_graph.specs.Graph.{Graph, nothing}
 use Rattle.wit_graph.specs.Push.{IsPushed}
 use Rattle.wit_graph.specs.declared.tables.Tables.{Tables}
-use Rattle.wit_package.specs.Resolved.{context_of}
-use Rattle.wit_package.specs.Steps.{Resolves}
+use Rattle.wit_well_formed.specs.Passed.wit_package-Resolved.{context_of}
+use Rattle.wit_well_formed.specs.Passed.wit_package-Steps.{Resolves}
 use Rattle.wit_pushed_trees.specs.Apart.{AreWorldsApart, AreTablesApart, AreWorldsNamedApart, IsNewText}
 use Rattle.wit_pushed_trees.specs.Asked.{text_of, AsksByName}
 use Rattle.wit_pushed_trees.specs.Found.{TellsNamesApart, NamesOfGraphStand, IsInterfaceOf, IsWorldOf}

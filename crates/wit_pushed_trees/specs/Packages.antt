@@ -8,11 +8,11 @@ use Rattle.wit_offsets.specs.Offsets.{package_at}
 use Rattle.wit_scopes.specs.Scopes.{WorldScope}
 use Rattle.wit_arena.specs.Tree.{Name, Owner, Tree}
 use Rattle.wit_arena.specs.Unfold.{IsWhole}
-use Rattle.wit_resolved_scopes.specs.InArena.{Context}
-use Rattle.wit_resolved_scopes.specs.Texts.{InterfaceText, interface_texts, worlds_of}
-use Rattle.wit_package.specs.Resolved.{context_of}
-use Rattle.wit_package.specs.Steps.{Resolves}
-use Rattle.wit_graph_parts.specs.Own.{asked, own_parts}
+use Rattle.wit_well_formed.specs.Passed.wit_resolved_scopes-InArena.{Context}
+use Rattle.wit_well_formed.specs.Passed.wit_resolved_scopes-Texts.{InterfaceText, interface_texts, worlds_of}
+use Rattle.wit_well_formed.specs.Passed.wit_package-Resolved.{context_of}
+use Rattle.wit_well_formed.specs.Passed.wit_package-Steps.{Resolves}
+use Rattle.wit_graph.specs.Passed.wit_graph_parts-Own.{asked, own_parts}
 use Rattle.wit_pushed_trees.specs.Meaning.{IsOfText}
 use Rattle.wit_pushed_trees.specs.Worlds.{all_kept, IsWorldMeant}
 

@@ -12,9 +12,9 @@ use Rattle.wit_moves.specs.Plan.{OwnerPlaces, is_owner_placed, moved_owner}
 use Rattle.wit_moved_trees.specs.Law.{StandForTheSame}
 use Rattle.wit_plans.specs.Plans.{found_of}
 use Rattle.wit_plans.specs.declared.moves.MovedWorld.{MovedWorld}
-use Rattle.wit_resolved_scopes.specs.InArena.{Context}
-use Rattle.wit_resolved_scopes.specs.Texts.{InterfaceText}
-use Rattle.wit_graph_parts.specs.Own.{own_parts}
+use Rattle.wit_well_formed.specs.Passed.wit_resolved_scopes-InArena.{Context}
+use Rattle.wit_well_formed.specs.Passed.wit_resolved_scopes-Texts.{InterfaceText}
+use Rattle.wit_graph.specs.Passed.wit_graph_parts-Own.{own_parts}
 use Rattle.wit_graph.specs.Graph.{Graph}
 use Rattle.wit_graph.specs.Push.{IsPushed}
 use Rattle.wit_graph.specs.declared.tables.Tables.{Tables}

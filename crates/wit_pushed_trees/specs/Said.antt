@@ -25,10 +25,10 @@ use Rattle.wit_arena.specs.Tree.{Name, in_world, Owner, Tree, TreeOption, Trees,
 use Rattle.wit_arena.specs.Unfold.{Owners}
 use Rattle.wit_arena.specs.Standing.{HasTree}
 use Rattle.wit_arena.specs.Meaning.{Has, MeansParts, MeansName}
-use Rattle.wit_resolved_scopes.specs.InArena.{own_owner}
-use Rattle.wit_resolved_scopes.specs.Meaning.{written_parts}
-use Rattle.wit_resolved_scopes.specs.Texts.{own_members, side_members, includes_of}
-use Rattle.wit_worlds.specs.Worlds.{target_owner, include_name, written_name}
+use Rattle.wit_well_formed.specs.Passed.wit_resolved_scopes-InArena.{own_owner}
+use Rattle.wit_well_formed.specs.Passed.wit_resolved_scopes-Meaning.{written_parts}
+use Rattle.wit_well_formed.specs.Passed.wit_resolved_scopes-Texts.{own_members, side_members, includes_of}
+use Rattle.wit_well_formed.specs.Passed.wit_worlds-Worlds.{target_owner, include_name, written_name}
 use Rattle.wit_copied_trees.specs.Law.{IsOfTrees}
 use Rattle.wit_copied_trees.specs.Renamed.{IsRenamedTree, IsRenamedPart, AreRenamedTrees}
 use Rattle.wit_moves.specs.Moved.{resource_of}

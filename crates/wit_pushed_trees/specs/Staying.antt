@@ -16,9 +16,9 @@ use Rattle.wit_orders.specs.Needs.{types_of}
 use Rattle.wit_arena.specs.Tree.{Name}
 use Rattle.wit_arena.specs.Meaning.{Has}
 use Rattle.wit_package_types.specs.Stability.{IsStabilityOf}
-use Rattle.wit_resolved_scopes.specs.Scope.{functions_among}
+use Rattle.wit_well_formed.specs.Passed.wit_resolved_scopes-Scope.{functions_among}
 use Rattle.wit_moves.specs.Moved.{resource_of}
-use Rattle.wit_graph_parts.specs.Own.{asked, asked_types, own_parts}
+use Rattle.wit_graph.specs.Passed.wit_graph_parts-Own.{asked, asked_types, own_parts}
 
 -- ---- texts
 

@@ -13,9 +13,9 @@ use Rattle.wit_arena.specs.Tree.{Name, in_world, PackageText, Owner}
 use Rattle.wit_arena.specs.Unfold.{Owners}
 use Rattle.wit_arena.specs.Meaning.{Has}
 use Rattle.wit_package_types.specs.Stability.{IsStabilityOf}
-use Rattle.wit_resolved_scopes.specs.Texts.{includes_of}
-use Rattle.wit_worlds.specs.Worlds.{target_owner, include_name, written_name}
-use Rattle.wit_graph_parts.specs.Own.{asked, own_parts}
+use Rattle.wit_well_formed.specs.Passed.wit_resolved_scopes-Texts.{includes_of}
+use Rattle.wit_well_formed.specs.Passed.wit_worlds-Worlds.{target_owner, include_name, written_name}
+use Rattle.wit_graph.specs.Passed.wit_graph_parts-Own.{asked, own_parts}
 use Rattle.wit_pushed_trees.specs.Asked.{text_of}
 use Rattle.wit_pushed_trees.specs.Found.{IsWorldOf}
 use Rattle.wit_pushed_trees.specs.Staying.{Stays}

@@ -16,8 +16,8 @@ use Rattle.wit_scopes.specs.Scopes.{ListedTree, WorldMemberTree}
 use Rattle.wit_arena.specs.Tree.{Name}
 use Rattle.wit_arena.specs.Meaning.{Has}
 use Rattle.wit_package_types.specs.Stability.{IsStabilityOf}
-use Rattle.wit_resolved_scopes.specs.Texts.{side_members}
-use Rattle.wit_graph_parts.specs.Own.{asked, own_parts}
+use Rattle.wit_well_formed.specs.Passed.wit_resolved_scopes-Texts.{side_members}
+use Rattle.wit_graph.specs.Passed.wit_graph_parts-Own.{asked, own_parts}
 use Rattle.wit_pushed_trees.specs.Staying.{Stays, ListsMembers, HasMembers, own_interface}
 use Rattle.wit_pushed_trees.specs.StayingWorlds.{Entry, HasNamed}
 

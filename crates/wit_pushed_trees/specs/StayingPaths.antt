@@ -19,9 +19,9 @@ use Rattle.wit_arena.specs.Tree.{Name, in_interface, PackageText, Owner}
 use Rattle.wit_arena.specs.Unfold.{Owners}
 use Rattle.wit_arena.specs.Meaning.{Has}
 use Rattle.wit_package_types.specs.Stability.{IsStabilityOf}
-use Rattle.wit_resolved_scopes.specs.Texts.{side_members}
-use Rattle.wit_worlds.specs.Worlds.{target_owner}
-use Rattle.wit_graph_parts.specs.Own.{asked, own_parts}
+use Rattle.wit_well_formed.specs.Passed.wit_resolved_scopes-Texts.{side_members}
+use Rattle.wit_well_formed.specs.Passed.wit_worlds-Worlds.{target_owner}
+use Rattle.wit_graph.specs.Passed.wit_graph_parts-Own.{asked, own_parts}
 use Rattle.wit_pushed_trees.specs.Asked.{text_of, AsksByName}
 use Rattle.wit_pushed_trees.specs.Found.{IsInterfaceOf}
 use Rattle.wit_pushed_trees.specs.Staying.{Stays}

@@ -22,9 +22,9 @@ use Rattle.wit_orders.specs.Needs.{types_of}
 use Rattle.wit_arena.specs.Tree.{Name}
 use Rattle.wit_arena.specs.Meaning.{Has}
 use Rattle.wit_package_types.specs.Stability.{IsStabilityOf}
-use Rattle.wit_resolved_scopes.specs.Texts.{own_members, side_members}
+use Rattle.wit_well_formed.specs.Passed.wit_resolved_scopes-Texts.{own_members, side_members}
 use Rattle.wit_moves.specs.Moved.{resource_of}
-use Rattle.wit_graph_parts.specs.Own.{asked}
+use Rattle.wit_graph.specs.Passed.wit_graph_parts-Own.{asked}
 use Rattle.wit_pushed_trees.specs.Staying.{Stays, FunctionStays, IsOwnType, HasResource}
 
 abbrev pub Entry : Type 0

@@ -14,9 +14,9 @@ use Rattle.wit_scopes.specs.Scopes.{InterfaceScope, WorldScope, package_scopes}
 use Rattle.wit_arena.specs.Meaning.{Has}
 use Rattle.wit_arena.specs.Unfold.{Owners}
 use Rattle.wit_package_types.specs.Stability.{IsStabilityOf}
-use Rattle.wit_resolved_scopes.specs.Texts.{interfaces_of, worlds_of}
-use Rattle.wit_package.specs.Steps.{Resolves}
-use Rattle.wit_graph_parts.specs.Own.{own_parts}
+use Rattle.wit_well_formed.specs.Passed.wit_resolved_scopes-Texts.{interfaces_of, worlds_of}
+use Rattle.wit_well_formed.specs.Passed.wit_package-Steps.{Resolves}
+use Rattle.wit_graph.specs.Passed.wit_graph_parts-Own.{own_parts}
 use Rattle.wit_graph.specs.Graph.{Graph}
 use Rattle.wit_graph.specs.Push.{IsPushed}
 use Rattle.wit_graph.specs.declared.tables.Tables.{Tables}

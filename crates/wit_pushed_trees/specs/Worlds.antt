@@ -23,9 +23,9 @@ use Rattle.wit_arena.specs.Unfold.{Owners}
 use Rattle.wit_arena.specs.Standing.{Stands}
 use Rattle.wit_arena.specs.Meaning.{Has}
 use Rattle.wit_package_types.specs.Stability.{IsStabilityOf}
-use Rattle.wit_resolved_scopes.specs.InArena.{Context, own_owner}
-use Rattle.wit_resolved_scopes.specs.Texts.{own_members, side_members, includes_of}
-use Rattle.wit_worlds.specs.Worlds.{function_member, target_owner, include_name, written_name}
+use Rattle.wit_well_formed.specs.Passed.wit_resolved_scopes-InArena.{Context, own_owner}
+use Rattle.wit_well_formed.specs.Passed.wit_resolved_scopes-Texts.{own_members, side_members, includes_of}
+use Rattle.wit_well_formed.specs.Passed.wit_worlds-Worlds.{function_member, target_owner, include_name, written_name}
 use Rattle.wit_pushed_trees.specs.Meaning.{IsKindMeant, IsFunctionMeant}
 
 -- ---- gates

@@ -4,12 +4,12 @@ use Rattle.std.specs.Prelude.{reverse}
 use Rattle.std.specs.Ordering.{nat_cmp}
 use Rattle.std.specs.BTreeMap.Range.{IsLtBy}
 use Rattle.std.specs.List.{All}
-use Rattle.wit_order.specs.Order.{Has}
-use Rattle.wit_order.specs.Places.{Rows}
+use Rattle.wit_types.specs.Passed.wit_order-Order.{Has}
+use Rattle.wit_types.specs.Passed.wit_order-Places.{Rows}
 use Rattle.wit_reach.specs.Paths.{AreRising, IsPath, Reaches, AreBackward, AreEnds}
 use Rattle.wit_reach.specs.Reach.{Uses, AreThere, Lists, IsNeededOutside, IsStart, IsElaborated, IsConflict, IsElaboration}
 use Rattle.wit_reach.specs.Walk.{bottom, AreFalling, Walk}
-use Rattle.wit_order.proofs.Lists.{has_last, has_was, has_more}
+use Rattle.wit_types.proofs.Passed.wit_order-Lists.{has_last, has_was, has_more}
 use Rattle.wit_reach.proofs.Lists.{below_all, has_reverse, has_reversed, reverse_cons, rising_append, rising_one, rising_first, has_append, has_parts}
 
 pub falling_more : (n : ℕ) (xs : List ℕ) (x : ℕ) → AreFalling n xs → x < bottom n xs → AreFalling n (xs ++ x ∷ [])

@@ -3,9 +3,9 @@ use Rattle.std.proofs.Common.{◌≡◌, ℕ, zero, suc, ◌<◌, List, [], ◌�
 use Rattle.std.proofs.lemmas.Option.{slice_get_within}
 use Rattle.std.specs.Prelude.{slice_get}
 use Rattle.wit_types.specs.declared.interface.TypeDef.{TypeDef}
-use Rattle.wit_order.specs.Order.{Has}
-use Rattle.wit_order.specs.Places.{Rows, row, Needs}
-use Rattle.wit_order.proofs.Lists.{row_past}
+use Rattle.wit_types.specs.Passed.wit_order-Order.{Has}
+use Rattle.wit_types.specs.Passed.wit_order-Places.{Rows, row, Needs}
+use Rattle.wit_types.proofs.Passed.wit_order-Lists.{row_past}
 use Rattle.wit_reach.specs.Deps.{alias_target, owned, at_target, def_dep, AreUsed}
 use Rattle.wit_reach.specs.Paths.{AreBackward, IsPath, Reaches}
 use Rattle.wit_reach.specs.Types.{AreTypesBackward, AreTypesThere}

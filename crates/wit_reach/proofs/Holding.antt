@@ -4,7 +4,7 @@ use Rattle.std.proofs.lemmas.Bool.{eq-eqb}
 use Rattle.std.proofs.lemmas.Option.{same_Some, slice_get_within}
 use Rattle.std.specs.Prelude.{slice_get, flat_map, if◌then◌else◌}
 use Rattle.std.specs.declared.alloc.Global.{Global}
-use Rattle.wit_order.specs.Order.{Has}
+use Rattle.wit_types.specs.Passed.wit_order-Order.{Has}
 use Rattle.wit_types.specs.declared.kind.«Type».{«Type» as Ref}
 use Rattle.wit_types.specs.declared.kind.«Type».TheVariants as ref
 use Rattle.wit_types.specs.declared.kind.TypeDefKind.{TypeDefKind}
@@ -17,7 +17,7 @@ use Rattle.wit_reach.specs.Deps.{alias_target, interface_of, is_of_interface, bu
 use Rattle.wit_reach.specs.Holding.{IsUpTo, IsMadeUpTo, listed_types, functions_ids, AreNamedOwned, IsTypeUnder, HoldTheirTypes, ListedTypesAreAll, HeldAreInOrder}
 use Rattle.wit_reach.specs.Ids.{kind_ids}
 use Rattle.wit_reach.specs.Types.{IsMadeOf, AreTypesBackward}
-use Rattle.wit_order.proofs.Lists.{has_was}
+use Rattle.wit_types.proofs.Passed.wit_order-Lists.{has_was}
 use Rattle.wit_reach.proofs.Ends.{closed_ends}
 use Rattle.wit_reach.proofs.Growing.{get_same}
 use Rattle.wit_reach.proofs.Lists.{has_append, has_parts}

@@ -6,8 +6,8 @@ use Rattle.wit_types.specs.declared.world.World.{World}
 use Rattle.wit_types.specs.declared.world.WorldItem.{WorldItem}
 use Rattle.wit_types.specs.declared.world.WorldItem.TheVariants as item
 use Rattle.wit_types.specs.declared.world_key.WorldKey.{WorldKey}
-use Rattle.wit_order.specs.Order.{Has}
-use Rattle.wit_order.proofs.Lists.{has_was}
+use Rattle.wit_types.specs.Passed.wit_order-Order.{Has}
+use Rattle.wit_types.proofs.Passed.wit_order-Lists.{has_was}
 use Rattle.wit_reach.specs.Ids.{item_ids}
 use Rattle.wit_reach.specs.Types.{AreTypesThere, AreSidesThere}
 use Rattle.wit_reach.specs.Lists.{item_type, type_items, item_types}

@@ -8,3 +8,4 @@ pub mod Growing
 pub mod Seen
 pub mod Sorting
 pub mod Holding
+pub mod Passed

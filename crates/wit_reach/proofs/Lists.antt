@@ -11,8 +11,8 @@ use Rattle.std.specs.Option.{option_copied}
 use Rattle.std.proofs.lemmas.Option.{same_Some}
 use Rattle.std.specs.declared.cmp.Ordering.{Ordering}
 use Rattle.std.specs.declared.cmp.Ordering.TheVariants.{Less, Equal, Greater}
-use Rattle.wit_order.specs.Order.{Has, AreDependenciesFirst}
-use Rattle.wit_order.proofs.Lists.{has_get, has_place, has_more, has_was, has_take_more}
+use Rattle.wit_types.specs.Passed.wit_order-Order.{Has, AreDependenciesFirst}
+use Rattle.wit_types.proofs.Passed.wit_order-Lists.{has_get, has_place, has_more, has_was, has_take_more}
 use Rattle.wit_reach.specs.Paths.{AreRising}
 
 pub has_append : (xs ys : List ℕ) (x : ℕ) → Has ys x → Has (xs ++ ys) x

@@ -4,8 +4,8 @@ use Rattle.std.specs.Prelude.{slice_get}
 use Rattle.wit_types.specs.declared.interface.TypeDef.{TypeDef}
 use Rattle.wit_types.specs.declared.interface.TypeOwner.{TypeOwner}
 use Rattle.wit_types.specs.declared.interface.TypeOwner.TheVariants as belongs
-use Rattle.wit_order.specs.Order.{Has}
-use Rattle.wit_order.proofs.Lists.{has_last, has_was, has_more}
+use Rattle.wit_types.specs.Passed.wit_order-Order.{Has}
+use Rattle.wit_types.proofs.Passed.wit_order-Lists.{has_last, has_was, has_more}
 use Rattle.wit_reach.specs.Paths.{IsPath, AreEnds}
 use Rattle.wit_reach.specs.Ids.{kind_ids}
 use Rattle.wit_reach.proofs.Lists.{has_parts, rising_append}

@@ -2,7 +2,7 @@
 use Rattle.std.proofs.Common.{◌≡◌, ℕ, true, List, [], ◌∷◌, Some, subst, refl}
 use Rattle.std.specs.Prelude.{slice_get}
 use Rattle.wit_types.specs.declared.interface.TypeDef.{TypeDef}
-use Rattle.wit_order.specs.Order.{Has}
+use Rattle.wit_types.specs.Passed.wit_order-Order.{Has}
 use Rattle.wit_reach.specs.Paths.{IsPath, AreBackward}
 use Rattle.wit_reach.specs.Ids.{kind_ids}
 use Rattle.wit_reach.specs.Types.{IsMadeOf, AreTypesBackward}

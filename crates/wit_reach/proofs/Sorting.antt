@@ -6,9 +6,9 @@ use Rattle.std.proofs.lemmas.Option.{same_Some}
 use Rattle.std.specs.Prelude.{slice_get, map, Vec}
 use Rattle.std.specs.declared.alloc.Global.{Global}
 use Rattle.wit_types.specs.declared.interface.TypeDef.{TypeDef}
-use Rattle.wit_order.specs.Order.{Has}
-use Rattle.wit_order.specs.Places.{Rows, row}
-use Rattle.wit_order.proofs.Lists.{has_last, has_was, has_more}
+use Rattle.wit_types.specs.Passed.wit_order-Order.{Has}
+use Rattle.wit_types.specs.Passed.wit_order-Places.{Rows, row}
+use Rattle.wit_types.proofs.Passed.wit_order-Lists.{has_last, has_was, has_more}
 use Rattle.wit_reach.specs.Paths.{AreRising, AreEnds}
 use Rattle.wit_reach.specs.Types.{IsMadeOf}
 use Rattle.wit_reach.specs.Deps.{interface_of}

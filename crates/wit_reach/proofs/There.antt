@@ -6,8 +6,8 @@ use Rattle.wit_types.specs.declared.interface.TypeOwner.{TypeOwner}
 use Rattle.wit_types.specs.declared.world.WorldItem.{WorldItem}
 use Rattle.wit_types.specs.declared.world_key.WorldKey.{WorldKey}
 use Rattle.wit_types.specs.declared.world_key.WorldKey.TheVariants as key
-use Rattle.wit_order.specs.Order.{Has}
-use Rattle.wit_order.proofs.Lists.{has_was}
+use Rattle.wit_types.specs.Passed.wit_order-Order.{Has}
+use Rattle.wit_types.proofs.Passed.wit_order-Lists.{has_was}
 use Rattle.wit_reach.specs.Deps.{alias_target, interface_of, is_of_interface, but_own, owned, at_target, AreUsed}
 use Rattle.wit_reach.specs.Lists.{item_interface, interfaces_of, labelled, labelled_in, listed, listed_in, AreOwnersThere}
 use Rattle.wit_reach.proofs.Lists.{has_append, has_parts}

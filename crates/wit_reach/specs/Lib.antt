@@ -8,3 +8,4 @@ pub mod Lists
 pub mod Made
 pub mod Needed
 pub mod Holding
+pub mod Passed

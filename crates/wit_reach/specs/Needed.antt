@@ -1,8 +1,8 @@
 -- Which types of each interface are needed: those of it that types are made of (WIT, Types).
 use Rattle.std.specs.Prelude.{◌≡◌, ℕ, ◌↔◌, List, Some, length, slice_get}
 use Rattle.wit_types.specs.declared.interface.TypeDef.{TypeDef}
-use Rattle.wit_order.specs.Order.{Has}
-use Rattle.wit_order.specs.Places.{Rows, row}
+use Rattle.wit_types.specs.Passed.wit_order-Order.{Has}
+use Rattle.wit_types.specs.Passed.wit_order-Places.{Rows, row}
 use Rattle.wit_reach.specs.Paths.{AreRising, Reaches}
 use Rattle.wit_reach.specs.Types.{IsMadeOf}
 use Rattle.wit_reach.specs.Deps.{interface_of}

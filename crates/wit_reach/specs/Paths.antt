@@ -1,6 +1,6 @@
 -- What paths reach where some places use others.
 use Rattle.std.specs.Prelude.{◌≡◌, ℕ, ◌<◌, List, [], ◌∷◌}
-use Rattle.wit_order.specs.Order.{Has}
+use Rattle.wit_types.specs.Passed.wit_order-Order.{Has}
 
 -- each of the list is below each behind it
 abbrev pub AreRising : List ℕ → Type 0

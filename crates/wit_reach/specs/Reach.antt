@@ -1,7 +1,7 @@
 -- What is reached over the types that interfaces use, and which interfaces a world imports in the end (Component Model, WIT, Worlds).
 use Rattle.std.specs.Prelude.{◌≡◌, ℕ, ◌<◌, List, [], length, ◌⊎◌}
-use Rattle.wit_order.specs.Order.{Has, AreDependenciesFirst}
-use Rattle.wit_order.specs.Places.{Rows, Needs}
+use Rattle.wit_types.specs.Passed.wit_order-Order.{Has, AreDependenciesFirst}
+use Rattle.wit_types.specs.Passed.wit_order-Places.{Rows, Needs}
 use Rattle.wit_reach.specs.Paths.{AreRising, AreBackward, Reaches}
 use Rattle.wit_reach.specs.declared.reach.WorldLists.{WorldLists}
 use Rattle.wit_reach.specs.declared.reach.ElaborateFault.{ElaborateFault}

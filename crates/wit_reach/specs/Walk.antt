@@ -1,6 +1,6 @@
 -- A walk that takes the last of what is left, each time.
 use Rattle.std.specs.Prelude.{ℕ, ◌<◌, List, [], ◌∷◌, ◌⊎◌}
-use Rattle.wit_order.specs.Order.{Has}
+use Rattle.wit_types.specs.Passed.wit_order-Order.{Has}
 use Rattle.wit_reach.specs.Paths.{Reaches}
 
 -- the last of a list, or n

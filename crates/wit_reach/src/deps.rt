@@ -1,7 +1,7 @@
 //! The interfaces of which types are used.
 
 ghost use Rattle.std.specs.Prelude.{◌≡◌, ℕ, ◌<◌, ◌⊎◌, ◌↔◌, Some, length, map, IfOk, IfSome, OnOk};
-ghost use Rattle.wit_order.specs.Order.{Has};
+ghost use Rattle.wit_types.specs.Passed.wit_order-Order.{Has};
 ghost use Rattle.wit_reach.specs.Types.{AreTypesBackward, AreTypesThere};
 ghost use Rattle.wit_reach.specs.Ids.{kind_ids};
 ghost use Rattle.wit_reach.specs.Deps as spec;

@@ -21,4 +21,7 @@ pub use reach::{
     law_elaborated_stays,
 };
 pub use types::world_types;
+pub use wit_types::{
+    Arena, Interface, InterfaceId, Stability, TypeDef, World, WorldItem, WorldKey,
+};
 pub use world::{add_uses, law_lists_are_there, named_interfaces, world_lists};

@@ -1,7 +1,7 @@
 //! What types are made of over any number of steps.
 
 ghost use Rattle.std.specs.Prelude.{◌≡◌, ℕ, ◌<◌, ◌⊎◌, length, IfOk, OnOk};
-ghost use Rattle.wit_order.specs.Order.{Has};
+ghost use Rattle.wit_types.specs.Passed.wit_order-Order.{Has};
 ghost use Rattle.wit_reach.specs.Paths.{AreEnds};
 ghost use Rattle.wit_reach.specs.Types.{AreTypesBackward, AreTypesThere, IsMadeOf};
 ghost use Rattle.wit_reach.specs.Made as spec;

@@ -1,7 +1,7 @@
 //! The types of each interface that are needed.
 
 ghost use Rattle.std.specs.Prelude.{◌≡◌, ◌<◌, ◌++◌, ◌∷◌, [], ℕ, Some, length, slice_get, IfOk, OnOk};
-ghost use Rattle.wit_order.specs.Places.{row};
+ghost use Rattle.wit_types.specs.Passed.wit_order-Places.{row};
 ghost use Rattle.wit_reach.specs.Paths.{AreRising};
 ghost use Rattle.wit_reach.specs.Types.{AreTypesBackward, AreTypesThere};
 ghost use Rattle.wit_reach.specs.Lists.{AreOwnersThere};

@@ -1,7 +1,7 @@
 //! What is reached from where.
 
 ghost use Rattle.std.specs.Prelude.{◌≡◌, ℕ, ◌<◌, ◌⊎◌, ◌↔◌, List, [], length, reverse, IfOk, IfErr, OnOk, IfSome, IfNone, IsTrue};
-ghost use Rattle.wit_order.specs.Order.{Has};
+ghost use Rattle.wit_types.specs.Passed.wit_order-Order.{Has};
 ghost use Rattle.wit_reach.specs.Paths.{AreBackward, AreEnds};
 ghost use Rattle.wit_reach.specs.Reach.{Uses, IsNeededOutside, IsElaboration, IsElaborateCause, AreThere, lists_of, ElaboratingAgainIsTheSame, ElaboratedAreThere};
 

@@ -1,7 +1,7 @@
 //! What a world lists.
 
 ghost use Rattle.std.specs.Prelude.{◌≡◌, ℕ, ◌<◌, ◌⊎◌, ◌↔◌, ◌++◌, length, OnOk, IfOk};
-ghost use Rattle.wit_order.specs.Order.{Has};
+ghost use Rattle.wit_types.specs.Passed.wit_order-Order.{Has};
 ghost use Rattle.wit_reach.specs.Reach.{Uses, lists_of};
 ghost use Rattle.wit_reach.specs.Types.{AreTypesBackward, AreSidesThere};
 ghost use Rattle.wit_reach.specs.Deps.{AreUsed};

@@ -5,19 +5,19 @@ use Rattle.std.specs.Prelude.{slice_get, option_map, option_and_then}
 use Rattle.name_places.specs.FirstPlaces.{place_of}
 use Rattle.name_places.proofs.Places.{place_names}
 use Rattle.wit_words.specs.Slice.{Slice}
-use Rattle.wit_scopes.specs.Members.{MemberKind, used, defined, function, method, static, constructor}
-use Rattle.wit_scopes.specs.Paths.{own}
-use Rattle.wit_scopes.specs.Scopes as scope
-use Rattle.wit_scopes.specs.Scopes.{InterfaceScope, WorldScope, ItemScope}
-use Rattle.wit_type_names.specs.TypeNames.{names_in_member}
-use Rattle.wit_rules.specs.declared.fault.PackageRule.TheVariants.{NameNotFound, WrongKind}
-use Rattle.wit_rules.specs.Breaks.{IsKept}
-use Rattle.wit_lookups.specs.Lookups.{NameBreaks, found_interface, found_world, PathBreaks, TypeOfItemBreaks, TypesBreak, MemberKindBreaks}
-use Rattle.wit_lookups.specs.Names.{Name, type_names, other_names, item_name, item_names, item_of}
-use Rattle.wit_orders.specs.Needs.{types_of}
-use Rattle.wit_arena.specs.Meaning.{Has}
-use Rattle.wit_arena.proofs.Lists.{has_none}
-use Rattle.wit_package_types.specs.Fill.{member_names}
+use Rattle.wit_foreign.specs.Passed.wit_scopes-Members.{MemberKind, used, defined, function, method, static, constructor}
+use Rattle.wit_foreign.specs.Passed.wit_scopes-Paths.{own}
+use Rattle.wit_foreign.specs.Passed.wit_scopes-Scopes as scope
+use Rattle.wit_foreign.specs.Passed.wit_scopes-Scopes.{InterfaceScope, WorldScope, ItemScope}
+use Rattle.wit_foreign.specs.Passed.wit_type_names-TypeNames.{names_in_member}
+use Rattle.wit_foreign.specs.Passed.wit_rules-declared-fault-PackageRule-TheVariants.{NameNotFound, WrongKind}
+use Rattle.wit_foreign.specs.Passed.wit_rules-Breaks.{IsKept}
+use Rattle.wit_foreign.specs.Passed.wit_lookups-Lookups.{NameBreaks, found_interface, found_world, PathBreaks, TypeOfItemBreaks, TypesBreak, MemberKindBreaks}
+use Rattle.wit_foreign.specs.Passed.wit_lookups-Names.{Name, type_names, other_names, item_name, item_names, item_of}
+use Rattle.wit_resolved_scopes.specs.Passed.wit_orders-Needs.{types_of}
+use Rattle.wit_foreign.specs.Passed.wit_arena-Meaning.{Has}
+use Rattle.wit_foreign.proofs.Passed.wit_arena-Lists.{has_none}
+use Rattle.wit_foreign.specs.Passed.wit_package_types-Fill.{member_names}
 use Rattle.wit_resolved_scopes.proofs.Declaring.{found_there}
 use Rattle.wit_readiness.proofs.Named.{type_names_are}
 

@@ -2,20 +2,20 @@
 use Rattle.std.proofs.Common.{◌≡◌, ℕ, List, [], inl, inr, Some, map, take, refl, sym, subst, ap, ◌∙◌}
 use Rattle.std.proofs.lemmas.Option.{slice_get-map}
 use Rattle.std.specs.Prelude.{slice_get, option_map}
-use Rattle.wit_syntax.specs.Ast.{PackageNameTree, FileTree}
-use Rattle.wit_scopes.specs.Paths.{file_uses}
-use Rattle.wit_scopes.specs.Scopes as scope
-use Rattle.wit_scopes.specs.Scopes.{InterfaceScope, ItemScope}
-use Rattle.wit_rules.specs.Labels.{scope_name}
-use Rattle.wit_rules.specs.Breaks.{IsKept}
-use Rattle.wit_rules.specs.Facts as fact
-use Rattle.wit_rules.specs.Facts.{ScopesBreak, IsDeclared}
-use Rattle.wit_rules.proofs.Apart.{apart}
-use Rattle.wit_lookups.specs.Lookups as look
-use Rattle.wit_lookups.specs.Lookups.{ItemBreaks, LookupsBreak}
-use Rattle.wit_lookups.specs.Names.{known_at, item_file, known_names, item_name}
-use Rattle.wit_arena.specs.Meaning.{Has}
-use Rattle.wit_arena.proofs.Lists.{has_none, has_here}
+use Rattle.wit_foreign.specs.Passed.wit_syntax-Ast.{PackageNameTree, FileTree}
+use Rattle.wit_foreign.specs.Passed.wit_scopes-Paths.{file_uses}
+use Rattle.wit_foreign.specs.Passed.wit_scopes-Scopes as scope
+use Rattle.wit_foreign.specs.Passed.wit_scopes-Scopes.{InterfaceScope, ItemScope}
+use Rattle.wit_foreign.specs.Passed.wit_rules-Labels.{scope_name}
+use Rattle.wit_foreign.specs.Passed.wit_rules-Breaks.{IsKept}
+use Rattle.wit_foreign.specs.Passed.wit_rules-Facts as fact
+use Rattle.wit_foreign.specs.Passed.wit_rules-Facts.{ScopesBreak, IsDeclared}
+use Rattle.wit_foreign.proofs.Passed.wit_rules-Apart.{apart}
+use Rattle.wit_foreign.specs.Passed.wit_lookups-Lookups as look
+use Rattle.wit_foreign.specs.Passed.wit_lookups-Lookups.{ItemBreaks, LookupsBreak}
+use Rattle.wit_foreign.specs.Passed.wit_lookups-Names.{known_at, item_file, known_names, item_name}
+use Rattle.wit_foreign.specs.Passed.wit_arena-Meaning.{Has}
+use Rattle.wit_foreign.proofs.Passed.wit_arena-Lists.{has_none, has_here}
 use Rattle.wit_foreign.specs.Needs.{item_needs}
 use Rattle.wit_resolved_scopes.specs.Each.{AreApartBy}
 use Rattle.wit_resolved_scopes.specs.Texts.{interface_of, interfaces_of, AreItemsSorted, interface_text}

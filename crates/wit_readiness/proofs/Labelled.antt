@@ -1,10 +1,10 @@
 -- What stands in a world under a label.
 use Rattle.std.proofs.Common.{◌≡◌, List, refl}
-use Rattle.wit_scopes.specs.Members.{MemberTree}
-use Rattle.wit_scopes.specs.Scopes as scope
-use Rattle.wit_scopes.specs.Scopes.{ExternKind, ListedTree, WorldMemberTree, WorldScope}
-use Rattle.wit_arena.specs.Meaning.{Has}
-use Rattle.wit_arena.proofs.Lists.{has_none}
+use Rattle.wit_foreign.specs.Passed.wit_scopes-Members.{MemberTree}
+use Rattle.wit_foreign.specs.Passed.wit_scopes-Scopes as scope
+use Rattle.wit_foreign.specs.Passed.wit_scopes-Scopes.{ExternKind, ListedTree, WorldMemberTree, WorldScope}
+use Rattle.wit_foreign.specs.Passed.wit_arena-Meaning.{Has}
+use Rattle.wit_foreign.proofs.Passed.wit_arena-Lists.{has_none}
 use Rattle.wit_resolved_scopes.specs.Texts.{InterfaceText, listed_text, extern_texts, member_texts, labelled_texts}
 use Rattle.wit_readiness.proofs.Flat.{has_one, in_flat}
 

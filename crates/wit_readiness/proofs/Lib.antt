@@ -11,3 +11,4 @@ pub mod Sides
 pub mod Labelled
 pub mod Worlds
 pub mod Ready
+pub mod Passed

@@ -4,23 +4,23 @@ use Rattle.std.proofs.lemmas.Option.{slice_get-map}
 use Rattle.std.specs.Prelude.{slice_get, flat_map, option_map}
 use Rattle.wit_words.specs.Slice.{Slice}
 use Rattle.wit_items.specs.ItemTree.{AttributeTree}
-use Rattle.wit_scopes.specs.Paths.{own, foreign}
-use Rattle.wit_scopes.specs.Members.{MemberKind, MemberTree, used, defined, function, method, static, constructor}
-use Rattle.wit_scopes.specs.Scopes as scope
-use Rattle.wit_scopes.specs.Scopes.{InterfaceScope, ItemScope}
-use Rattle.wit_rules.specs.Labels.{full_name, member_label}
-use Rattle.wit_rules.specs.Breaks.{IsKept}
-use Rattle.wit_rules.specs.Facts as fact
-use Rattle.wit_rules.specs.Facts.{MembersBreak}
-use Rattle.wit_rules.proofs.Apart.{apart}
-use Rattle.wit_lookups.specs.declared.asks.Asked.TheVariants.{Interface}
-use Rattle.wit_lookups.specs.Lookups as look
-use Rattle.wit_lookups.specs.Lookups.{MemberKindBreaks, OwnMembersBreak, known_besides}
-use Rattle.wit_lookups.specs.Names.{Name, type_names, other_names}
-use Rattle.wit_orders.specs.Needs.{member_type, types_of, used_item, member_item}
-use Rattle.wit_arena.specs.Meaning.{Has}
-use Rattle.wit_arena.proofs.Lists.{has_here}
-use Rattle.wit_package_types.specs.Fill.{member_names}
+use Rattle.wit_foreign.specs.Passed.wit_scopes-Paths.{own, foreign}
+use Rattle.wit_foreign.specs.Passed.wit_scopes-Members.{MemberKind, MemberTree, used, defined, function, method, static, constructor}
+use Rattle.wit_foreign.specs.Passed.wit_scopes-Scopes as scope
+use Rattle.wit_foreign.specs.Passed.wit_scopes-Scopes.{InterfaceScope, ItemScope}
+use Rattle.wit_foreign.specs.Passed.wit_rules-Labels.{full_name, member_label}
+use Rattle.wit_foreign.specs.Passed.wit_rules-Breaks.{IsKept}
+use Rattle.wit_foreign.specs.Passed.wit_rules-Facts as fact
+use Rattle.wit_foreign.specs.Passed.wit_rules-Facts.{MembersBreak}
+use Rattle.wit_foreign.proofs.Passed.wit_rules-Apart.{apart}
+use Rattle.wit_foreign.specs.Passed.wit_lookups-declared-asks-Asked-TheVariants.{Interface}
+use Rattle.wit_foreign.specs.Passed.wit_lookups-Lookups as look
+use Rattle.wit_foreign.specs.Passed.wit_lookups-Lookups.{MemberKindBreaks, OwnMembersBreak, known_besides}
+use Rattle.wit_foreign.specs.Passed.wit_lookups-Names.{Name, type_names, other_names}
+use Rattle.wit_resolved_scopes.specs.Passed.wit_orders-Needs.{member_type, types_of, used_item, member_item}
+use Rattle.wit_foreign.specs.Passed.wit_arena-Meaning.{Has}
+use Rattle.wit_foreign.proofs.Passed.wit_arena-Lists.{has_here}
+use Rattle.wit_foreign.specs.Passed.wit_package_types-Fill.{member_names}
 use Rattle.wit_foreign.specs.Needs.{NeedTree, kind_needs, member_needs, needs_in}
 use Rattle.wit_resolved_scopes.specs.Each.{AreApartBy}
 use Rattle.wit_resolved_scopes.specs.Scope.{member_function, functions_among, all_names}

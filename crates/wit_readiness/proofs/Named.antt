@@ -2,18 +2,18 @@
 use Rattle.std.proofs.Common.{◌≡◌, List, [], ◌∷◌, ◌++◌, inl, inr, refl, sym, subst, ap, ◌∙◌}
 use Rattle.std.proofs.lemmas.List.{map-append}
 use Rattle.wit_words.specs.Slice.{Slice}
-use Rattle.wit_scopes.specs.Members.{MemberKind, MemberTree, used, defined, function, method, static, constructor}
-use Rattle.wit_scopes.specs.Scopes as scope
-use Rattle.wit_scopes.specs.Scopes.{WorldMemberTree}
-use Rattle.wit_rules.specs.Labels.{full_name}
-use Rattle.wit_lookups.specs.Names.{type_name, type_names, world_type_names}
-use Rattle.wit_orders.specs.Needs.{type_of, member_type, types_of, world_types}
-use Rattle.wit_arena.specs.Tree.{Name}
-use Rattle.wit_arena.specs.Meaning.{Has}
-use Rattle.wit_arena.specs.Standing.{IsOfType}
-use Rattle.wit_arena.proofs.Lists.{has_none, has_here, has_map}
-use Rattle.wit_package_types.specs.Fill.{member_names}
-use Rattle.wit_functions.specs.Signature.{IsFunction}
+use Rattle.wit_foreign.specs.Passed.wit_scopes-Members.{MemberKind, MemberTree, used, defined, function, method, static, constructor}
+use Rattle.wit_foreign.specs.Passed.wit_scopes-Scopes as scope
+use Rattle.wit_foreign.specs.Passed.wit_scopes-Scopes.{WorldMemberTree}
+use Rattle.wit_foreign.specs.Passed.wit_rules-Labels.{full_name}
+use Rattle.wit_foreign.specs.Passed.wit_lookups-Names.{type_name, type_names, world_type_names}
+use Rattle.wit_resolved_scopes.specs.Passed.wit_orders-Needs.{type_of, member_type, types_of, world_types}
+use Rattle.wit_foreign.specs.Passed.wit_arena-Tree.{Name}
+use Rattle.wit_foreign.specs.Passed.wit_arena-Meaning.{Has}
+use Rattle.wit_foreign.specs.Passed.wit_arena-Standing.{IsOfType}
+use Rattle.wit_foreign.proofs.Passed.wit_arena-Lists.{has_none, has_here, has_map}
+use Rattle.wit_foreign.specs.Passed.wit_package_types-Fill.{member_names}
+use Rattle.wit_resolved_scopes.specs.Passed.wit_functions-Signature.{IsFunction}
 use Rattle.wit_resolved_scopes.specs.Scope.{function_of}
 use Rattle.wit_readiness.proofs.Flat.{AtMostOne, has_one, flat_has}
 use Rattle.wit_readiness.proofs.Resources.{HasType}

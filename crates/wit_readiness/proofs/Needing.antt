@@ -3,17 +3,17 @@ use Rattle.std.proofs.Common.{◌≡◌, List, Option, Some, None, refl, sym, su
 use Rattle.std.specs.Prelude.{flat_map}
 use Rattle.wit_words.specs.Slice.{Slice}
 use Rattle.wit_items.specs.ItemTree.{AttributeTree}
-use Rattle.wit_scopes.specs.Paths.{TargetTree, own, foreign}
-use Rattle.wit_scopes.specs.Members.{MemberKind, MemberTree, used, defined, function, method, static, constructor}
-use Rattle.wit_scopes.specs.Scopes as scope
-use Rattle.wit_scopes.specs.Scopes.{ExternKind, ListedTree, WorldMemberTree, InterfaceScope, WorldScope, ItemScope}
-use Rattle.wit_rules.specs.Breaks.{IsKept}
-use Rattle.wit_rules.specs.Facts.{WorldBreaks, ScopesBreak}
-use Rattle.wit_lookups.specs.declared.asks.Asked.{Asked}
-use Rattle.wit_lookups.specs.declared.asks.Asked.TheVariants.{Interface, World}
-use Rattle.wit_arena.specs.Meaning.{Has}
-use Rattle.wit_arena.proofs.Lists.{has_none}
-use Rattle.wit_package_types.specs.Stability.{AreGates}
+use Rattle.wit_foreign.specs.Passed.wit_scopes-Paths.{TargetTree, own, foreign}
+use Rattle.wit_foreign.specs.Passed.wit_scopes-Members.{MemberKind, MemberTree, used, defined, function, method, static, constructor}
+use Rattle.wit_foreign.specs.Passed.wit_scopes-Scopes as scope
+use Rattle.wit_foreign.specs.Passed.wit_scopes-Scopes.{ExternKind, ListedTree, WorldMemberTree, InterfaceScope, WorldScope, ItemScope}
+use Rattle.wit_foreign.specs.Passed.wit_rules-Breaks.{IsKept}
+use Rattle.wit_foreign.specs.Passed.wit_rules-Facts.{WorldBreaks, ScopesBreak}
+use Rattle.wit_foreign.specs.Passed.wit_lookups-declared-asks-Asked.{Asked}
+use Rattle.wit_foreign.specs.Passed.wit_lookups-declared-asks-Asked-TheVariants.{Interface, World}
+use Rattle.wit_foreign.specs.Passed.wit_arena-Meaning.{Has}
+use Rattle.wit_foreign.proofs.Passed.wit_arena-Lists.{has_none}
+use Rattle.wit_foreign.specs.Passed.wit_package_types-Stability.{AreGates}
 use Rattle.wit_foreign.specs.Needs.{NeedTree, path_needs, kind_needs, member_needs, extern_needs, world_member_needs, item_needs}
 use Rattle.wit_resolved_scopes.proofs.Declaring.{member_gates}
 use Rattle.wit_readiness.specs.Readiness.{KeptNeedsHaveGates}

@@ -1,17 +1,17 @@
 -- The parts of a package that keeps its rules keep theirs.
 use Rattle.std.proofs.Common.{◌≡◌, List, sym, subst}
-use Rattle.wit_syntax.specs.Ast.{PackageNameTree, FileTree}
-use Rattle.wit_scopes.specs.declared.worlds.Side.{Side}
-use Rattle.wit_scopes.specs.declared.worlds.Side.TheVariants.{Import, Export}
-use Rattle.wit_scopes.specs.Members.{MemberTree}
-use Rattle.wit_scopes.specs.Scopes as scope
-use Rattle.wit_scopes.specs.Scopes.{ListedTree, IncludedTree, WorldMemberTree, InterfaceScope, WorldScope, ItemScope}
-use Rattle.wit_rules.specs.Breaks.{IsKept}
-use Rattle.wit_rules.specs.Facts as fact
-use Rattle.wit_rules.specs.Facts.{MembersBreak, WorldMemberBreaks, SideBreaks, WorldBreaks, ScopeBreaks, ScopesBreak, IsDeclared}
-use Rattle.wit_arena.specs.Meaning.{Has}
-use Rattle.wit_package_types.specs.Stability.{AreGates}
-use Rattle.wit_package_types.proofs.Gated.{gates_ready}
+use Rattle.wit_foreign.specs.Passed.wit_syntax-Ast.{PackageNameTree, FileTree}
+use Rattle.wit_foreign.specs.Passed.wit_scopes-declared-worlds-Side.{Side}
+use Rattle.wit_foreign.specs.Passed.wit_scopes-declared-worlds-Side-TheVariants.{Import, Export}
+use Rattle.wit_foreign.specs.Passed.wit_scopes-Members.{MemberTree}
+use Rattle.wit_foreign.specs.Passed.wit_scopes-Scopes as scope
+use Rattle.wit_foreign.specs.Passed.wit_scopes-Scopes.{ListedTree, IncludedTree, WorldMemberTree, InterfaceScope, WorldScope, ItemScope}
+use Rattle.wit_foreign.specs.Passed.wit_rules-Breaks.{IsKept}
+use Rattle.wit_foreign.specs.Passed.wit_rules-Facts as fact
+use Rattle.wit_foreign.specs.Passed.wit_rules-Facts.{MembersBreak, WorldMemberBreaks, SideBreaks, WorldBreaks, ScopeBreaks, ScopesBreak, IsDeclared}
+use Rattle.wit_foreign.specs.Passed.wit_arena-Meaning.{Has}
+use Rattle.wit_foreign.specs.Passed.wit_package_types-Stability.{AreGates}
+use Rattle.wit_foreign.proofs.Passed.wit_package_types-Gated.{gates_ready}
 
 pub declared_kept : (files : List FileTree) (me : PackageNameTree) (scopes : List ItemScope) → IsDeclared files me scopes → IsKept (ScopesBreak scopes)
 declared_kept files me scopes d rule at b = d.kept rule at (fact.in_package me d.named (fact.by_scopes (subst (λ (ss : List ItemScope). ScopesBreak ss rule at) d.scopes_are b)))

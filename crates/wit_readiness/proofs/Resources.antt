@@ -3,18 +3,18 @@ use Rattle.std.proofs.Common.{◌≡◌, ℕ, suc, List, [], ◌∷◌, ◌⊎�
 use Rattle.wit_words.specs.Slice.{Slice}
 use Rattle.wit_items.specs.ItemTree as tree
 use Rattle.wit_items.specs.ItemTree.{AttributeTree, GatedTree, UseTree, UseNameTree, ResourceFuncTree, TypeDefKindTree, TypeDefTree, InterfaceItemTree}
-use Rattle.wit_syntax.specs.Ast as ast
-use Rattle.wit_syntax.specs.Ast.{PackageNameTree, ToplevelUseTree, ExternTree, WorldItemTree, AstItemTree, FileItemTree, FileTree}
-use Rattle.wit_scopes.specs.declared.worlds.Side.{Side}
-use Rattle.wit_scopes.specs.declared.worlds.Side.TheVariants.{Import, Export}
-use Rattle.wit_scopes.specs.Paths.{target, item_uses}
-use Rattle.wit_scopes.specs.Members.{MemberKind, MemberTree, used, defined, function, method, static, constructor, used_member, uses_members, resource_member_kind, resource_member, resource_funcs, without_functions, member_of, type_members, interface_item_members, interface_members}
-use Rattle.wit_scopes.specs.Scopes as scope
-use Rattle.wit_scopes.specs.Scopes.{ExternKind, ListedTree, WorldMemberTree, InterfaceScope, WorldScope, ItemScope, extern_kind, world_item_members, world_members, ast_item_scopes, file_item_scopes, items_scopes, scopes_from, package_scopes}
-use Rattle.wit_type_names.specs.TypeNames.{names_in_member}
-use Rattle.wit_arena.specs.Meaning.{Has}
-use Rattle.wit_arena.specs.Standing.{IsOfType}
-use Rattle.wit_arena.proofs.Lists.{has_none, has_here, has_cases, has_map, map_has}
+use Rattle.wit_foreign.specs.Passed.wit_syntax-Ast as ast
+use Rattle.wit_foreign.specs.Passed.wit_syntax-Ast.{PackageNameTree, ToplevelUseTree, ExternTree, WorldItemTree, AstItemTree, FileItemTree, FileTree}
+use Rattle.wit_foreign.specs.Passed.wit_scopes-declared-worlds-Side.{Side}
+use Rattle.wit_foreign.specs.Passed.wit_scopes-declared-worlds-Side-TheVariants.{Import, Export}
+use Rattle.wit_foreign.specs.Passed.wit_scopes-Paths.{target, item_uses}
+use Rattle.wit_foreign.specs.Passed.wit_scopes-Members.{MemberKind, MemberTree, used, defined, function, method, static, constructor, used_member, uses_members, resource_member_kind, resource_member, resource_funcs, without_functions, member_of, type_members, interface_item_members, interface_members}
+use Rattle.wit_foreign.specs.Passed.wit_scopes-Scopes as scope
+use Rattle.wit_foreign.specs.Passed.wit_scopes-Scopes.{ExternKind, ListedTree, WorldMemberTree, InterfaceScope, WorldScope, ItemScope, extern_kind, world_item_members, world_members, ast_item_scopes, file_item_scopes, items_scopes, scopes_from, package_scopes}
+use Rattle.wit_foreign.specs.Passed.wit_type_names-TypeNames.{names_in_member}
+use Rattle.wit_foreign.specs.Passed.wit_arena-Meaning.{Has}
+use Rattle.wit_foreign.specs.Passed.wit_arena-Standing.{IsOfType}
+use Rattle.wit_foreign.proofs.Passed.wit_arena-Lists.{has_none, has_here, has_cases, has_map, map_has}
 use Rattle.wit_resolved_scopes.specs.Scope.{all_names}
 use Rattle.wit_resolved_scopes.proofs.Readying.{either}
 use Rattle.wit_readiness.proofs.Flat.{has_one, in_flat, flat_has}

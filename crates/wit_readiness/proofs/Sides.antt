@@ -6,22 +6,22 @@ use Rattle.std.proofs.lemmas.Slice.Eq.{bytes_eq-Decides}
 use Rattle.std.specs.Prelude.{slice_get, flat_map, option_map, bytes_eq}
 use Rattle.std.specs.List.{list_any}
 use Rattle.wit_words.specs.Slice.{Slice}
-use Rattle.wit_scopes.specs.declared.worlds.Side.{Side}
-use Rattle.wit_scopes.specs.declared.worlds.Side.TheVariants.{Import, Export}
-use Rattle.wit_scopes.specs.Members.{MemberKind, MemberTree, used, defined, function, method, static, constructor}
-use Rattle.wit_scopes.specs.Scopes as scope
-use Rattle.wit_scopes.specs.Scopes.{ExternKind, ListedTree, WorldMemberTree}
-use Rattle.wit_rules.specs.declared.fault.PackageRule.TheVariants.{DuplicateName}
-use Rattle.wit_rules.specs.Labels.{member_label, target_text, on_side, extern_labels, extern_paths, side_labels, side_paths}
-use Rattle.wit_rules.specs.Breaks.{IsKept, PathsBreak}
-use Rattle.wit_rules.specs.Facts as fact
-use Rattle.wit_rules.specs.Facts.{SideBreaks, WorldBreaks}
-use Rattle.wit_rules.proofs.Apart.{givers_apart}
-use Rattle.wit_orders.specs.Needs.{world_member_type, world_types}
-use Rattle.wit_arena.specs.Meaning.{Has}
-use Rattle.wit_arena.specs.Standing.{IsOfType}
-use Rattle.wit_arena.proofs.Lists.{has_none}
-use Rattle.wit_functions.specs.Signature.{IsFunction}
+use Rattle.wit_foreign.specs.Passed.wit_scopes-declared-worlds-Side.{Side}
+use Rattle.wit_foreign.specs.Passed.wit_scopes-declared-worlds-Side-TheVariants.{Import, Export}
+use Rattle.wit_foreign.specs.Passed.wit_scopes-Members.{MemberKind, MemberTree, used, defined, function, method, static, constructor}
+use Rattle.wit_foreign.specs.Passed.wit_scopes-Scopes as scope
+use Rattle.wit_foreign.specs.Passed.wit_scopes-Scopes.{ExternKind, ListedTree, WorldMemberTree}
+use Rattle.wit_foreign.specs.Passed.wit_rules-declared-fault-PackageRule-TheVariants.{DuplicateName}
+use Rattle.wit_foreign.specs.Passed.wit_rules-Labels.{member_label, target_text, on_side, extern_labels, extern_paths, side_labels, side_paths}
+use Rattle.wit_foreign.specs.Passed.wit_rules-Breaks.{IsKept, PathsBreak}
+use Rattle.wit_foreign.specs.Passed.wit_rules-Facts as fact
+use Rattle.wit_foreign.specs.Passed.wit_rules-Facts.{SideBreaks, WorldBreaks}
+use Rattle.wit_foreign.proofs.Passed.wit_rules-Apart.{givers_apart}
+use Rattle.wit_resolved_scopes.specs.Passed.wit_orders-Needs.{world_member_type, world_types}
+use Rattle.wit_foreign.specs.Passed.wit_arena-Meaning.{Has}
+use Rattle.wit_foreign.specs.Passed.wit_arena-Standing.{IsOfType}
+use Rattle.wit_foreign.proofs.Passed.wit_arena-Lists.{has_none}
+use Rattle.wit_resolved_scopes.specs.Passed.wit_functions-Signature.{IsFunction}
 use Rattle.wit_resolved_scopes.specs.Each.{AreApartBy}
 use Rattle.wit_resolved_scopes.specs.Scope.{function_of}
 use Rattle.wit_resolved_scopes.specs.Texts.{at_side, side_member, side_members, plain, path, extern_key, key_text}

@@ -8,10 +8,10 @@ use Rattle.std.specs.Prelude.{slice_get, option_map}
 use Rattle.name_places.specs.FirstPlaces.{place_of}
 use Rattle.wit_words.specs.Slice.{Slice}
 use Rattle.wit_order.specs.Order.{AreDependenciesFirst}
-use Rattle.wit_scopes.specs.Scopes.{ItemScope}
-use Rattle.wit_lookups.specs.Names.{item_name, item_names}
-use Rattle.wit_orders.specs.Needs.{Entry, labels, NeedsIn, item_needs, item_entry}
-use Rattle.wit_arena.specs.Meaning.{Has}
+use Rattle.wit_foreign.specs.Passed.wit_scopes-Scopes.{ItemScope}
+use Rattle.wit_foreign.specs.Passed.wit_lookups-Names.{item_name, item_names}
+use Rattle.wit_resolved_scopes.specs.Passed.wit_orders-Needs.{Entry, labels, NeedsIn, item_needs, item_entry}
+use Rattle.wit_foreign.specs.Passed.wit_arena-Meaning.{Has}
 use Rattle.wit_resolved_scopes.specs.Each.{AreApartBy}
 use Rattle.wit_resolved_scopes.specs.Texts.{AreItemsSorted}
 use Rattle.wit_resolved_scopes.proofs.Orders.{needed_before, once, listed, placed}

@@ -3,28 +3,28 @@ use Rattle.std.proofs.Common.{◌≡◌, ℕ, List, [], ◌∷◌, ◌++◌, ◌
 use Rattle.std.specs.Prelude.{slice_get, flat_map}
 use Rattle.wit_words.specs.Slice.{Slice}
 use Rattle.wit_items.specs.ItemTree.{FuncTree}
-use Rattle.wit_syntax.specs.Ast.{PackageNameTree, FileTree}
-use Rattle.wit_scopes.specs.declared.worlds.Side.TheVariants.{Import}
-use Rattle.wit_scopes.specs.Paths.{TargetTree, own, foreign, file_uses}
-use Rattle.wit_scopes.specs.Members.{MemberKind, MemberTree, function}
-use Rattle.wit_scopes.specs.Scopes as scope
-use Rattle.wit_scopes.specs.Scopes.{ExternKind, ListedTree, IncludedTree, WorldMemberTree, InterfaceScope, WorldScope, ItemScope}
-use Rattle.wit_type_names.specs.TypeNames.{names_in_func, names_in_member}
-use Rattle.wit_rules.specs.Labels.{member_label, side_labels}
-use Rattle.wit_rules.specs.Breaks.{IsKept}
-use Rattle.wit_rules.specs.Facts as fact
-use Rattle.wit_rules.specs.Facts.{WorldBreaks, IsDeclared}
-use Rattle.wit_rules.proofs.Apart.{givers_apart}
-use Rattle.wit_lookups.specs.declared.asks.Asked.TheVariants.{Interface, World}
-use Rattle.wit_lookups.specs.Lookups as look
-use Rattle.wit_lookups.specs.Lookups.{found_interface, found_world, PathBreaks, OwnMembersBreak, LookupsBreak, known_besides}
-use Rattle.wit_lookups.specs.Names.{Name, known_at, known_names, item_name, world_type_names, world_other_names}
-use Rattle.wit_orders.specs.Needs as order
-use Rattle.wit_orders.specs.Needs.{member_type, types_of, world_member_type, world_types, included_item}
-use Rattle.wit_arena.specs.Meaning.{Has}
-use Rattle.wit_arena.proofs.Lists.{has_none, has_here, has_map}
-use Rattle.wit_package_types.specs.Fill.{member_names}
-use Rattle.wit_package_types.specs.Stability.{AreGates}
+use Rattle.wit_foreign.specs.Passed.wit_syntax-Ast.{PackageNameTree, FileTree}
+use Rattle.wit_foreign.specs.Passed.wit_scopes-declared-worlds-Side-TheVariants.{Import}
+use Rattle.wit_foreign.specs.Passed.wit_scopes-Paths.{TargetTree, own, foreign, file_uses}
+use Rattle.wit_foreign.specs.Passed.wit_scopes-Members.{MemberKind, MemberTree, function}
+use Rattle.wit_foreign.specs.Passed.wit_scopes-Scopes as scope
+use Rattle.wit_foreign.specs.Passed.wit_scopes-Scopes.{ExternKind, ListedTree, IncludedTree, WorldMemberTree, InterfaceScope, WorldScope, ItemScope}
+use Rattle.wit_foreign.specs.Passed.wit_type_names-TypeNames.{names_in_func, names_in_member}
+use Rattle.wit_foreign.specs.Passed.wit_rules-Labels.{member_label, side_labels}
+use Rattle.wit_foreign.specs.Passed.wit_rules-Breaks.{IsKept}
+use Rattle.wit_foreign.specs.Passed.wit_rules-Facts as fact
+use Rattle.wit_foreign.specs.Passed.wit_rules-Facts.{WorldBreaks, IsDeclared}
+use Rattle.wit_foreign.proofs.Passed.wit_rules-Apart.{givers_apart}
+use Rattle.wit_foreign.specs.Passed.wit_lookups-declared-asks-Asked-TheVariants.{Interface, World}
+use Rattle.wit_foreign.specs.Passed.wit_lookups-Lookups as look
+use Rattle.wit_foreign.specs.Passed.wit_lookups-Lookups.{found_interface, found_world, PathBreaks, OwnMembersBreak, LookupsBreak, known_besides}
+use Rattle.wit_foreign.specs.Passed.wit_lookups-Names.{Name, known_at, known_names, item_name, world_type_names, world_other_names}
+use Rattle.wit_resolved_scopes.specs.Passed.wit_orders-Needs as order
+use Rattle.wit_resolved_scopes.specs.Passed.wit_orders-Needs.{member_type, types_of, world_member_type, world_types, included_item}
+use Rattle.wit_foreign.specs.Passed.wit_arena-Meaning.{Has}
+use Rattle.wit_foreign.proofs.Passed.wit_arena-Lists.{has_none, has_here, has_map}
+use Rattle.wit_foreign.specs.Passed.wit_package_types-Fill.{member_names}
+use Rattle.wit_foreign.specs.Passed.wit_package_types-Stability.{AreGates}
 use Rattle.wit_foreign.specs.Needs.{NeedTree, path_needs, extern_needs, world_member_needs, item_needs, needs_in}
 use Rattle.wit_resolved_scopes.specs.Each.{AreApartBy}
 use Rattle.wit_resolved_scopes.specs.Scope.{all_names}

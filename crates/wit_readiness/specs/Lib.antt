@@ -1,1 +1,2 @@
 pub mod Readiness
+pub mod Passed

@@ -1,14 +1,14 @@
 -- Packages that keep their rules are ready to be brought into an arena (WIT, Name Resolution).
 use Rattle.std.specs.Prelude.{◌≡◌, ℕ, List, Some}
 use Rattle.wit_words.specs.Slice.{Slice}
-use Rattle.wit_syntax.specs.Ast.{PackageNameTree, FileTree}
-use Rattle.wit_scopes.specs.Paths.{file_uses}
-use Rattle.wit_scopes.specs.Scopes.{ItemScope}
-use Rattle.wit_rules.specs.Breaks.{IsKept}
-use Rattle.wit_rules.specs.Facts.{IsDeclared}
-use Rattle.wit_lookups.specs.declared.asks.Asked.TheVariants.{Interface, World}
-use Rattle.wit_lookups.specs.Lookups.{LookupsBreak}
-use Rattle.wit_arena.specs.Meaning.{Has}
+use Rattle.wit_foreign.specs.Passed.wit_syntax-Ast.{PackageNameTree, FileTree}
+use Rattle.wit_foreign.specs.Passed.wit_scopes-Paths.{file_uses}
+use Rattle.wit_foreign.specs.Passed.wit_scopes-Scopes.{ItemScope}
+use Rattle.wit_foreign.specs.Passed.wit_rules-Breaks.{IsKept}
+use Rattle.wit_foreign.specs.Passed.wit_rules-Facts.{IsDeclared}
+use Rattle.wit_foreign.specs.Passed.wit_lookups-declared-asks-Asked-TheVariants.{Interface, World}
+use Rattle.wit_foreign.specs.Passed.wit_lookups-Lookups.{LookupsBreak}
+use Rattle.wit_foreign.specs.Passed.wit_arena-Meaning.{Has}
 use Rattle.wit_foreign.specs.Needs.{NeedTree, needs_in}
 use Rattle.wit_foreign.specs.Items.{need_owner}
 use Rattle.wit_foreign.specs.Unknown.{name_used}

@@ -6,9 +6,9 @@ use Rattle.std.specs.List.{AllZip}
 use Rattle.wit_words.specs.Sources.{SourceText}
 use Rattle.wit_order.specs.Order.{Has}
 use Rattle.wit_types.specs.declared.«package».UnresolvedPackage.{UnresolvedPackage}
-use Rattle.wit_graph_parts.specs.Own.{IsWellFormed}
-use Rattle.wit_package.specs.GroupView.{text, texts}
-use Rattle.wit_package.specs.declared.group.UnresolvedPackageGroup.{UnresolvedPackageGroup}
+use Rattle.wit_well_formed.specs.Passed.wit_graph_parts-Own.{IsWellFormed}
+use Rattle.wit_well_formed.specs.Passed.wit_package-GroupView.{text, texts}
+use Rattle.wit_well_formed.specs.Passed.wit_package-declared-group-UnresolvedPackageGroup.{UnresolvedPackageGroup}
 use Rattle.wit_well_formed.specs.Law.{ParsedPackagesAreWellFormed}
 use Rattle.wit_resolution.specs.Groups.{packages_of}
 use Rattle.wit_resolution.specs.Texts.{files_of, IsGroupOf}

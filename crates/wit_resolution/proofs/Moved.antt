@@ -3,9 +3,9 @@ use Rattle.std.proofs.Common.{ℕ, ◌<◌, ◌⊎◌, inl, inr, List, [], ◌�
 use Rattle.wit_words.specs.Sources.{SourceText, total}
 use Rattle.wit_order.specs.Order.{Has}
 use Rattle.wit_types.specs.declared.«package».UnresolvedPackage.{UnresolvedPackage}
-use Rattle.wit_graph_parts.specs.Own.{IsWellFormed}
+use Rattle.wit_well_formed.specs.Passed.wit_graph_parts-Own.{IsWellFormed}
 use Rattle.wit_offsets.specs.Offsets.{package_at}
-use Rattle.wit_package.specs.declared.group.UnresolvedPackageGroup.{UnresolvedPackageGroup}
+use Rattle.wit_well_formed.specs.Passed.wit_package-declared-group-UnresolvedPackageGroup.{UnresolvedPackageGroup}
 use Rattle.wit_well_formed.specs.Law.{MovedPackagesAreWellFormed}
 use Rattle.wit_resolution.specs.Groups.{packages_of, packages_behind}
 

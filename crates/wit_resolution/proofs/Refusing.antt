@@ -8,9 +8,9 @@ use Rattle.wit_order.specs.Order.{Has}
 use Rattle.wit_types.specs.declared.«package».PackageName.{PackageName}
 use Rattle.wit_types.specs.declared.«package».UnresolvedPackage.{UnresolvedPackage}
 use Rattle.wit_rules.specs.declared.fault.PackageFault.{PackageFault}
-use Rattle.wit_package.specs.declared.group.UnresolvedPackageGroup.{UnresolvedPackageGroup}
-use Rattle.wit_groups.specs.Pushed.{IsTogetherCause}
-use Rattle.wit_groups.specs.declared.fault.GroupFault.{GroupFault}
+use Rattle.wit_well_formed.specs.Passed.wit_package-declared-group-UnresolvedPackageGroup.{UnresolvedPackageGroup}
+use Rattle.wit_resolve_errors.specs.Passed.wit_groups-Pushed.{IsTogetherCause}
+use Rattle.wit_resolve_errors.specs.Passed.wit_groups-declared-fault-GroupFault.{GroupFault}
 use Rattle.wit_resolve_errors.specs.Errors.{IsOfTexts, IsSizeError, of_group}
 use Rattle.wit_resolution.specs.Groups.{packages_behind, texts_of}
 use Rattle.wit_resolution.specs.Pushes.{Resolved, IsGroupsError, AreGroupsRefused, AreTextsError, AreTextsRefused, HasNoPlace, AreGroupTextsKept, AreTextsKept}

@@ -1,8 +1,8 @@
 -- Each world imports in the end what it and its exports depend on.
 use Rattle.std.proofs.Common.{◌≡◌, ℕ, ◌<◌, ◌≤◌, inl, inr, arith, length, get_or}
 use Rattle.std.proofs.lemmas.Option.{slice_get_cases, slice_get-get_or}
-use Rattle.wit_graph.specs.Graph.{AreWhole, IsElaborated}
-use Rattle.wit_graph.specs.declared.tables.Tables.{Tables}
+use Rattle.wit_resolve_errors.specs.Passed.wit_graph-Graph.{AreWhole, IsElaborated}
+use Rattle.wit_resolve_errors.specs.Passed.wit_graph-declared-tables-Tables.{Tables}
 
 pub elaborated_at : (t : Tables) (i : ℕ) → AreWhole t → i < length t.worlds.elaborated → IsElaborated t i
 elaborated_at t i whole l =

@@ -3,7 +3,7 @@ use Rattle.std.specs.Prelude.{◌≡◌, ◌⊎◌, ℕ, ◌+◌, ◌^◌, ◌<�
 use Rattle.wit_words.specs.Sources.{SourceText, total}
 use Rattle.wit_order.specs.Order.{Has}
 use Rattle.wit_types.specs.declared.«package».UnresolvedPackage.{UnresolvedPackage}
-pub use Rattle.wit_package.specs.declared.group.UnresolvedPackageGroup.{UnresolvedPackageGroup}
+pub use Rattle.wit_well_formed.specs.Passed.wit_package-declared-group-UnresolvedPackageGroup.{UnresolvedPackageGroup}
 use Rattle.wit_offsets.specs.Offsets.{package_at, Fits, Passes}
 
 -- the package of its texts, and those that are nested in them

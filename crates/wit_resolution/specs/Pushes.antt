@@ -7,15 +7,15 @@ use Rattle.wit_types.specs.declared.«package».PackageName.{PackageName}
 use Rattle.wit_types.specs.declared.«package».UnresolvedPackage.{UnresolvedPackage}
 use Rattle.wit_features.specs.Features.{FeatureSet}
 use Rattle.wit_rules.specs.declared.fault.PackageFault.{PackageFault}
-use Rattle.wit_package.specs.declared.group.UnresolvedPackageGroup.{UnresolvedPackageGroup}
-use Rattle.wit_package.specs.Group.{IsTextsFault, IsBeginning}
+use Rattle.wit_well_formed.specs.Passed.wit_package-declared-group-UnresolvedPackageGroup.{UnresolvedPackageGroup}
+use Rattle.wit_well_formed.specs.Passed.wit_package-Group.{IsTextsFault, IsBeginning}
 use Rattle.wit_offsets.specs.Offsets.{package_at, Fits, Passes}
-use Rattle.wit_graph.specs.Graph.{Graph, nothing}
-pub use Rattle.wit_graph.specs.Push.{HasMorePackages}
-use Rattle.wit_graph.specs.Push.{IsPushed, IsPushCause}
-use Rattle.wit_graph_parts.specs.declared.fault.PushFault.{PushFault}
-use Rattle.wit_groups.specs.Pushed.{AreTogether, IsTogetherCause}
-use Rattle.wit_groups.specs.declared.fault.GroupFault.{GroupFault}
+use Rattle.wit_resolve_errors.specs.Passed.wit_graph-Graph.{Graph, nothing}
+pub use Rattle.wit_resolve_errors.specs.Passed.wit_graph-Push.{HasMorePackages}
+use Rattle.wit_resolve_errors.specs.Passed.wit_graph-Push.{IsPushed, IsPushCause}
+use Rattle.wit_well_formed.specs.Passed.wit_graph_parts-declared-fault-PushFault.{PushFault}
+use Rattle.wit_resolve_errors.specs.Passed.wit_groups-Pushed.{AreTogether, IsTogetherCause}
+use Rattle.wit_resolve_errors.specs.Passed.wit_groups-declared-fault-GroupFault.{GroupFault}
 use Rattle.wit_resolve_errors.specs.Errors.{of_push, of_group, IsOfTexts}
 use Rattle.wit_resolution.specs.Texts.{IsGroupOf, IsUnread, AreTextsLeft}
 use Rattle.wit_resolution.specs.Groups.{packages_behind, texts_of, AllFit, SomePass, BeginBehind}

@@ -4,22 +4,20 @@ ghost use Rattle.std.specs.Prelude.{◌≡◌, ◌<◌, ◌⊎◌, ◌++◌, len
 ghost use Rattle.wit_order.specs.Order.{Has};
 ghost use Rattle.wit_types.specs.declared.«package».UnresolvedPackage.{UnresolvedPackage};
 ghost use Rattle.wit_offsets.specs.Offsets.{package_at, Fits, Passes};
-ghost use Rattle.wit_graph.specs.Push.{HasMorePackages};
-ghost use Rattle.wit_graph_parts.specs.Own.{IsWellFormed};
-ghost use Rattle.wit_groups.specs.Pushed.{AreTogether, IsTogetherCause};
-ghost use Rattle.wit_groups.specs.declared.fault.GroupFault.{GroupFault as FaultOfGroup};
+ghost use Rattle.wit_resolve_errors.specs.Passed.wit_graph-Push.{HasMorePackages};
+ghost use Rattle.wit_well_formed.specs.Passed.wit_graph_parts-Own.{IsWellFormed};
+ghost use Rattle.wit_resolve_errors.specs.Passed.wit_groups-Pushed.{AreTogether, IsTogetherCause};
+ghost use Rattle.wit_resolve_errors.specs.Passed.wit_groups-declared-fault-GroupFault.{GroupFault as FaultOfGroup};
 ghost use Rattle.wit_resolve_errors.specs.Errors.{IsSizeError, of_group};
 ghost use Rattle.wit_resolution.specs.Groups as spec;
 ghost use Rattle.wit_words.specs.Sources.{total};
 
 use std::alloc::Global;
 use wit_features::Features;
-use wit_graph::Graph;
-use wit_groups::{GroupFault, push_together};
 use wit_offsets::with_offset;
-use wit_package::UnresolvedPackageGroup;
-use wit_resolve_errors::{ResolveError, ResolveErrorKind};
+use wit_resolve_errors::{Graph, GroupFault, ResolveError, ResolveErrorKind, push_together};
 use wit_types::{PackageId, PackageName, UnresolvedPackage};
+use wit_well_formed::UnresolvedPackageGroup;
 use wit_words::SourceMap;
 
 /// Adds packages whose texts begin there.

@@ -7,7 +7,7 @@ ghost use Rattle.wit_core_names.specs.Exports.{IsExportName, IsExportNamed};
 ghost use Rattle.wit_core_names.specs.Imports.{IsImportName, IsImportNamed};
 ghost use Rattle.wit_core_names.specs.Items.{export_of, import_of};
 ghost use Rattle.wit_core_names.specs.Texts as core_names;
-ghost use Rattle.wit_graph.specs.Graph.{IsClosureOf, IsDepsOf};
+ghost use Rattle.wit_resolve_errors.specs.Passed.wit_graph-Graph.{IsClosureOf, IsDepsOf};
 ghost use Rattle.wit_names.specs.Names as spec;
 ghost use Rattle.wit_reach.specs.Deps.{IsDepOf};
 ghost use Rattle.wit_resolution.specs.Names.{known_of};

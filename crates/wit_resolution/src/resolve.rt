@@ -4,15 +4,15 @@ ghost use Rattle.std.specs.Prelude.{◌≡◌, ◌⊎◌, ◌<◌, ◌^◌, ◌+
 ghost use Rattle.wit_features.specs.Features.{with_name};
 ghost use Rattle.wit_arena.specs.Tree.{Tree, resource_leaf};
 ghost use Rattle.wit_arena.specs.Unfold.{Owners, trees, value_tree};
-ghost use Rattle.wit_graph.specs.Graph.{IsElaborated, IsGraph};
-ghost use Rattle.wit_graph.specs.Packages.{ArePackagesInOrder, ArePackageDeps};
-ghost use Rattle.wit_graph.specs.Push.{HasMorePackages};
-ghost use Rattle.wit_resources.specs.Holding.{all_bits_valid};
-ghost use Rattle.wit_resources.specs.Natures.{natures, ref_nature};
-ghost use Rattle.wit_graph_parts.specs.Own.{IsWellFormed};
+ghost use Rattle.wit_resolve_errors.specs.Passed.wit_graph-Graph.{IsElaborated, IsGraph};
+ghost use Rattle.wit_resolve_errors.specs.Passed.wit_graph-Packages.{ArePackagesInOrder, ArePackageDeps};
+ghost use Rattle.wit_resolve_errors.specs.Passed.wit_graph-Push.{HasMorePackages};
+ghost use Rattle.wit_well_formed.specs.Passed.wit_resources-Holding.{all_bits_valid};
+ghost use Rattle.wit_well_formed.specs.Passed.wit_resources-Natures.{natures, ref_nature};
+ghost use Rattle.wit_well_formed.specs.Passed.wit_graph_parts-Own.{IsWellFormed};
 ghost use Rattle.wit_order.specs.Order.{Has};
-ghost use Rattle.wit_package.specs.GroupView.{texts};
-ghost use Rattle.wit_package.specs.declared.group.UnresolvedPackageGroup.{UnresolvedPackageGroup};
+ghost use Rattle.wit_well_formed.specs.Passed.wit_package-GroupView.{texts};
+ghost use Rattle.wit_well_formed.specs.Passed.wit_package-declared-group-UnresolvedPackageGroup.{UnresolvedPackageGroup};
 ghost use Rattle.wit_resolve_errors.specs.Errors.{of_selection, IsErrorLine, IsOfTexts, IsSizeError};
 ghost use Rattle.wit_resolution.specs.Groups.{packages_of};
 ghost use Rattle.wit_resolution.specs.Pushes as spec;
@@ -28,16 +28,17 @@ use indexmap::IndexMap;
 use std::alloc::{AllocError, Global};
 use std::marker::Model;
 use wit_features::Features;
-use wit_graph::Graph;
 use wit_offsets::with_offset;
-use wit_package::{PackageFault, UnresolvedPackageGroup};
-use wit_resolve_errors::ResolveError;
+use wit_resolve_errors::{Graph, ResolveError};
 use wit_selection::select_world;
 use wit_types::{
     Arena, Interface, Package, PackageId, PackageName, Type, TypeDef, UnresolvedPackage, World,
     WorldId,
 };
-use wit_well_formed::{law_moved_packages_are_well_formed, law_parsed_packages_are_well_formed};
+use wit_well_formed::{
+    PackageFault, UnresolvedPackageGroup, law_moved_packages_are_well_formed,
+    law_parsed_packages_are_well_formed,
+};
 use wit_words::{SourceMap, Span};
 
 /// Packages that are resolved together, with the features that are active and the texts in which they stand (WIT, Packages).
@@ -62,7 +63,7 @@ impl Drop for Resolve {
 
 impl Model for Resolve {
     ghost use Rattle.std.specs.Coded.{codes};
-    ghost use Rattle.wit_graph.specs.contracts.graph.Graph as all;
+    ghost use Rattle.wit_resolve_errors.specs.Passed.wit_graph-contracts-graph-Graph as all;
     ghost use Rattle.wit_resolution.specs.Pushes.{Resolved};
 
     ghost Value = { Resolved };

@@ -3,13 +3,13 @@
 ghost use Rattle.std.specs.Prelude.{◌≡◌, ◌∷◌, ◌++◌, [], List, IfOk, IfErr, OnOk};
 ghost use Rattle.std.specs.List.{AllZip};
 ghost use Rattle.wit_order.specs.Order.{Has};
-ghost use Rattle.wit_package.specs.GroupView.{texts};
-ghost use Rattle.wit_package.specs.declared.group.UnresolvedPackageGroup.{UnresolvedPackageGroup};
+ghost use Rattle.wit_well_formed.specs.Passed.wit_package-GroupView.{texts};
+ghost use Rattle.wit_well_formed.specs.Passed.wit_package-declared-group-UnresolvedPackageGroup.{UnresolvedPackageGroup};
 ghost use Rattle.wit_resolution.specs.Texts.{files_of, IsGroupOf, IsUnread};
 ghost use Rattle.wit_words.specs.Sources.{SourceText};
 
 use std::alloc::Global;
-use wit_package::{PackageFault, UnresolvedPackageGroup};
+use wit_well_formed::{PackageFault, UnresolvedPackageGroup};
 use wit_words::SourceMap;
 
 /// Adds the group of texts that are the files of a package.

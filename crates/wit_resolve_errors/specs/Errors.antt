@@ -11,8 +11,8 @@ use Rattle.wit_rules.specs.Codes as rules
 use Rattle.wit_rules.specs.declared.fault.PackageFault.{PackageFault}
 use Rattle.wit_rules.specs.declared.fault.PackageFault.TheVariants as text
 use Rattle.wit_offsets.specs.Offsets.{span_at, SpanFits}
-use Rattle.wit_graph_parts.specs.declared.fault.PushFault.{PushFault}
-use Rattle.wit_graph_parts.specs.declared.fault.PushFault.TheVariants as push
+use Rattle.wit_groups.specs.Passed.wit_graph_parts-declared-fault-PushFault.{PushFault}
+use Rattle.wit_groups.specs.Passed.wit_graph_parts-declared-fault-PushFault-TheVariants as push
 use Rattle.wit_groups.specs.declared.fault.GroupFault.{GroupFault}
 use Rattle.wit_groups.specs.declared.fault.GroupFault.TheVariants as group
 use Rattle.wit_selection.specs.declared.selection.SelectFault.{SelectFault}

@@ -7,7 +7,7 @@ ghost use Rattle.wit_resolve_errors.specs.Errors as spec;
 use std::alloc::{AllocError, AllocFailed, Global};
 use std::marker::Model;
 use thiserror::Error;
-use wit_graph_parts::PushFault;
+use wit_groups::PushFault;
 use wit_offsets::TooLarge;
 use wit_rules::{PackageFault, PackageRule};
 use wit_selection::SelectFault;

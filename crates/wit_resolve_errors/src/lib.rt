@@ -4,3 +4,4 @@
 mod error;
 
 pub use error::{ResolveError, ResolveErrorKind, ResolveResult};
+pub use wit_groups::{Graph, GroupFault, push_together};

@@ -1,8 +1,8 @@
 -- The functions among members.
 use Rattle.std.proofs.Common.{◌≡◌, List, [], ◌∷◌, ◌++◌, refl, ap, ◌∙◌, append-nil}
-use Rattle.wit_scopes.proofs.Lists.{flat_map-push}
-use Rattle.wit_scopes.specs.Members.{MemberKind, MemberTree, used, defined, function, method, static, constructor}
-use Rattle.wit_arena.specs.Standing.{IsOfType}
+use Rattle.wit_lookups.proofs.Passed.wit_scopes-Lists.{flat_map-push}
+use Rattle.wit_lookups.specs.Passed.wit_scopes-Members.{MemberKind, MemberTree, used, defined, function, method, static, constructor}
+use Rattle.wit_resources.specs.Passed.wit_arena-Standing.{IsOfType}
 use Rattle.wit_functions.specs.Signature.{IsFunction}
 use Rattle.wit_resolved_scopes.specs.Scope.{function_of, member_function, functions_among}
 

@@ -5,21 +5,21 @@ use Rattle.std.proofs.lemmas.Bool.{cases_Bool}
 use Rattle.std.proofs.lemmas.Slice.Eq.{bytes_eq-Decides}
 use Rattle.std.specs.Prelude.{bytes_eq}
 use Rattle.wit_words.specs.Slice.{Slice}
-use Rattle.wit_scopes.specs.Members.{MemberKind, MemberTree, used, defined, function, method, static, constructor}
-use Rattle.wit_rules.specs.declared.fault.PackageRule.TheVariants.{NameNotFound, WrongKind}
-use Rattle.wit_rules.specs.Breaks.{IsKept}
-use Rattle.wit_rules.specs.Facts as fact
-use Rattle.wit_rules.specs.Facts.{MembersBreak}
+use Rattle.wit_lookups.specs.Passed.wit_scopes-Members.{MemberKind, MemberTree, used, defined, function, method, static, constructor}
+use Rattle.wit_lookups.specs.Passed.wit_rules-declared-fault-PackageRule-TheVariants.{NameNotFound, WrongKind}
+use Rattle.wit_lookups.specs.Passed.wit_rules-Breaks.{IsKept}
+use Rattle.wit_lookups.specs.Passed.wit_rules-Facts as fact
+use Rattle.wit_lookups.specs.Passed.wit_rules-Facts.{MembersBreak}
 use Rattle.wit_lookups.specs.Lookups.{NameBreaks, found_type, TypesBreak}
 use Rattle.wit_lookups.specs.Names.{has, type_name, type_names}
 use Rattle.wit_orders.specs.Needs.{type_of, member_type, types_of}
-use Rattle.wit_arena.specs.Tree.{Name}
-use Rattle.wit_arena.specs.Meaning.{Has}
-use Rattle.wit_arena.specs.Standing.{IsOfType}
-use Rattle.wit_arena.proofs.Lists.{has_none, has_here, has_later}
-use Rattle.wit_package_types.specs.Fill.{member_names}
-use Rattle.wit_package_types.specs.Stability.{AreGates}
-use Rattle.wit_package_types.proofs.Gated.{gates_ready}
+use Rattle.wit_resources.specs.Passed.wit_arena-Tree.{Name}
+use Rattle.wit_resources.specs.Passed.wit_arena-Meaning.{Has}
+use Rattle.wit_resources.specs.Passed.wit_arena-Standing.{IsOfType}
+use Rattle.wit_resources.proofs.Passed.wit_arena-Lists.{has_none, has_here, has_later}
+use Rattle.wit_functions.specs.Passed.wit_package_types-Fill.{member_names}
+use Rattle.wit_functions.specs.Passed.wit_package_types-Stability.{AreGates}
+use Rattle.wit_functions.proofs.Passed.wit_package_types-Gated.{gates_ready}
 use Rattle.wit_resolved_scopes.proofs.Readying.{either}
 
 -- ---- the types among members

@@ -2,8 +2,8 @@
 use Rattle.std.proofs.Common.{◌≡◌, ℕ, zero, suc, List, [], ◌∷◌, ◌++◌, length, Some, refl, subst, ap}
 use Rattle.std.proofs.lemmas.Option.{same_Some}
 use Rattle.std.specs.Prelude.{slice_get}
-use Rattle.wit_arena.specs.Meaning.{Has}
-use Rattle.wit_arena.proofs.Lists.{has_here, has_later}
+use Rattle.wit_resources.specs.Passed.wit_arena-Meaning.{Has}
+use Rattle.wit_resources.proofs.Passed.wit_arena-Lists.{has_here, has_later}
 use Rattle.wit_resolved_scopes.specs.Each.{Each}
 
 module _ {X Y : Type 0} where

@@ -1,14 +1,14 @@
 -- Members that are fit, where what they use is known, are ready to be brought into an arena.
 use Rattle.std.proofs.Common.{◌≡◌, ℕ, List, subst, sym}
-use Rattle.wit_scopes.specs.Paths.{TargetTree, own, foreign}
-use Rattle.wit_scopes.specs.Members.{MemberKind, MemberTree, used, defined, function, method, static, constructor}
-use Rattle.wit_scopes.specs.Scopes.{InterfaceScope}
+use Rattle.wit_lookups.specs.Passed.wit_scopes-Paths.{TargetTree, own, foreign}
+use Rattle.wit_lookups.specs.Passed.wit_scopes-Members.{MemberKind, MemberTree, used, defined, function, method, static, constructor}
+use Rattle.wit_lookups.specs.Passed.wit_scopes-Scopes.{InterfaceScope}
 use Rattle.wit_words.specs.Slice.{Slice}
 use Rattle.wit_orders.specs.Needs.{types_of}
-use Rattle.wit_arena.specs.Tree.{Name}
-use Rattle.wit_arena.specs.Meaning.{Has}
-use Rattle.wit_package_types.specs.Foreign.{ForeignName, foreign_name}
-use Rattle.wit_package_types.specs.Known.{KnownTypes, FindsOwn, Finds}
+use Rattle.wit_resources.specs.Passed.wit_arena-Tree.{Name}
+use Rattle.wit_resources.specs.Passed.wit_arena-Meaning.{Has}
+use Rattle.wit_functions.specs.Passed.wit_package_types-Foreign.{ForeignName, foreign_name}
+use Rattle.wit_functions.specs.Passed.wit_package_types-Known.{KnownTypes, FindsOwn, Finds}
 use Rattle.wit_resolved_scopes.specs.Scope.{IsUsedKnown, AreReady}
 use Rattle.wit_resolved_scopes.specs.Fit.{Foreign, LeadsAmong, IsUsedAmong, AreFitAmong, KnowsInterfaces}
 use Rattle.wit_resolved_scopes.proofs.Declaring.{type_among}

@@ -2,12 +2,12 @@
 use Rattle.std.proofs.Common.{List}
 use Rattle.wit_types.specs.declared.function.Function.{Function}
 use Rattle.wit_types.specs.declared.interface.TypeDef.{TypeDef}
-use Rattle.wit_scopes.specs.Members.{MemberTree}
-use Rattle.wit_scopes.specs.Scopes.{ItemScope}
-use Rattle.wit_arena.specs.Tree.{PackageText, Place}
-use Rattle.wit_arena.specs.Table.{Entries}
-use Rattle.wit_arena.specs.Unfold.{Owners}
-use Rattle.wit_arena.proofs.Extending.{Extends, extends_self, extends_through}
+use Rattle.wit_lookups.specs.Passed.wit_scopes-Members.{MemberTree}
+use Rattle.wit_lookups.specs.Passed.wit_scopes-Scopes.{ItemScope}
+use Rattle.wit_resources.specs.Passed.wit_arena-Tree.{PackageText, Place}
+use Rattle.wit_resources.specs.Passed.wit_arena-Table.{Entries}
+use Rattle.wit_resources.specs.Passed.wit_arena-Unfold.{Owners}
+use Rattle.wit_resources.proofs.Passed.wit_arena-Extending.{Extends, extends_self, extends_through}
 use Rattle.wit_resolved_scopes.specs.Scope.{AddsFunction, adds_function, passes_type, LowersFunctions, no_members, one_more}
 use Rattle.wit_resolved_scopes.specs.Faults.{StandsSoFar}
 use Rattle.wit_resolved_scopes.proofs.Results.{function_extends, stands_after}

@@ -1,9 +1,9 @@
 -- What keeps the rules of its parts keeps its own.
 use Rattle.std.proofs.Common.{List}
-use Rattle.wit_scopes.specs.Members.{MemberKind, MemberTree}
-use Rattle.wit_type_names.specs.TypeNames.{handles_in_member}
-use Rattle.wit_rules.specs.Breaks.{IsKept, AnyBreaks}
-use Rattle.wit_arena.specs.Table.{Entries}
+use Rattle.wit_lookups.specs.Passed.wit_scopes-Members.{MemberKind, MemberTree}
+use Rattle.wit_lookups.specs.Passed.wit_type_names-TypeNames.{handles_in_member}
+use Rattle.wit_lookups.specs.Passed.wit_rules-Breaks.{IsKept, AnyBreaks}
+use Rattle.wit_resources.specs.Passed.wit_arena-Table.{Entries}
 use Rattle.wit_resources.specs.Failing.{HandleFails}
 use Rattle.wit_resources.specs.Rules.{DeclaresOther}
 use Rattle.wit_resources.specs.declared.natures.Nature.{Nature}

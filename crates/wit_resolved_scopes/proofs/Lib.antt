@@ -12,3 +12,4 @@ pub mod Placing
 pub mod Fitting
 pub mod Listing
 pub mod Keying
+pub mod Passed

@@ -7,18 +7,18 @@ use Rattle.wit_types.specs.declared.kind.TypeDefKind.{TypeDefKind}
 use Rattle.wit_types.specs.declared.function.Function.{Function}
 use Rattle.wit_types.specs.declared.interface.TypeDef.{TypeDef}
 use Rattle.wit_types.specs.declared.interface.TypeOwner.{TypeOwner}
-use Rattle.wit_productions.specs.TypeTree.{TypeTree, TypeShape, TypeOption}
-use Rattle.wit_items.specs.ItemTree.{TypeDefKindTree}
-use Rattle.wit_scopes.specs.Members.{MemberKind, MemberTree}
-use Rattle.wit_arena.specs.Table.{Entries}
-use Rattle.wit_arena.specs.Meaning.{Has}
-use Rattle.wit_arena.specs.Shape.{ShapeTree}
-use Rattle.wit_arena.specs.Arena.{Interns, there, fresh}
-use Rattle.wit_arena.specs.Lower.{Lowers, lowers_primitive, lowers_name, lowers_composed, LowersShape, lowers_list, lowers_fixed_length_list, lowers_option, lowers_tuple, lowers_result, lowers_own, lowers_borrow, lowers_future, lowers_stream, LowersPart, lowers_nothing, lowers_a_type, LowersParts, lowers_none, lowers_more}
-use Rattle.wit_arena.specs.LowerKind.{LowersKind, lowers_alias, lowers_record, lowers_flags, lowers_enum, lowers_variant, lowers_resource}
-use Rattle.wit_arena.proofs.Lists.{get_more, has_left, has_right, has_here}
-use Rattle.wit_package_types.specs.Known.{KnownTypes}
-use Rattle.wit_package_types.specs.Fill.{GivesKind, gives_defined, gives_used, Defines, Fills, fills_none, fills_more}
+use Rattle.wit_lookups.specs.Passed.wit_productions-TypeTree.{TypeTree, TypeShape, TypeOption}
+use Rattle.wit_lookups.specs.Passed.wit_items-ItemTree.{TypeDefKindTree}
+use Rattle.wit_lookups.specs.Passed.wit_scopes-Members.{MemberKind, MemberTree}
+use Rattle.wit_resources.specs.Passed.wit_arena-Table.{Entries}
+use Rattle.wit_resources.specs.Passed.wit_arena-Meaning.{Has}
+use Rattle.wit_resources.specs.Passed.wit_arena-Shape.{ShapeTree}
+use Rattle.wit_resources.specs.Passed.wit_arena-Arena.{Interns, there, fresh}
+use Rattle.wit_resources.specs.Passed.wit_arena-Lower.{Lowers, lowers_primitive, lowers_name, lowers_composed, LowersShape, lowers_list, lowers_fixed_length_list, lowers_option, lowers_tuple, lowers_result, lowers_own, lowers_borrow, lowers_future, lowers_stream, LowersPart, lowers_nothing, lowers_a_type, LowersParts, lowers_none, lowers_more}
+use Rattle.wit_resources.specs.Passed.wit_arena-LowerKind.{LowersKind, lowers_alias, lowers_record, lowers_flags, lowers_enum, lowers_variant, lowers_resource}
+use Rattle.wit_resources.proofs.Passed.wit_arena-Lists.{get_more, has_left, has_right, has_here}
+use Rattle.wit_functions.specs.Passed.wit_package_types-Known.{KnownTypes}
+use Rattle.wit_functions.specs.Passed.wit_package_types-Fill.{GivesKind, gives_defined, gives_used, Defines, Fills, fills_none, fills_more}
 use Rattle.wit_resolved_scopes.specs.Scope.{AddsFunction, adds_function, passes_type, LowersFunctions, no_members, one_more}
 use Rattle.wit_resolved_scopes.specs.Listed.{NewTypesBelong, IsForm, IsListedIn, ResolvedScopesListTheirTypes}
 

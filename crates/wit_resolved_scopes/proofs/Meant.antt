@@ -4,15 +4,15 @@ use Rattle.std.specs.Prelude.{option_map}
 use Rattle.wit_types.specs.declared.kind.«Type».{«Type» as Ref}
 use Rattle.wit_types.specs.declared.function.Function.{Function}
 use Rattle.wit_types.specs.declared.interface.TypeDef.{TypeDef}
-use Rattle.wit_scopes.specs.Members.{MemberTree}
-use Rattle.wit_scopes.specs.Scopes.{ItemScope}
-use Rattle.wit_arena.specs.Tree.{Name, PackageText, Place, Owner, Tree, Trees, trees_and}
-use Rattle.wit_arena.specs.Table.{Entries}
-use Rattle.wit_arena.specs.Unfold.{Owners, and_then, part_tree, part_trees, trees, IsWhole}
-use Rattle.wit_arena.specs.Standing.{AreStanding, Grows}
-use Rattle.wit_arena.proofs.Growing.{grows_self, grows_through, part_grown}
-use Rattle.wit_arena.proofs.Meanings.{types_stand_for_their_meaning}
-use Rattle.wit_package_types.proofs.Filled.{filled_types_stand_for_their_meaning}
+use Rattle.wit_lookups.specs.Passed.wit_scopes-Members.{MemberTree}
+use Rattle.wit_lookups.specs.Passed.wit_scopes-Scopes.{ItemScope}
+use Rattle.wit_resources.specs.Passed.wit_arena-Tree.{Name, PackageText, Place, Owner, Tree, Trees, trees_and}
+use Rattle.wit_resources.specs.Passed.wit_arena-Table.{Entries}
+use Rattle.wit_resources.specs.Passed.wit_arena-Unfold.{Owners, and_then, part_tree, part_trees, trees, IsWhole}
+use Rattle.wit_resources.specs.Passed.wit_arena-Standing.{AreStanding, Grows}
+use Rattle.wit_resources.proofs.Passed.wit_arena-Growing.{grows_self, grows_through, part_grown}
+use Rattle.wit_resources.proofs.Passed.wit_arena-Meanings.{types_stand_for_their_meaning}
+use Rattle.wit_functions.proofs.Passed.wit_package_types-Filled.{filled_types_stand_for_their_meaning}
 use Rattle.wit_resolved_scopes.specs.Scope.{functions_among, AddsFunction, adds_function, passes_type, LowersFunctions, no_members, one_more}
 use Rattle.wit_resolved_scopes.specs.Each.{Each}
 use Rattle.wit_resolved_scopes.specs.Meaning.{written_parts, function_refs, StandsForFunction, StandForFunctions, ResolvedScopesStandForTheirMeaning}

@@ -11,13 +11,13 @@ use Rattle.name_places.proofs.Places.{place-is_some, place_names}
 use Rattle.wit_words.specs.Slice.{Slice}
 use Rattle.wit_order.specs.Order.{IsOrder, AreDependenciesFirst}
 use Rattle.wit_order.specs.Order as order_of
-use Rattle.wit_scopes.specs.Members.{MemberTree}
+use Rattle.wit_lookups.specs.Passed.wit_scopes-Members.{MemberTree}
 use Rattle.wit_orders.specs.Needs.{Entry, labels, NeedsIn, type_entry, AreSorted}
-use Rattle.wit_type_names.specs.TypeNames.{names_in_member}
-use Rattle.wit_arena.specs.Tree.{Name}
-use Rattle.wit_arena.specs.Meaning.{Has}
-use Rattle.wit_arena.proofs.Lists.{has_none, has_later, has_map}
-use Rattle.wit_package_types.specs.Fill.{member_names}
+use Rattle.wit_lookups.specs.Passed.wit_type_names-TypeNames.{names_in_member}
+use Rattle.wit_resources.specs.Passed.wit_arena-Tree.{Name}
+use Rattle.wit_resources.specs.Passed.wit_arena-Meaning.{Has}
+use Rattle.wit_resources.proofs.Passed.wit_arena-Lists.{has_none, has_later, has_map}
+use Rattle.wit_functions.specs.Passed.wit_package_types-Fill.{member_names}
 
 pub or_true : (b : Bool) → (b || true) ≡ true
 or_true true = refl

@@ -6,21 +6,21 @@ use Rattle.wit_types.specs.declared.kind.TypeDefKind.{TypeDefKind}
 use Rattle.wit_types.specs.declared.function.Function.{Function}
 use Rattle.wit_types.specs.declared.interface.TypeDef.{TypeDef}
 use Rattle.wit_types.specs.declared.interface.TypeOwner.{TypeOwner}
-use Rattle.wit_items.specs.ItemTree.{TypeDefKindTree}
-use Rattle.wit_scopes.specs.Members.{MemberKind, MemberTree}
+use Rattle.wit_lookups.specs.Passed.wit_items-ItemTree.{TypeDefKindTree}
+use Rattle.wit_lookups.specs.Passed.wit_scopes-Members.{MemberKind, MemberTree}
 use Rattle.wit_orders.specs.Needs.{types_of}
-use Rattle.wit_arena.specs.Tree.{Name, Place, in_interface, Owner, Tree}
-use Rattle.wit_arena.specs.Table.{Entries}
-use Rattle.wit_arena.specs.LowerKind.{LowersKind, lowers_alias, lowers_record, lowers_flags, lowers_enum, lowers_variant, lowers_resource, labels_of, written_labels}
-use Rattle.wit_arena.specs.Meaning.{Has}
-use Rattle.wit_arena.specs.Standing.{Stands, AreStanding}
-use Rattle.wit_arena.proofs.Lists.{get_kept, get_last}
-use Rattle.wit_arena.proofs.Extending.{Extends}
-use Rattle.wit_arena.proofs.Growing.{ref_grown}
-use Rattle.wit_package_types.specs.Known.{KnownTypes, with_interface}
-use Rattle.wit_package_types.specs.Fill.{IsTypeOf, GivesKind, gives_defined, gives_used, Defines, Fills, fills_none, fills_more}
-use Rattle.wit_package_types.proofs.Filling.{defined_extends}
-use Rattle.wit_package_types.proofs.Filled.{filled_types_stand_for_their_meaning}
+use Rattle.wit_resources.specs.Passed.wit_arena-Tree.{Name, Place, in_interface, Owner, Tree}
+use Rattle.wit_resources.specs.Passed.wit_arena-Table.{Entries}
+use Rattle.wit_resources.specs.Passed.wit_arena-LowerKind.{LowersKind, lowers_alias, lowers_record, lowers_flags, lowers_enum, lowers_variant, lowers_resource, labels_of, written_labels}
+use Rattle.wit_resources.specs.Passed.wit_arena-Meaning.{Has}
+use Rattle.wit_resources.specs.Passed.wit_arena-Standing.{Stands, AreStanding}
+use Rattle.wit_resources.proofs.Passed.wit_arena-Lists.{get_kept, get_last}
+use Rattle.wit_resources.proofs.Passed.wit_arena-Extending.{Extends}
+use Rattle.wit_resources.proofs.Passed.wit_arena-Growing.{ref_grown}
+use Rattle.wit_functions.specs.Passed.wit_package_types-Known.{KnownTypes, with_interface}
+use Rattle.wit_functions.specs.Passed.wit_package_types-Fill.{IsTypeOf, GivesKind, gives_defined, gives_used, Defines, Fills, fills_none, fills_more}
+use Rattle.wit_functions.proofs.Passed.wit_package_types-Filling.{defined_extends}
+use Rattle.wit_functions.proofs.Passed.wit_package_types-Filled.{filled_types_stand_for_their_meaning}
 use Rattle.wit_resolved_scopes.specs.Each.{Each}
 use Rattle.wit_resolved_scopes.specs.Scope.{functions_among, AddsFunction, adds_function, passes_type, LowersFunctions, no_members, one_more}
 use Rattle.wit_resolved_scopes.specs.Meaning.{StandsForFunction}

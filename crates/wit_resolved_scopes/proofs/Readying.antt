@@ -6,21 +6,21 @@ use Rattle.std.specs.Prelude.{slice_get, flat_map, option_map}
 use Rattle.wit_words.specs.Slice.{Slice}
 use Rattle.wit_types.specs.declared.interface.TypeDef.{TypeDef}
 use Rattle.wit_types.specs.declared.interface.TypeOwner.{TypeOwner}
-use Rattle.wit_productions.specs.TypeTree as written
-use Rattle.wit_productions.specs.TypeTree.{TypeTree, TypeShape, TypeOption, TypeRow, standing}
-use Rattle.wit_scopes.specs.Members.{MemberKind, MemberTree, used, defined, function, method, static, constructor}
-use Rattle.wit_type_names.specs.TypeNames.{names_in, names_in_shape, names_in_part, names_in_row, handles_in, handles_in_shape, handles_in_part, handles_in_row, member_parts, names_in_member, handles_in_member}
+use Rattle.wit_lookups.specs.Passed.wit_productions-TypeTree as written
+use Rattle.wit_lookups.specs.Passed.wit_productions-TypeTree.{TypeTree, TypeShape, TypeOption, TypeRow, standing}
+use Rattle.wit_lookups.specs.Passed.wit_scopes-Members.{MemberKind, MemberTree, used, defined, function, method, static, constructor}
+use Rattle.wit_lookups.specs.Passed.wit_type_names-TypeNames.{names_in, names_in_shape, names_in_part, names_in_row, handles_in, handles_in_shape, handles_in_part, handles_in_row, member_parts, names_in_member, handles_in_member}
 use Rattle.wit_orders.specs.Needs.{AreSorted}
-use Rattle.wit_arena.specs.Tree.{Name}
-use Rattle.wit_arena.specs.Table.{Entries}
-use Rattle.wit_arena.specs.Meaning.{Has}
-use Rattle.wit_arena.specs.Lower.{AreThere}
-use Rattle.wit_arena.specs.Standing.{IsOfType}
-use Rattle.wit_arena.proofs.Lists.{has_none, has_left, has_right, has_later, has_map, map_has}
-use Rattle.wit_package_types.specs.Known.{KnownTypes}
-use Rattle.wit_package_types.specs.Fill.{names_of, member_names, IsFound, AreFillable}
-use Rattle.wit_package_types.proofs.Filling.{names_filled}
-use Rattle.wit_package_types.proofs.Finding.{named_entry}
+use Rattle.wit_resources.specs.Passed.wit_arena-Tree.{Name}
+use Rattle.wit_resources.specs.Passed.wit_arena-Table.{Entries}
+use Rattle.wit_resources.specs.Passed.wit_arena-Meaning.{Has}
+use Rattle.wit_resources.specs.Passed.wit_arena-Lower.{AreThere}
+use Rattle.wit_resources.specs.Passed.wit_arena-Standing.{IsOfType}
+use Rattle.wit_resources.proofs.Passed.wit_arena-Lists.{has_none, has_left, has_right, has_later, has_map, map_has}
+use Rattle.wit_functions.specs.Passed.wit_package_types-Known.{KnownTypes}
+use Rattle.wit_functions.specs.Passed.wit_package_types-Fill.{names_of, member_names, IsFound, AreFillable}
+use Rattle.wit_functions.proofs.Passed.wit_package_types-Filling.{names_filled}
+use Rattle.wit_functions.proofs.Passed.wit_package_types-Finding.{named_entry}
 use Rattle.wit_resources.specs.Failing.{AreDistinct}
 use Rattle.wit_resolved_scopes.specs.Scope.{FillsSorted, all_names, IsUsedKnown, AreReady}
 use Rattle.wit_resolved_scopes.proofs.Orders.{at_taken, sorted_has, has_sorted, named_before, sorted_distinct}

@@ -9,23 +9,23 @@ use Rattle.wit_types.specs.declared.kind.«Type».{«Type» as Ref}
 use Rattle.wit_types.specs.declared.function.Function.{Function}
 use Rattle.wit_types.specs.declared.function.Param.{Param}
 use Rattle.wit_types.specs.declared.interface.TypeDef.{TypeDef}
-use Rattle.wit_productions.specs.TypeTree.{TypeTree, TypeOption, opt, a_type}
-use Rattle.wit_scopes.specs.Members.{MemberKind, MemberTree, used, defined, function, method, static, constructor}
-use Rattle.wit_scopes.specs.Scopes.{ItemScope}
-use Rattle.wit_type_names.specs.TypeNames.{param_parts, signature_parts}
-use Rattle.wit_rules.specs.declared.fault.PackageRule.{PackageRule}
-use Rattle.wit_rules.specs.declared.fault.PackageFault.{PackageFault}
-use Rattle.wit_rules.specs.Breaks.{Breaks, IsKept, IsFaultOf}
-use Rattle.wit_rules.proofs.Breaking.{widened}
-use Rattle.wit_arena.specs.Tree.{Name, PackageText, Place, Owner, Tree, TreeOption, Trees, no_tree, a_tree, no_trees, trees_and, resource_leaf}
-use Rattle.wit_arena.specs.Table.{Entries}
-use Rattle.wit_arena.specs.Meaning.{Means, MeansPart, means_a_type, MeansParts, means_none, means_more}
-use Rattle.wit_arena.specs.LowerParams.{written_param, param_label}
-use Rattle.wit_arena.specs.Unfold.{Owners, and_then, value_tree, part_tree, part_trees, trees}
-use Rattle.wit_arena.specs.Standing.{Grows}
-use Rattle.wit_arena.proofs.Lists.{get_last}
-use Rattle.wit_arena.proofs.Extending.{Extends, parts_extend}
-use Rattle.wit_arena.proofs.Meanings.{types_stand_for_their_meaning}
+use Rattle.wit_lookups.specs.Passed.wit_productions-TypeTree.{TypeTree, TypeOption, opt, a_type}
+use Rattle.wit_lookups.specs.Passed.wit_scopes-Members.{MemberKind, MemberTree, used, defined, function, method, static, constructor}
+use Rattle.wit_lookups.specs.Passed.wit_scopes-Scopes.{ItemScope}
+use Rattle.wit_lookups.specs.Passed.wit_type_names-TypeNames.{param_parts, signature_parts}
+use Rattle.wit_lookups.specs.Passed.wit_rules-declared-fault-PackageRule.{PackageRule}
+use Rattle.wit_lookups.specs.Passed.wit_rules-declared-fault-PackageFault.{PackageFault}
+use Rattle.wit_lookups.specs.Passed.wit_rules-Breaks.{Breaks, IsKept, IsFaultOf}
+use Rattle.wit_lookups.proofs.Passed.wit_rules-Breaking.{widened}
+use Rattle.wit_resources.specs.Passed.wit_arena-Tree.{Name, PackageText, Place, Owner, Tree, TreeOption, Trees, no_tree, a_tree, no_trees, trees_and, resource_leaf}
+use Rattle.wit_resources.specs.Passed.wit_arena-Table.{Entries}
+use Rattle.wit_resources.specs.Passed.wit_arena-Meaning.{Means, MeansPart, means_a_type, MeansParts, means_none, means_more}
+use Rattle.wit_resources.specs.Passed.wit_arena-LowerParams.{written_param, param_label}
+use Rattle.wit_resources.specs.Passed.wit_arena-Unfold.{Owners, and_then, value_tree, part_tree, part_trees, trees}
+use Rattle.wit_resources.specs.Passed.wit_arena-Standing.{Grows}
+use Rattle.wit_resources.proofs.Passed.wit_arena-Lists.{get_last}
+use Rattle.wit_resources.proofs.Passed.wit_arena-Extending.{Extends, parts_extend}
+use Rattle.wit_resources.proofs.Passed.wit_arena-Meanings.{types_stand_for_their_meaning}
 use Rattle.wit_functions.specs.Signature.{all_params, all_result, result_of}
 use Rattle.wit_functions.specs.Function.{LowersFunction}
 use Rattle.wit_resources.specs.Natures.{natures, AreOfFirst}

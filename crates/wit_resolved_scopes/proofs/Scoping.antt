@@ -4,18 +4,18 @@ use Rattle.std.specs.Prelude.{slice_get}
 use Rattle.wit_words.specs.declared.source_map.Span.{Span}
 use Rattle.wit_types.specs.declared.interface.TypeDef.{TypeDef}
 use Rattle.wit_types.specs.declared.interface.TypeOwner.{TypeOwner}
-use Rattle.wit_scopes.specs.Members.{MemberTree}
-use Rattle.wit_scopes.specs.Scopes.{ItemScope}
-use Rattle.wit_rules.specs.declared.fault.PackageRule.{PackageRule}
-use Rattle.wit_rules.specs.declared.fault.PackageFault.{PackageFault}
-use Rattle.wit_rules.specs.Breaks.{IsKept, IsFaultOf}
-use Rattle.wit_rules.proofs.Breaking.{widened}
+use Rattle.wit_lookups.specs.Passed.wit_scopes-Members.{MemberTree}
+use Rattle.wit_lookups.specs.Passed.wit_scopes-Scopes.{ItemScope}
+use Rattle.wit_lookups.specs.Passed.wit_rules-declared-fault-PackageRule.{PackageRule}
+use Rattle.wit_lookups.specs.Passed.wit_rules-declared-fault-PackageFault.{PackageFault}
+use Rattle.wit_lookups.specs.Passed.wit_rules-Breaks.{IsKept, IsFaultOf}
+use Rattle.wit_lookups.proofs.Passed.wit_rules-Breaking.{widened}
 use Rattle.wit_orders.specs.Needs.{type_entry, CircleBreaks}
-use Rattle.wit_arena.specs.Tree.{PackageText, Place, resource_leaf}
-use Rattle.wit_arena.specs.Table.{Entries}
-use Rattle.wit_arena.specs.Unfold.{Owners}
-use Rattle.wit_package_types.specs.Known.{KnownTypes}
-use Rattle.wit_package_types.proofs.Filled.{filled_types_stand_for_their_meaning}
+use Rattle.wit_resources.specs.Passed.wit_arena-Tree.{PackageText, Place, resource_leaf}
+use Rattle.wit_resources.specs.Passed.wit_arena-Table.{Entries}
+use Rattle.wit_resources.specs.Passed.wit_arena-Unfold.{Owners}
+use Rattle.wit_functions.specs.Passed.wit_package_types-Known.{KnownTypes}
+use Rattle.wit_functions.proofs.Passed.wit_package_types-Filled.{filled_types_stand_for_their_meaning}
 use Rattle.wit_resources.specs.Natures.{natures}
 use Rattle.wit_resources.specs.Rules as rule
 use Rattle.wit_resources.specs.Rules.{MemberBreaks}

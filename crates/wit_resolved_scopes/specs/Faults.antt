@@ -3,18 +3,18 @@ use Rattle.std.specs.Prelude.{List, map}
 use Rattle.wit_words.specs.declared.source_map.Span.{Span}
 use Rattle.wit_types.specs.declared.interface.TypeDef.{TypeDef}
 use Rattle.wit_types.specs.declared.interface.TypeOwner.{TypeOwner}
-use Rattle.wit_scopes.specs.Members.{MemberKind, MemberTree}
-use Rattle.wit_scopes.specs.Scopes.{ItemScope}
-use Rattle.wit_rules.specs.declared.fault.PackageRule.{PackageRule}
-use Rattle.wit_rules.specs.Breaks.{Breaks, AnyBreaks}
+use Rattle.wit_lookups.specs.Passed.wit_scopes-Members.{MemberKind, MemberTree}
+use Rattle.wit_lookups.specs.Passed.wit_scopes-Scopes.{ItemScope}
+use Rattle.wit_lookups.specs.Passed.wit_rules-declared-fault-PackageRule.{PackageRule}
+use Rattle.wit_lookups.specs.Passed.wit_rules-Breaks.{Breaks, AnyBreaks}
 use Rattle.wit_orders.specs.Needs.{type_entry, CircleBreaks}
-use Rattle.wit_arena.specs.Tree.{PackageText, Place, resource_leaf}
-use Rattle.wit_arena.specs.Table.{Entries}
-use Rattle.wit_arena.specs.Unfold.{Owners, IsWhole}
-use Rattle.wit_arena.specs.Standing.{AreStanding, AreFunctional}
-use Rattle.wit_package_types.specs.Known.{KnownTypes}
-use Rattle.wit_package_types.specs.Standing.{AreKnownStanding, AreOfScope}
-use Rattle.wit_type_names.specs.TypeNames.{handles_in_member}
+use Rattle.wit_resources.specs.Passed.wit_arena-Tree.{PackageText, Place, resource_leaf}
+use Rattle.wit_resources.specs.Passed.wit_arena-Table.{Entries}
+use Rattle.wit_resources.specs.Passed.wit_arena-Unfold.{Owners, IsWhole}
+use Rattle.wit_resources.specs.Passed.wit_arena-Standing.{AreStanding, AreFunctional}
+use Rattle.wit_functions.specs.Passed.wit_package_types-Known.{KnownTypes}
+use Rattle.wit_functions.specs.Passed.wit_package_types-Standing.{AreKnownStanding, AreOfScope}
+use Rattle.wit_lookups.specs.Passed.wit_type_names-TypeNames.{handles_in_member}
 use Rattle.wit_resources.specs.declared.natures.Nature.{Nature}
 use Rattle.wit_resources.specs.Failing.{HandleFails}
 use Rattle.wit_resources.specs.Rules.{declared_result, PartBreaks, ResultBreaks, DeclaresOther, MemberBreaks}

@@ -1,21 +1,21 @@
 -- What is asked of the scopes of a package, so that each may be brought into an arena (WIT, Name Resolution).
 use Rattle.std.specs.Prelude.{◌≡◌, ℕ, List, map, Some, take, slice_get}
 use Rattle.wit_words.specs.Slice.{Slice}
-use Rattle.wit_scopes.specs.declared.worlds.Side.{Side}
-use Rattle.wit_scopes.specs.declared.worlds.Side.TheVariants.{Import}
-use Rattle.wit_scopes.specs.Paths.{TargetTree, own, foreign}
-use Rattle.wit_scopes.specs.Members.{MemberKind, MemberTree, used, defined, function, method, static, constructor}
-use Rattle.wit_scopes.specs.Scopes as scope
-use Rattle.wit_scopes.specs.Scopes.{ListedTree, IncludedTree, WorldMemberTree, InterfaceScope, WorldScope}
-use Rattle.wit_rules.specs.Labels.{full_name}
+use Rattle.wit_lookups.specs.Passed.wit_scopes-declared-worlds-Side.{Side}
+use Rattle.wit_lookups.specs.Passed.wit_scopes-declared-worlds-Side-TheVariants.{Import}
+use Rattle.wit_lookups.specs.Passed.wit_scopes-Paths.{TargetTree, own, foreign}
+use Rattle.wit_lookups.specs.Passed.wit_scopes-Members.{MemberKind, MemberTree, used, defined, function, method, static, constructor}
+use Rattle.wit_lookups.specs.Passed.wit_scopes-Scopes as scope
+use Rattle.wit_lookups.specs.Passed.wit_scopes-Scopes.{ListedTree, IncludedTree, WorldMemberTree, InterfaceScope, WorldScope}
+use Rattle.wit_lookups.specs.Passed.wit_rules-Labels.{full_name}
 use Rattle.wit_orders.specs.Needs.{types_of}
-use Rattle.wit_arena.specs.Tree.{Name, in_interface, in_world}
-use Rattle.wit_arena.specs.Meaning.{Has, package_text}
-use Rattle.wit_arena.specs.Unfold.{Owners}
-use Rattle.wit_package_types.specs.Foreign.{ForeignName, foreign_name}
-use Rattle.wit_package_types.specs.Known.{KnownTypes, FindsOwn}
-use Rattle.wit_package_types.specs.Fill.{member_names}
-use Rattle.wit_package_types.specs.Stability.{AreGates}
+use Rattle.wit_resources.specs.Passed.wit_arena-Tree.{Name, in_interface, in_world}
+use Rattle.wit_resources.specs.Passed.wit_arena-Meaning.{Has, package_text}
+use Rattle.wit_resources.specs.Passed.wit_arena-Unfold.{Owners}
+use Rattle.wit_functions.specs.Passed.wit_package_types-Foreign.{ForeignName, foreign_name}
+use Rattle.wit_functions.specs.Passed.wit_package_types-Known.{KnownTypes, FindsOwn}
+use Rattle.wit_functions.specs.Passed.wit_package_types-Fill.{member_names}
+use Rattle.wit_functions.specs.Passed.wit_package_types-Stability.{AreGates}
 use Rattle.wit_resolved_scopes.specs.Each.{AreApartBy}
 use Rattle.wit_resolved_scopes.specs.Scope.{functions_among, all_names}
 use Rattle.wit_resolved_scopes.specs.Texts.{InterfaceText, interface_text, labelled_texts, own_members, side_members, includes_of, plain, key_text}

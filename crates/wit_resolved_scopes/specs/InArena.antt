@@ -3,21 +3,21 @@ use Rattle.std.specs.Prelude.{◌≡◌, ℕ, List, [], map, Some, length, slice
 use Rattle.wit_types.specs.declared.function.Function.{Function}
 use Rattle.wit_types.specs.declared.interface.TypeDef.{TypeDef}
 use Rattle.wit_types.specs.declared.interface.TypeOwner.{TypeOwner}
-use Rattle.wit_scopes.specs.Members.{MemberKind, MemberTree, defined}
-use Rattle.wit_scopes.specs.Scopes.{ItemScope}
-use Rattle.wit_rules.specs.Labels.{full_name}
+use Rattle.wit_lookups.specs.Passed.wit_scopes-Members.{MemberKind, MemberTree, defined}
+use Rattle.wit_lookups.specs.Passed.wit_scopes-Scopes.{ItemScope}
+use Rattle.wit_lookups.specs.Passed.wit_rules-Labels.{full_name}
 use Rattle.wit_orders.specs.Needs.{types_of, AreSorted}
-use Rattle.wit_arena.specs.Tree.{Name, PackageText, Place, Owner, Tree}
-use Rattle.wit_arena.specs.Table.{Entries}
-use Rattle.wit_arena.specs.Docs.{said, contents_of}
-use Rattle.wit_arena.specs.LowerKind.{Label, written_labels, labels_of}
-use Rattle.wit_arena.specs.LowerParams.{written_param, param_label}
-use Rattle.wit_arena.specs.Unfold.{Owners, IsWhole}
-use Rattle.wit_arena.specs.Standing.{Stands, Grows, AreFunctional}
-use Rattle.wit_package_types.specs.Stability.{IsStabilityOf}
-use Rattle.wit_package_types.specs.Known.{KnownTypes}
-use Rattle.wit_package_types.specs.Fill.{IsTypeOf}
-use Rattle.wit_package_types.specs.Standing.{AreKnownStanding, AreOfScope}
+use Rattle.wit_resources.specs.Passed.wit_arena-Tree.{Name, PackageText, Place, Owner, Tree}
+use Rattle.wit_resources.specs.Passed.wit_arena-Table.{Entries}
+use Rattle.wit_resources.specs.Passed.wit_arena-Docs.{said, contents_of}
+use Rattle.wit_resources.specs.Passed.wit_arena-LowerKind.{Label, written_labels, labels_of}
+use Rattle.wit_resources.specs.Passed.wit_arena-LowerParams.{written_param, param_label}
+use Rattle.wit_resources.specs.Passed.wit_arena-Unfold.{Owners, IsWhole}
+use Rattle.wit_resources.specs.Passed.wit_arena-Standing.{Stands, Grows, AreFunctional}
+use Rattle.wit_functions.specs.Passed.wit_package_types-Stability.{IsStabilityOf}
+use Rattle.wit_functions.specs.Passed.wit_package_types-Known.{KnownTypes}
+use Rattle.wit_functions.specs.Passed.wit_package_types-Fill.{IsTypeOf}
+use Rattle.wit_functions.specs.Passed.wit_package_types-Standing.{AreKnownStanding, AreOfScope}
 use Rattle.wit_functions.specs.Signature.{all_params, IsKindOf}
 use Rattle.wit_resolved_scopes.specs.Each.{Each}
 use Rattle.wit_resolved_scopes.specs.Texts.{InterfaceText}

@@ -6,3 +6,4 @@ pub mod InArena
 pub mod Texts
 pub mod Fit
 pub mod Listed
+pub mod Passed

@@ -3,13 +3,13 @@ use Rattle.std.specs.Prelude.{◌≡◌, ◌⊎◌, ℕ, List, Some, slice_get}
 use Rattle.wit_types.specs.declared.function.Function.{Function}
 use Rattle.wit_types.specs.declared.interface.TypeDef.{TypeDef}
 use Rattle.wit_types.specs.declared.interface.TypeOwner.{TypeOwner}
-use Rattle.wit_scopes.specs.Members.{MemberTree}
-use Rattle.wit_arena.specs.Tree.{Name}
-use Rattle.wit_arena.specs.Shape.{ShapeTree}
-use Rattle.wit_arena.specs.Arena.{IsUnnamed}
-use Rattle.wit_arena.specs.Table.{Entries}
-use Rattle.wit_arena.specs.Meaning.{Has}
-use Rattle.wit_package_types.specs.Known.{KnownTypes}
+use Rattle.wit_lookups.specs.Passed.wit_scopes-Members.{MemberTree}
+use Rattle.wit_resources.specs.Passed.wit_arena-Tree.{Name}
+use Rattle.wit_resources.specs.Passed.wit_arena-Shape.{ShapeTree}
+use Rattle.wit_resources.specs.Passed.wit_arena-Arena.{IsUnnamed}
+use Rattle.wit_resources.specs.Passed.wit_arena-Table.{Entries}
+use Rattle.wit_resources.specs.Passed.wit_arena-Meaning.{Has}
+use Rattle.wit_functions.specs.Passed.wit_package_types-Known.{KnownTypes}
 use Rattle.wit_resolved_scopes.specs.Scope.{ResolvesScope}
 
 -- each type of an arena stood there before, or is as a new one at its place may be

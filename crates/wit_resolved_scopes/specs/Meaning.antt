@@ -4,17 +4,17 @@ use Rattle.wit_types.specs.declared.kind.«Type».{«Type» as Ref}
 use Rattle.wit_types.specs.declared.function.Function.{Function}
 use Rattle.wit_types.specs.declared.interface.TypeDef.{TypeDef}
 use Rattle.wit_types.specs.declared.interface.TypeOwner.{TypeOwner}
-use Rattle.wit_productions.specs.TypeTree.{TypeOption}
-use Rattle.wit_scopes.specs.Members.{MemberTree}
-use Rattle.wit_scopes.specs.Scopes.{ItemScope}
-use Rattle.wit_type_names.specs.TypeNames.{signature_parts}
-use Rattle.wit_arena.specs.Tree.{Name, PackageText, Place, Owner, Tree, Trees}
-use Rattle.wit_arena.specs.Table.{Entries}
-use Rattle.wit_arena.specs.Meaning.{MeansParts}
-use Rattle.wit_arena.specs.Unfold.{Owners, part_trees, trees, IsWhole}
-use Rattle.wit_arena.specs.Standing.{AreStanding, Grows}
-use Rattle.wit_package_types.specs.Known.{KnownTypes}
-use Rattle.wit_package_types.specs.Standing.{AreKnownStanding, AreOfScope}
+use Rattle.wit_lookups.specs.Passed.wit_productions-TypeTree.{TypeOption}
+use Rattle.wit_lookups.specs.Passed.wit_scopes-Members.{MemberTree}
+use Rattle.wit_lookups.specs.Passed.wit_scopes-Scopes.{ItemScope}
+use Rattle.wit_lookups.specs.Passed.wit_type_names-TypeNames.{signature_parts}
+use Rattle.wit_resources.specs.Passed.wit_arena-Tree.{Name, PackageText, Place, Owner, Tree, Trees}
+use Rattle.wit_resources.specs.Passed.wit_arena-Table.{Entries}
+use Rattle.wit_resources.specs.Passed.wit_arena-Meaning.{MeansParts}
+use Rattle.wit_resources.specs.Passed.wit_arena-Unfold.{Owners, part_trees, trees, IsWhole}
+use Rattle.wit_resources.specs.Passed.wit_arena-Standing.{AreStanding, Grows}
+use Rattle.wit_functions.specs.Passed.wit_package_types-Known.{KnownTypes}
+use Rattle.wit_functions.specs.Passed.wit_package_types-Standing.{AreKnownStanding, AreOfScope}
 use Rattle.wit_functions.specs.Signature.{all_params, all_result}
 use Rattle.wit_resolved_scopes.specs.Each.{Each}
 use Rattle.wit_resolved_scopes.specs.Scope.{functions_among, ResolvesScope}

@@ -4,15 +4,15 @@ use Rattle.wit_words.specs.Slice.{Slice}
 use Rattle.wit_types.specs.declared.function.Function.{Function}
 use Rattle.wit_types.specs.declared.interface.TypeDef.{TypeDef}
 use Rattle.wit_types.specs.declared.interface.TypeOwner.{TypeOwner}
-use Rattle.wit_scopes.specs.Members.{MemberKind, MemberTree, used, defined, function, method, static, constructor}
-use Rattle.wit_type_names.specs.TypeNames.{names_in_member}
+use Rattle.wit_lookups.specs.Passed.wit_scopes-Members.{MemberKind, MemberTree, used, defined, function, method, static, constructor}
+use Rattle.wit_lookups.specs.Passed.wit_type_names-TypeNames.{names_in_member}
 use Rattle.wit_orders.specs.Needs.{AreSorted}
-use Rattle.wit_arena.specs.Table.{Entries}
-use Rattle.wit_arena.specs.Meaning.{Has}
-use Rattle.wit_arena.specs.Standing.{IsOfType}
-use Rattle.wit_package_types.specs.Stability.{AreGates}
-use Rattle.wit_package_types.specs.Known.{KnownTypes, Finds}
-use Rattle.wit_package_types.specs.Fill.{member_names, Fills}
+use Rattle.wit_resources.specs.Passed.wit_arena-Table.{Entries}
+use Rattle.wit_resources.specs.Passed.wit_arena-Meaning.{Has}
+use Rattle.wit_resources.specs.Passed.wit_arena-Standing.{IsOfType}
+use Rattle.wit_functions.specs.Passed.wit_package_types-Stability.{AreGates}
+use Rattle.wit_functions.specs.Passed.wit_package_types-Known.{KnownTypes, Finds}
+use Rattle.wit_functions.specs.Passed.wit_package_types-Fill.{member_names, Fills}
 use Rattle.wit_functions.specs.Signature.{IsFunction, function_names}
 use Rattle.wit_functions.specs.Function.{LowersFunction}
 

@@ -2,15 +2,15 @@
 use Rattle.std.specs.Prelude.{◌≡◌, ℕ, List, [], ◌∷◌, ◌++◌, map, flat_map, Option, Some, None, slice_get}
 use Rattle.wit_words.specs.declared.source_map.Span.{Span}
 use Rattle.wit_words.specs.Slice.{Slice}
-use Rattle.wit_items.specs.ItemTree.{AttributeTree}
-use Rattle.wit_scopes.specs.declared.worlds.Side.{Side}
-use Rattle.wit_scopes.specs.declared.worlds.Side.TheVariants.{Import, Export}
-use Rattle.wit_scopes.specs.Members.{MemberTree, function}
-use Rattle.wit_scopes.specs.Scopes as scope
-use Rattle.wit_scopes.specs.Scopes.{ExternKind, ListedTree, IncludedTree, WorldMemberTree, InterfaceScope, WorldScope, ItemScope}
-use Rattle.wit_rules.specs.Labels.{full_name, target_text}
+use Rattle.wit_lookups.specs.Passed.wit_items-ItemTree.{AttributeTree}
+use Rattle.wit_lookups.specs.Passed.wit_scopes-declared-worlds-Side.{Side}
+use Rattle.wit_lookups.specs.Passed.wit_scopes-declared-worlds-Side-TheVariants.{Import, Export}
+use Rattle.wit_lookups.specs.Passed.wit_scopes-Members.{MemberTree, function}
+use Rattle.wit_lookups.specs.Passed.wit_scopes-Scopes as scope
+use Rattle.wit_lookups.specs.Passed.wit_scopes-Scopes.{ExternKind, ListedTree, IncludedTree, WorldMemberTree, InterfaceScope, WorldScope, ItemScope}
+use Rattle.wit_lookups.specs.Passed.wit_rules-Labels.{full_name, target_text}
 use Rattle.wit_orders.specs.Needs.{item_entry, IsOrderOf}
-use Rattle.wit_arena.specs.Tree.{Name, Place, in_interface, in_listed}
+use Rattle.wit_resources.specs.Passed.wit_arena-Tree.{Name, Place, in_interface, in_listed}
 use Rattle.wit_resolved_scopes.specs.Scope.{function_of}
 
 -- ---- interfaces and worlds in their order

@@ -1,22 +1,20 @@
 //! What the members of a scope break over the types of its arena.
 
 ghost use Rattle.std.specs.Prelude.{◌≡◌, map, OnOk, IfErr, IfOk};
-ghost use Rattle.wit_scopes.specs.Members.{MemberTree};
-ghost use Rattle.wit_type_names.specs.TypeNames.{handles_in_member};
-ghost use Rattle.wit_scopes.specs.View as scope_view;
-ghost use Rattle.wit_rules.specs.Breaks.{IsKept, IsFaultOf};
-ghost use Rattle.wit_arena.specs.Lower.{AreThere};
-ghost use Rattle.wit_arena.specs.Meaning.{Has};
-ghost use Rattle.wit_package_types.specs.Fill.{member_names};
+ghost use Rattle.wit_lookups.specs.Passed.wit_scopes-Members.{MemberTree};
+ghost use Rattle.wit_lookups.specs.Passed.wit_type_names-TypeNames.{handles_in_member};
+ghost use Rattle.wit_lookups.specs.Passed.wit_scopes-View as scope_view;
+ghost use Rattle.wit_lookups.specs.Passed.wit_rules-Breaks.{IsKept, IsFaultOf};
+ghost use Rattle.wit_resources.specs.Passed.wit_arena-Lower.{AreThere};
+ghost use Rattle.wit_resources.specs.Passed.wit_arena-Meaning.{Has};
+ghost use Rattle.wit_functions.specs.Passed.wit_package_types-Fill.{member_names};
 ghost use Rattle.wit_resources.specs.Failing.{AreDistinct};
 ghost use Rattle.wit_resolved_scopes.specs.Faults.{MemberFails, MembersFail};
 
 use name_places::FirstPlaces;
 use std::alloc::{AllocError, Global};
-use wit_arena::Table;
-use wit_resources::{Natures, check_constructor, check_handles};
-use wit_rules::PackageFault;
-use wit_scopes::{Member, MemberKind};
+use wit_lookups::{Member, MemberKind, PackageFault};
+use wit_resources::{Natures, Table, check_constructor, check_handles};
 
 /// The names of types.
 fn type_places<'a>(alloc: Global, types: &[Member<'a>]) -> Result<FirstPlaces<'a>, AllocError>

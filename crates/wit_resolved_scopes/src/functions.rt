@@ -1,32 +1,29 @@
 //! The functions of a scope.
 
 ghost use Rattle.std.specs.Prelude.{◌≡◌, List, ◌++◌, ◌∷◌, [], map, option_map, IsTrue, IsFalse, IfOk, OnOk, IfErr};
-ghost use Rattle.wit_productions.specs.TypeView.{type_tree};
-ghost use Rattle.wit_scopes.specs.Scopes.{ItemScope};
-ghost use Rattle.wit_scopes.specs.View as scope_view;
-ghost use Rattle.wit_rules.specs.Breaks.{IsKept, IsFaultOf, AnyBreaks};
-ghost use Rattle.wit_arena.specs.Tree.{PackageText, Place};
-ghost use Rattle.wit_arena.specs.Unfold.{Owners};
-ghost use Rattle.wit_arena.specs.Lower.{AreThere};
-ghost use Rattle.wit_package_types.specs.Stability.{AreGates};
+ghost use Rattle.wit_lookups.specs.Passed.wit_productions-TypeView.{type_tree};
+ghost use Rattle.wit_lookups.specs.Passed.wit_scopes-Scopes.{ItemScope};
+ghost use Rattle.wit_lookups.specs.Passed.wit_scopes-View as scope_view;
+ghost use Rattle.wit_lookups.specs.Passed.wit_rules-Breaks.{IsKept, IsFaultOf, AnyBreaks};
+ghost use Rattle.wit_resources.specs.Passed.wit_arena-Tree.{PackageText, Place};
+ghost use Rattle.wit_resources.specs.Passed.wit_arena-Unfold.{Owners};
+ghost use Rattle.wit_resources.specs.Passed.wit_arena-Lower.{AreThere};
+ghost use Rattle.wit_functions.specs.Passed.wit_package_types-Stability.{AreGates};
 ghost use Rattle.wit_functions.specs.Function.{LowersFunction};
 ghost use Rattle.wit_functions.specs.Signature.{IsFunction, function_names};
 ghost use Rattle.wit_resources.specs.Natures.{natures as natures_of};
 ghost use Rattle.wit_resources.specs.Failing.{ResultFails};
 ghost use Rattle.wit_resources.specs.Rules.{type_span, declared_result, PartBreaks, ResultBreaks};
 ghost use Rattle.wit_resolved_scopes.specs.Scope as spec;
-ghost use Rattle.wit_rules.specs.declared.fault.PackageFault.TheVariants.{OutOfMemory};
-ghost use Rattle.wit_scopes.specs.Members.{MemberTree};
-ghost use Rattle.wit_arena.specs.Meaning.{Has};
-ghost use Rattle.wit_arena.specs.Standing.{IsOfType};
+ghost use Rattle.wit_lookups.specs.Passed.wit_rules-declared-fault-PackageFault-TheVariants.{OutOfMemory};
+ghost use Rattle.wit_lookups.specs.Passed.wit_scopes-Members.{MemberTree};
+ghost use Rattle.wit_resources.specs.Passed.wit_arena-Meaning.{Has};
+ghost use Rattle.wit_resources.specs.Passed.wit_arena-Standing.{IsOfType};
 ghost use Rattle.wit_resolved_scopes.specs.Faults.{StandsSoFar, ResultsBreak};
 
-use wit_arena::{Table, Types};
 use wit_functions::lower_function;
-use wit_resources::{Natures, check_result};
-use wit_rules::PackageFault;
-use wit_scopes::{Member, MemberKind};
-use wit_syntax::{Span, Type};
+use wit_lookups::{Member, MemberKind, PackageFault, Span, Type};
+use wit_resources::{Natures, Table, Types, check_result};
 use wit_types::Function;
 
 /// Where a type stands, if there is one.

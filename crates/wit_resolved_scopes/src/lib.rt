@@ -13,3 +13,6 @@ pub use law::{
 };
 pub use maps::keyed;
 pub use scope::{ResolvedScope, resolve_scope};
+pub use wit_functions::{Known, stability_in};
+pub use wit_orders::{are_types, item_order, scope_types};
+pub use wit_resources::Natures;

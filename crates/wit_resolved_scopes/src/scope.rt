@@ -1,14 +1,14 @@
 //! Scopes.
 
 ghost use Rattle.std.specs.Prelude.{◌≡◌, List, map, IfOk, OnOk, IfErr};
-ghost use Rattle.wit_scopes.specs.Members.{MemberTree};
+ghost use Rattle.wit_lookups.specs.Passed.wit_scopes-Members.{MemberTree};
 ghost use Rattle.wit_orders.specs.Needs.{type_entry, CircleBreaks, AreSorted};
-ghost use Rattle.wit_package_types.specs.Fill.{AreFillable, Fills};
-ghost use Rattle.wit_scopes.specs.Scopes.{ItemScope};
-ghost use Rattle.wit_scopes.specs.View as scope_view;
-ghost use Rattle.wit_rules.specs.Breaks.{IsKept, IsFaultOf};
-ghost use Rattle.wit_arena.specs.Tree.{PackageText, Place};
-ghost use Rattle.wit_arena.specs.Unfold.{Owners};
+ghost use Rattle.wit_functions.specs.Passed.wit_package_types-Fill.{AreFillable, Fills};
+ghost use Rattle.wit_lookups.specs.Passed.wit_scopes-Scopes.{ItemScope};
+ghost use Rattle.wit_lookups.specs.Passed.wit_scopes-View as scope_view;
+ghost use Rattle.wit_lookups.specs.Passed.wit_rules-Breaks.{IsKept, IsFaultOf};
+ghost use Rattle.wit_resources.specs.Passed.wit_arena-Tree.{PackageText, Place};
+ghost use Rattle.wit_resources.specs.Passed.wit_arena-Unfold.{Owners};
 ghost use Rattle.wit_resources.specs.Natures.{natures as natures_of};
 ghost use Rattle.wit_resolved_scopes.specs.Scope as spec;
 ghost use Rattle.wit_resolved_scopes.specs.Faults.{ScopeBreaks, MayBeFilled};
@@ -16,12 +16,10 @@ ghost use Rattle.wit_resolved_scopes.specs.Faults.{ScopeBreaks, MayBeFilled};
 use crate::checks::check_members;
 use crate::functions::resolve_functions;
 use std::alloc::AllocError;
-use wit_arena::{Table, Types};
+use wit_functions::{Known, fill_types};
+use wit_lookups::{Member, PackageFault};
 use wit_orders::{name_nothing, sorted_types};
-use wit_package_types::{Known, fill_types};
-use wit_resources::Natures;
-use wit_rules::PackageFault;
-use wit_scopes::Member;
+use wit_resources::{Natures, Table, Types};
 use wit_types::{Function, TypeOwner};
 
 /// What is made of a scope.

@@ -4,3 +4,4 @@ pub mod Results
 pub mod Rules
 pub mod Failing
 pub mod Telling
+pub mod Passed

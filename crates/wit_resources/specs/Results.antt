@@ -1,11 +1,11 @@
 -- Which results constructors may declare (WIT, Item: `resource`).
 use Rattle.std.specs.Prelude.{Bool, false, ◌||◌, List, Option, Some, None, option_and_then, map, slice_get, bytes_eq}
 use Rattle.name_places.specs.FirstPlaces.{place_of}
-use Rattle.wit_productions.specs.TypeTree as written
-use Rattle.wit_productions.specs.TypeTree.{TypeTree, TypeShape, TypeOption, standing, no_type, a_type}
-use Rattle.wit_items.specs.ItemTree as item
-use Rattle.wit_items.specs.ItemTree.{TypeDefKindTree}
-use Rattle.wit_scopes.specs.Members.{MemberKind, MemberTree, used, defined, function, method, static, constructor}
+use Rattle.wit_rules.specs.Passed.wit_productions-TypeTree as written
+use Rattle.wit_rules.specs.Passed.wit_productions-TypeTree.{TypeTree, TypeShape, TypeOption, standing, no_type, a_type}
+use Rattle.wit_rules.specs.Passed.wit_items-ItemTree as item
+use Rattle.wit_rules.specs.Passed.wit_items-ItemTree.{TypeDefKindTree}
+use Rattle.wit_rules.specs.Passed.wit_scopes-Members.{MemberKind, MemberTree, used, defined, function, method, static, constructor}
 use Rattle.wit_arena.specs.Tree.{Name}
 
 -- resource, or own<resource>

@@ -3,10 +3,10 @@
 use Rattle.std.specs.Prelude.{◌≡◌, true, false, List, Option, Some, None}
 use Rattle.wit_words.specs.declared.source_map.Span.{Span}
 use Rattle.wit_words.specs.Slice.{Slice}
-use Rattle.wit_productions.specs.TypeTree.{TypeTree, standing}
-use Rattle.wit_scopes.specs.Members.{MemberKind, MemberTree, used, defined, function, method, static, constructor}
-use Rattle.wit_scopes.specs.Scopes.{ItemScope}
-use Rattle.wit_type_names.specs.TypeNames.{handles_in_member}
+use Rattle.wit_rules.specs.Passed.wit_productions-TypeTree.{TypeTree, standing}
+use Rattle.wit_rules.specs.Passed.wit_scopes-Members.{MemberKind, MemberTree, used, defined, function, method, static, constructor}
+use Rattle.wit_rules.specs.Passed.wit_scopes-Scopes.{ItemScope}
+use Rattle.wit_arena.specs.Passed.wit_type_names-TypeNames.{handles_in_member}
 use Rattle.wit_rules.specs.declared.fault.PackageRule.{PackageRule}
 use Rattle.wit_rules.specs.declared.fault.PackageRule.TheVariants.{BorrowInResult, BadConstructor, BadHandle}
 use Rattle.wit_rules.specs.Breaks.{Breaks, AnyBreaks}

@@ -4,8 +4,8 @@ use Rattle.wit_words.specs.declared.source_map.Span.{Span}
 use Rattle.wit_words.specs.Slice.{Slice}
 use Rattle.wit_types.specs.declared.kind.«Type».{«Type» as Ref}
 use Rattle.wit_types.specs.declared.interface.TypeDef.{TypeDef}
-use Rattle.wit_productions.specs.TypeTree.{TypeTree}
-use Rattle.wit_scopes.specs.Scopes.{ItemScope}
+use Rattle.wit_rules.specs.Passed.wit_productions-TypeTree.{TypeTree}
+use Rattle.wit_rules.specs.Passed.wit_scopes-Scopes.{ItemScope}
 use Rattle.wit_rules.specs.declared.fault.PackageRule.{PackageRule}
 use Rattle.wit_rules.specs.Breaks.{IsKept}
 use Rattle.wit_arena.specs.Tree.{PackageText, Place, Tree, resource_leaf}

@@ -1,18 +1,16 @@
 //! The results that constructors declare.
 
 ghost use Rattle.std.specs.Prelude.{◌≡◌, Some, map, option_map, OnOk, IfErr};
-ghost use Rattle.wit_syntax.specs.AstView as view;
-ghost use Rattle.wit_productions.specs.TypeView.{type_tree, type_shape};
-ghost use Rattle.wit_type_names.specs.TypeView.{part_tree};
-ghost use Rattle.wit_scopes.specs.View as scope_view;
+ghost use Rattle.wit_rules.specs.Passed.wit_syntax-AstView as view;
+ghost use Rattle.wit_rules.specs.Passed.wit_productions-TypeView.{type_tree, type_shape};
+ghost use Rattle.wit_arena.specs.Passed.wit_type_names-TypeView.{part_tree};
+ghost use Rattle.wit_rules.specs.Passed.wit_scopes-View as scope_view;
 ghost use Rattle.wit_rules.specs.Breaks.{IsKept, IsFaultOf};
 ghost use Rattle.wit_resources.specs.Results as spec;
 ghost use Rattle.wit_resources.specs.Rules.{ConstructorBreaks, DeclaresOther};
 
 use name_places::FirstPlaces;
-use wit_rules::{PackageFault, PackageRule};
-use wit_scopes::{Member, MemberKind};
-use wit_syntax::{Id, Type, TypeDefKind, TypeKind};
+use wit_rules::{Id, Member, MemberKind, PackageFault, PackageRule, Type, TypeDefKind, TypeKind};
 
 /// Whether a type is a resource by its name, or the reference that owns it.
 fn owns(ty: &TypeKind<'_>, resource: &str) -> bool

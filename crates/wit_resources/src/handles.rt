@@ -1,21 +1,18 @@
 //! Handles, and results that hold them.
 
 ghost use Rattle.std.specs.Prelude.{◌≡◌, ◌∷◌, [], map, Option, option_map, OnOk, IfErr, IfOk};
-ghost use Rattle.wit_syntax.specs.AstView as view;
-ghost use Rattle.wit_productions.specs.TypeView.{type_tree};
-ghost use Rattle.wit_type_names.specs.TypeNames.{handles_in_member};
-ghost use Rattle.wit_scopes.specs.View as scope_view;
+ghost use Rattle.wit_rules.specs.Passed.wit_syntax-AstView as view;
+ghost use Rattle.wit_rules.specs.Passed.wit_productions-TypeView.{type_tree};
+ghost use Rattle.wit_arena.specs.Passed.wit_type_names-TypeNames.{handles_in_member};
+ghost use Rattle.wit_rules.specs.Passed.wit_scopes-View as scope_view;
 ghost use Rattle.wit_rules.specs.Breaks.{IsKept, IsFaultOf, AnyBreaks};
 ghost use Rattle.wit_arena.specs.Lower.{AreThere};
 ghost use Rattle.wit_resources.specs.Failing as spec;
 
 use crate::natures::Natures;
 use std::alloc::Global;
-use wit_arena::Table;
-use wit_rules::{PackageFault, PackageRule};
-use wit_scopes::MemberKind;
-use wit_syntax::{Id, Span};
-use wit_type_names::member_handle_names;
+use wit_arena::{Table, member_handle_names};
+use wit_rules::{Id, MemberKind, PackageFault, PackageRule, Span};
 use wit_types::Type;
 
 /// Refuses a handle of what is no resource. Its name is in the table.

@@ -5,8 +5,8 @@ use Rattle.std.proofs.lemmas.Bool.{cases_lt}
 use Rattle.std.proofs.lemmas.Slice.Eq.{bytes_eq-Decides}
 use Rattle.std.specs.Prelude.{slice_get, bytes_eq, option_map, flat_map}
 use Rattle.std.specs.List.{list_any}
-use Rattle.wit_words.specs.Slice.{Slice}
-use Rattle.wit_words.specs.NameKey.{name_key}
+use Rattle.wit_scopes.specs.Passed.wit_words-Slice.{Slice}
+use Rattle.wit_scopes.specs.Passed.wit_words-NameKey.{name_key}
 use Rattle.wit_rules.specs.declared.fault.PackageRule.TheVariants.{DuplicateName}
 use Rattle.wit_rules.specs.Breaks.{IsKept, NamesBreak}
 

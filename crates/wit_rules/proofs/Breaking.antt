@@ -2,7 +2,7 @@
 use Rattle.std.proofs.Common.{◌≡◌, ℕ, ◌+◌, ◌<◌, List, Option, Some, None, map, length, sym, subst, ap, ◌∙◌, refl, below_more}
 use Rattle.std.proofs.lemmas.Option.{slice_get_within, slice_get-map, same_Some}
 use Rattle.std.specs.Prelude.{slice_get, option_map}
-use Rattle.wit_words.specs.declared.source_map.Span.{Span}
+use Rattle.wit_scopes.specs.Passed.wit_words-declared-source_map-Span.{Span}
 use Rattle.wit_rules.specs.declared.fault.PackageRule.{PackageRule}
 use Rattle.wit_rules.specs.declared.fault.PackageFault.{PackageFault}
 use Rattle.wit_rules.specs.declared.fault.PackageFault.TheVariants.{OutOfMemory, Syntax, Broken}

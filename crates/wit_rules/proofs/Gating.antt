@@ -1,7 +1,7 @@
 -- Gates that keep their rules.
 use Rattle.std.proofs.Common.{◌≡◌, List, Some, None, sym, subst, ◌∙◌}
 use Rattle.std.proofs.lemmas.Option.{same_Some}
-use Rattle.wit_items.specs.ItemTree.{AttributeTree}
+use Rattle.wit_scopes.specs.Passed.wit_items-ItemTree.{AttributeTree}
 use Rattle.wit_rules.specs.Gates.{GatesTree, gates_in}
 use Rattle.wit_rules.specs.Breaks as fact
 use Rattle.wit_rules.specs.Breaks.{IsKept, GateVersionsBreak, GatesBreak}

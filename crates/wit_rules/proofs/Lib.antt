@@ -3,3 +3,4 @@ pub mod Breaking
 pub mod Places
 pub mod Apart
 pub mod Gating
+pub mod Passed

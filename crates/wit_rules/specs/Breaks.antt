@@ -1,10 +1,10 @@
 -- Rules, and what breaks them where.
 use Rattle.std.specs.Prelude.{◌≡◌, ◌⊎◌, ℕ, false, List, map, Option, Some, None, slice_get, bytes_eq, is_ok}
 use Rattle.semver.specs.Parse.{version_parts}
-use Rattle.wit_words.specs.declared.source_map.Span.{Span}
-use Rattle.wit_words.specs.Slice.{Slice}
-use Rattle.wit_words.specs.NameKey.{name_key}
-use Rattle.wit_items.specs.ItemTree.{AttributeTree}
+use Rattle.wit_scopes.specs.Passed.wit_words-declared-source_map-Span.{Span}
+use Rattle.wit_scopes.specs.Passed.wit_words-Slice.{Slice}
+use Rattle.wit_scopes.specs.Passed.wit_words-NameKey.{name_key}
+use Rattle.wit_scopes.specs.Passed.wit_items-ItemTree.{AttributeTree}
 use Rattle.wit_rules.specs.declared.fault.PackageRule.{PackageRule}
 use Rattle.wit_rules.specs.declared.fault.PackageRule.TheVariants.{DuplicateName, BadGate, BadVersion}
 use Rattle.wit_rules.specs.declared.fault.PackageFault.{PackageFault}

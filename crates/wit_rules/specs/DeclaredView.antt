@@ -1,7 +1,7 @@
 -- What the files of a package declare, as a value.
 use Rattle.std.specs.Prelude.{◌≡◌, List, map}
-use Rattle.wit_syntax.specs.Ast.{PackageNameTree, FileTree}
-use Rattle.wit_syntax.specs.AstView as view
+use Rattle.wit_scopes.specs.Passed.wit_syntax-Ast.{PackageNameTree, FileTree}
+use Rattle.wit_scopes.specs.Passed.wit_syntax-AstView as view
 use Rattle.wit_scopes.specs.Paths.{file_uses}
 use Rattle.wit_scopes.specs.Scopes.{package_scopes, package_docs}
 use Rattle.wit_scopes.specs.View as scope_view

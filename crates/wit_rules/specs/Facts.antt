@@ -1,10 +1,10 @@
 -- What the files of a package break by themselves.
 use Rattle.std.specs.Prelude.{◌≡◌, ℕ, Bool, true, false, List, [], ◌∷◌, map, flat_map, Option, Some, None}
-use Rattle.wit_words.specs.declared.source_map.Span.{Span}
-use Rattle.wit_words.specs.Slice.{Slice}
-use Rattle.wit_items.specs.ItemTree as item
-use Rattle.wit_items.specs.ItemTree.{TypeDefKindTree}
-use Rattle.wit_syntax.specs.Ast.{PackageNameTree, GatedTree, FileItemTree, HeaderTree, FileTree}
+use Rattle.wit_scopes.specs.Passed.wit_words-declared-source_map-Span.{Span}
+use Rattle.wit_scopes.specs.Passed.wit_words-Slice.{Slice}
+use Rattle.wit_scopes.specs.Passed.wit_items-ItemTree as item
+use Rattle.wit_scopes.specs.Passed.wit_items-ItemTree.{TypeDefKindTree}
+use Rattle.wit_scopes.specs.Passed.wit_syntax-Ast.{PackageNameTree, GatedTree, FileItemTree, HeaderTree, FileTree}
 use Rattle.wit_scopes.specs.declared.worlds.Side.{Side}
 use Rattle.wit_scopes.specs.declared.worlds.Side.TheVariants.{Import, Export}
 use Rattle.wit_scopes.specs.Paths.{same_package}

@@ -1,7 +1,7 @@
 -- Which gates may stand in front of an item (WIT, Feature Gates).
 use Rattle.std.specs.Prelude.{List, [], ◌∷◌, map, Option, Some, None}
-use Rattle.wit_words.specs.Slice.{Slice}
-use Rattle.wit_items.specs.ItemTree.{GateTree, since, unstable, deprecated, AttributeTree}
+use Rattle.wit_scopes.specs.Passed.wit_words-Slice.{Slice}
+use Rattle.wit_scopes.specs.Passed.wit_items-ItemTree.{GateTree, since, unstable, deprecated, AttributeTree}
 
 -- no gate; a feature; a version, each of the latter with the version from which on the item is deprecated
 pub data GatesTree : Type 0 where

@@ -1,11 +1,11 @@
 -- The names of each scope (WIT, Items: names of one scope differ).
 use Rattle.std.specs.Prelude.{ℕ, List, [], ◌∷◌, ◌++◌, map, flat_map, Option, Some, None, codes}
-use Rattle.wit_words.specs.declared.source_map.Span.{Span}
-use Rattle.wit_words.specs.Slice.{Slice}
-use Rattle.wit_items.specs.ItemTree as item
-use Rattle.wit_items.specs.ItemTree.{ParamTree, TypeDefKindTree, GatedTree}
-use Rattle.wit_syntax.specs.Ast as ast
-use Rattle.wit_syntax.specs.Ast.{PackageNameTree, AstItemTree, FileItemTree, FileTree}
+use Rattle.wit_scopes.specs.Passed.wit_words-declared-source_map-Span.{Span}
+use Rattle.wit_scopes.specs.Passed.wit_words-Slice.{Slice}
+use Rattle.wit_scopes.specs.Passed.wit_items-ItemTree as item
+use Rattle.wit_scopes.specs.Passed.wit_items-ItemTree.{ParamTree, TypeDefKindTree, GatedTree}
+use Rattle.wit_scopes.specs.Passed.wit_syntax-Ast as ast
+use Rattle.wit_scopes.specs.Passed.wit_syntax-Ast.{PackageNameTree, AstItemTree, FileItemTree, FileTree}
 use Rattle.wit_scopes.specs.Paths.{TargetTree, own, foreign, known_name}
 use Rattle.wit_scopes.specs.Members.{MemberKind, MemberTree, used, defined, function, method, static, constructor}
 use Rattle.wit_scopes.specs.Scopes as scope

@@ -6,3 +6,4 @@ pub mod Facts
 pub mod View
 pub mod DeclaredView
 pub mod Codes
+pub mod Passed

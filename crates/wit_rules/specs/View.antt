@@ -1,8 +1,8 @@
 -- What the values of the code stand for.
 use Rattle.std.specs.Prelude.{option_map}
 use Rattle.std.specs.Cow.{cow_str_bytes}
-use Rattle.wit_words.specs.Slice.{Slice}
-use Rattle.wit_syntax.specs.AstView as view
+use Rattle.wit_scopes.specs.Passed.wit_words-Slice.{Slice}
+use Rattle.wit_scopes.specs.Passed.wit_syntax-AstView as view
 use Rattle.wit_rules.specs.declared.labels.Label.{Label}
 use Rattle.wit_rules.specs.declared.gates.Gates.{Gates}
 use Rattle.wit_rules.specs.declared.gates.Gates.TheVariants as gates_of_code

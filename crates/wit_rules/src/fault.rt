@@ -5,7 +5,7 @@ ghost use Rattle.wit_rules.specs.Codes as codes;
 
 use std::alloc::{AllocError, AllocFailed};
 use thiserror::Error;
-use wit_syntax::{Span, SyntaxFault};
+use wit_scopes::{Span, SyntaxFault};
 
 /// The rule that the files of a package break.
 #[derive(Clone, Copy, Debug, PartialEq, Eq, Error)]

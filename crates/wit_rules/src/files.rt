@@ -1,11 +1,10 @@
 //! What the files of a package declare.
 
 ghost use Rattle.std.specs.Prelude.{◌≡◌};
-ghost use Rattle.wit_syntax.specs.AstView as view;
+ghost use Rattle.wit_scopes.specs.Passed.wit_syntax-AstView as view;
 ghost use Rattle.wit_rules.specs.Facts as spec;
 
-use wit_scopes::ItemScope;
-use wit_syntax::{Docs, PackageName, Span, ToplevelUse};
+use wit_scopes::{Docs, ItemScope, PackageName, Span, ToplevelUse};
 
 /// Where a package's name stands, with its version.
 pub fn name_span<'a>(name: &PackageName<'a>) -> Span

@@ -1,15 +1,13 @@
 //! Gates in front of items.
 
 ghost use Rattle.std.specs.Prelude.{◌≡◌, None, map, option_map, OnOk, IfErr};
-ghost use Rattle.wit_syntax.specs.AstView as view;
+ghost use Rattle.wit_scopes.specs.Passed.wit_syntax-AstView as view;
 ghost use Rattle.wit_rules.specs.Gates as spec;
 ghost use Rattle.wit_rules.specs.Breaks.{IsKept, IsFaultOf, GateFormBreaks, VersionBreaks, VersionWhereBreaks, GateVersionsBreak, GatesBreak};
 ghost use Rattle.wit_rules.specs.View as seen;
 
 use crate::fault::{PackageFault, PackageRule};
-use wit_scopes::Front;
-use wit_syntax::{Attribute, Gate, Id, Version};
-use wit_words::is_read_by_semver;
+use wit_scopes::{Attribute, Front, Gate, Id, Version, is_read_by_semver};
 
 /// The gates in front of an item (WIT, Feature Gates).
 #[derive(Clone, Copy)]

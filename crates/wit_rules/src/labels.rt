@@ -1,12 +1,12 @@
 //! The names of each scope.
 
 ghost use Rattle.std.specs.Prelude.{◌≡◌};
-ghost use Rattle.wit_syntax.specs.AstView as view;
+ghost use Rattle.wit_scopes.specs.Passed.wit_syntax-AstView as view;
 ghost use Rattle.wit_rules.specs.View as seen;
 
 use smallvec::SmallVec;
 use std::borrow::CowStr;
-use wit_syntax::{Id, Span};
+use wit_scopes::{Id, Span};
 
 /// A name of a scope, and where it stands.
 #[derive(Drop)]

@@ -14,4 +14,8 @@ pub use files::{Declared, name_span};
 pub use gates::{Gates, check_front, check_version, gates_of};
 pub use labels::{Label, Labels, written};
 pub use repeats::first_repeat;
+pub use wit_scopes::{
+    Attribute, Front, Func, Id, Member, MemberKind, PackageName, Param, Span, Target, Type,
+    TypeDefKind, TypeKind, Version,
+};
 pub use worlds::target_text;

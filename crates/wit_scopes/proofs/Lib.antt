@@ -1,3 +1,4 @@
 pub mod Lists
 pub mod Outcomes
 pub mod Uses
+pub mod Passed

@@ -1,10 +1,10 @@
 -- What an interface declares, one name at a time (WIT, Item: `interface`, Use, Item: `resource`).
 use Rattle.std.specs.Prelude.{List, [], ◌∷◌, map, flat_map, Option, unwrap_or}
-use Rattle.wit_words.specs.declared.source_map.Span.{Span}
-use Rattle.wit_words.specs.Slice.{Slice}
-use Rattle.wit_productions.specs.TypeTree.{TypeTree}
-use Rattle.wit_items.specs.ItemTree as tree
-use Rattle.wit_items.specs.ItemTree.{AttributeTree, GatedTree, UseNameTree, UseTree, ParamTree, FuncTree, NamedFuncTree, ResourceFuncTree, TypeDefKindTree, TypeDefTree, InterfaceItemTree}
+use Rattle.wit_syntax.specs.Passed.wit_words-declared-source_map-Span.{Span}
+use Rattle.wit_syntax.specs.Passed.wit_words-Slice.{Slice}
+use Rattle.wit_syntax.specs.Passed.wit_productions-TypeTree.{TypeTree}
+use Rattle.wit_syntax.specs.Passed.wit_items-ItemTree as tree
+use Rattle.wit_syntax.specs.Passed.wit_items-ItemTree.{AttributeTree, GatedTree, UseNameTree, UseTree, ParamTree, FuncTree, NamedFuncTree, ResourceFuncTree, TypeDefKindTree, TypeDefTree, InterfaceItemTree}
 use Rattle.wit_syntax.specs.Ast.{PackageNameTree, ToplevelUseTree}
 use Rattle.wit_scopes.specs.Paths.{TargetTree, target}
 

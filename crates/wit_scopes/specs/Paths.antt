@@ -1,6 +1,6 @@
 -- What paths name: something of the own package, or of another (WIT, Use, Top-Level Use).
 use Rattle.std.specs.Prelude.{ℕ, Bool, true, false, ◌&&◌, List, [], ◌∷◌, Option, Some, None, map, flat_map, bytes_eq, unwrap_or, if◌then◌else◌}
-use Rattle.wit_words.specs.Slice.{Slice}
+use Rattle.wit_syntax.specs.Passed.wit_words-Slice.{Slice}
 use Rattle.wit_syntax.specs.Ast as ast
 use Rattle.wit_syntax.specs.Ast.{PackageNameTree, UsePathTree, id, in_package, ToplevelUseTree, GatedTree, AstItemTree, FileItemTree, FileTree}
 

@@ -1,8 +1,8 @@
 -- The scopes of a package: its interfaces and worlds with all that they declare (WIT, Packages, Item: `world`).
 use Rattle.std.specs.Prelude.{ℕ, suc, List, [], ◌∷◌, ◌++◌, map, flat_map, Option, Some, None}
-use Rattle.wit_words.specs.declared.source_map.Span.{Span}
-use Rattle.wit_words.specs.Slice.{Slice}
-use Rattle.wit_items.specs.ItemTree.{AttributeTree, GatedTree, FuncTree, InterfaceTree}
+use Rattle.wit_syntax.specs.Passed.wit_words-declared-source_map-Span.{Span}
+use Rattle.wit_syntax.specs.Passed.wit_words-Slice.{Slice}
+use Rattle.wit_syntax.specs.Passed.wit_items-ItemTree.{AttributeTree, GatedTree, FuncTree, InterfaceTree}
 use Rattle.wit_syntax.specs.Ast as ast
 use Rattle.wit_syntax.specs.Ast.{PackageNameTree, ToplevelUseTree, ExternTree, IncludeNameTree, IncludeTree, WorldItemTree, WorldTree, AstItemTree, FileItemTree, HeaderTree, FileTree}
 use Rattle.wit_scopes.specs.declared.worlds.Side.{Side}

@@ -3,10 +3,10 @@ use Rattle.std.specs.Prelude.{◌≡◌, ℕ, List, [], map, option_map, Option,
 use Rattle.std.specs.HashMap.{get_by}
 use Rattle.std.specs.declared.alloc.Global.{Global}
 use Rattle.std.specs.declared.vec.Vec.{Vec}
-use Rattle.wit_items.specs.declared.items.ToplevelUse.{ToplevelUse}
-use Rattle.wit_words.specs.Slice.{Slice}
-use Rattle.wit_words.specs.declared.source_map.Span.{Span}
-use Rattle.wit_items.specs.ItemTree.{GatedTree}
+use Rattle.wit_syntax.specs.Passed.wit_items-declared-items-ToplevelUse.{ToplevelUse}
+use Rattle.wit_syntax.specs.Passed.wit_words-Slice.{Slice}
+use Rattle.wit_syntax.specs.Passed.wit_words-declared-source_map-Span.{Span}
+use Rattle.wit_syntax.specs.Passed.wit_items-ItemTree.{GatedTree}
 use Rattle.wit_syntax.specs.Ast.{PackageNameTree, ToplevelUseTree, FileTree}
 use Rattle.wit_syntax.specs.AstView as view
 use Rattle.wit_syntax.specs.TypeView.{type_tree}

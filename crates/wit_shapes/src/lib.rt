@@ -4,3 +4,4 @@
 mod shapes;
 
 pub use shapes::{check_functions, check_side, check_types};
+pub use wit_resources::Natures;

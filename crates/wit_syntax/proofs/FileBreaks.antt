@@ -1,10 +1,10 @@
 -- What stands where a text breaks a rule.
 use Rattle.std.proofs.Common.{Bool, refl}
-use Rattle.wit_words.specs.declared.token.Kind.TheVariants as kind
+use Rattle.wit_productions.specs.Passed.wit_words-declared-token-Kind-TheVariants as kind
 use Rattle.wit_syntax.specs.Ast as tree
 use Rattle.wit_syntax.specs.Ast.{PackageNameTree}
-use Rattle.wit_words.specs.Slice.{Slice}
-use Rattle.wit_words.specs.Token.{What, plain, same_kind}
+use Rattle.wit_productions.specs.Passed.wit_words-Slice.{Slice}
+use Rattle.wit_productions.specs.Passed.wit_words-Token.{What, plain, same_kind}
 use Rattle.wit_items.specs.ItemGrammar.{use_behind, toplevel_use_behind, interface_behind}
 use Rattle.wit_syntax.specs.FileGrammar.{package_name, extern_func, extern_behind, extern_item, include_name, include_behind, world_item_at, world_item, world_behind, ast_item_at, ast_item, package_items, file_item_at, file_item, package_opening, opening, gated_first, first, some_file, file}
 use Rattle.wit_productions.proofs.BracketLaws.{Tells, NextTells, behind_other, tells_yield, tells_bind, tells_map, tells_documented, tells_located, tells_branch, tells_sign_other, tells_by, tells_next_then, tells_commas, tells_optional, tells_at_end, tells_all}

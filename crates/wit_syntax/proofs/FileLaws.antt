@@ -1,11 +1,11 @@
 -- Each production of texts is read as it says.
 use Rattle.std.proofs.Common.{◌≡◌, List, [], ◌∷◌, refl, true, false, Bool}
-use Rattle.wit_words.specs.declared.token.Kind.{Kind}
-use Rattle.wit_words.specs.declared.token.Kind.TheVariants as kind
+use Rattle.wit_productions.specs.Passed.wit_words-declared-token-Kind.{Kind}
+use Rattle.wit_productions.specs.Passed.wit_words-declared-token-Kind-TheVariants as kind
 use Rattle.wit_syntax.specs.Ast as tree
 use Rattle.wit_syntax.specs.Ast.{PackageNameTree}
-use Rattle.wit_words.specs.Slice.{Slice}
-use Rattle.wit_words.specs.Token.{What, plain, same_kind}
+use Rattle.wit_productions.specs.Passed.wit_words-Slice.{Slice}
+use Rattle.wit_productions.specs.Passed.wit_words-Token.{What, plain, same_kind}
 use Rattle.wit_productions.specs.Production.{Takes, yield, sign, optional, documented, located, Next, none, goes, commas, until, many, all}
 use Rattle.wit_productions.specs.Terminal.{id}
 use Rattle.wit_items.specs.ItemGrammar.{attribute, gated, use_behind, toplevel_use_behind, func_behind, defined, interface_items, interface_behind}

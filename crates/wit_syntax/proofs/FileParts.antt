@@ -1,7 +1,7 @@
 -- Productions of worlds and files, by those of their parts.
 use Rattle.std.proofs.Common.{◌≡◌, ◌∙◌, List, [], ◌∷◌, Ok, Bool, true, false, if◌then◌else◌}
-use Rattle.wit_words.specs.declared.token.Kind.TheVariants as kind
-use Rattle.wit_words.specs.Token.{Tok}
+use Rattle.wit_productions.specs.Passed.wit_words-declared-token-Kind-TheVariants as kind
+use Rattle.wit_productions.specs.Passed.wit_words-Token.{Tok}
 use Rattle.wit_syntax.specs.Ast as tree
 use Rattle.wit_syntax.specs.Ast.{IncludeNameTree, IncludeTree, FirstTree}
 use Rattle.wit_items.specs.ItemTree.{AttributeTree}

@@ -1,7 +1,7 @@
 -- The tree of a text, without where its names lie in memory (WIT).
 use Rattle.std.specs.Prelude.{List, Option}
-use Rattle.wit_words.specs.declared.source_map.Span.{Span}
-use Rattle.wit_words.specs.Slice.{Slice}
+use Rattle.wit_productions.specs.Passed.wit_words-declared-source_map-Span.{Span}
+use Rattle.wit_productions.specs.Passed.wit_words-Slice.{Slice}
 pub use Rattle.wit_items.specs.ItemTree.{GateTree, AttributeTree, GatedTree, UseNameTree, UseTree, ToplevelUseTree, ParamTree, FuncTree, NamedFuncTree, FieldTree, LabelTree, CaseTree, ResourceFuncTree, TypeDefKindTree, TypeDefTree, InterfaceItemTree, InterfaceTree}
 pub use Rattle.wit_productions.specs.NameTree.{PackageNameTree, UsePathTree, id, in_package}
 

@@ -1,13 +1,13 @@
 -- The grammar of texts (WIT).
 use Rattle.std.specs.Prelude.{Bool, true, false, List, [], ◌∷◌, Some, None}
-use Rattle.wit_words.specs.declared.token.Kind.TheVariants as kind
+use Rattle.wit_productions.specs.Passed.wit_words-declared-token-Kind-TheVariants as kind
 use Rattle.wit_syntax.specs.Ast as tree
 use Rattle.wit_syntax.specs.Ast.{PackageNameTree, GatedTree, ExternTree, IncludeNameTree, IncludeTree, WorldItemTree, WorldTree, AstItemTree, PackageTree, FileItemTree, OpeningTree, FirstTree, FileTree}
 use Rattle.wit_productions.specs.Production.{Production, ◌>>=◌, ◌>>◌, yield, sign, branch, optional, documented, located, Next, none, goes, next_then, by, commas, until, many, all, at_end}
-use Rattle.wit_words.specs.declared.source_map.Span.{Span}
-use Rattle.wit_words.specs.Slice.{Slice}
+use Rattle.wit_productions.specs.Passed.wit_words-declared-source_map-Span.{Span}
+use Rattle.wit_productions.specs.Passed.wit_words-Slice.{Slice}
 use Rattle.wit_productions.specs.Terminal.{id}
-use Rattle.wit_words.specs.Token.{What, plain}
+use Rattle.wit_productions.specs.Passed.wit_words-Token.{What, plain}
 use Rattle.wit_items.specs.ItemTree.{AttributeTree}
 use Rattle.wit_items.specs.ItemGrammar.{attribute, gated, use_behind, toplevel_use_behind, func_behind, defined, interface_items, interface_behind}
 pub use Rattle.wit_productions.specs.NameGrammar.{package_name, path_behind, use_path}

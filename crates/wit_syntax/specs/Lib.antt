@@ -5,3 +5,4 @@ pub mod WholeText
 pub mod Paths
 pub use Rattle.wit_productions.specs.TypeTree
 pub use Rattle.wit_productions.specs.TypeView
+pub mod Passed

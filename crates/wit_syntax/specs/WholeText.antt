@@ -1,6 +1,6 @@
 -- Whole texts.
 use Rattle.std.specs.Prelude.{ℕ}
-use Rattle.wit_tokens.specs.Lex.{Text}
+use Rattle.wit_productions.specs.Passed.wit_tokens-Lex.{Text}
 use Rattle.wit_syntax.specs.Ast.{FileTree}
 use Rattle.wit_syntax.specs.FileGrammar.{file}
 pub use Rattle.wit_productions.specs.WholeText.{IsTextOf, IsUsePath, IsType}

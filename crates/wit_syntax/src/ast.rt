@@ -1,8 +1,7 @@
 //! The tree of a text (WIT). Each name is a slice of the text, with where it stands.
 
 use wit_items::{Gated, Interface, NamedFunc, ToplevelUse, TypeDef, Use};
-use wit_productions::{Id, PackageName, UsePath};
-use wit_tokens::Docs;
+use wit_productions::{Docs, Id, PackageName, UsePath};
 
 /// What a world imports or exports.
 #[derive(Drop)]

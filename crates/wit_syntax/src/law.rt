@@ -11,7 +11,7 @@ ghost use Rattle.wit_productions.specs.NameTree.{UsePathTree};
 ghost use Rattle.wit_productions.specs.TypeGrammar.{whole_type};
 ghost use Rattle.wit_productions.specs.TypeTree.{TypeTree};
 
-use wit_tokens::SyntaxFault;
+use wit_productions::SyntaxFault;
 
 /// A text has one tree at most, and is one path and one type at most.
 pub fn law_one_reading()

@@ -21,10 +21,8 @@ pub use wit_items::{
     Param, ResourceFunc, ToplevelUse, TypeDef, TypeDefKind, Use, UseName,
 };
 pub use wit_productions::{
-    Id, PackageName, Type, TypeKind, UsePath, Version, parse_type, parse_use_path,
-};
-pub use wit_tokens::{
-    Comment, Docs, Kind, NameKey, Rule, SourceFault, SourceMap, Span, SpannedToken, SyntaxFault,
-    Token, Tokens, is_identifier, law_a_break_is_one, law_name_keys_fold_as_names_do,
-    law_one_list_of_tokens, law_semver_reads_versions, law_tokens_are_slices, validate_id,
+    Comment, Docs, Id, Kind, NameKey, PackageName, Rule, SourceFault, SourceMap, Span,
+    SpannedToken, SyntaxFault, Token, Tokens, Type, TypeKind, UsePath, Version, is_identifier,
+    is_read_by_semver, law_a_break_is_one, law_name_keys_fold_as_names_do, law_one_list_of_tokens,
+    law_semver_reads_versions, law_tokens_are_slices, parse_type, parse_use_path, validate_id,
 };

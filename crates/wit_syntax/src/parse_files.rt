@@ -5,14 +5,16 @@ ghost use Rattle.wit_syntax.specs.AstView as view;
 ghost use Rattle.wit_syntax.specs.FileGrammar as spec;
 ghost use Rattle.wit_productions.specs.Production.{Reads, next_at};
 ghost use Rattle.wit_productions.specs.declared.fault.ReadError.TheVariants.{Memory};
-ghost use Rattle.wit_words.specs.Token.{Tok, plain};
+ghost use Rattle.wit_productions.specs.Passed.wit_words-Token.{Tok, plain};
 
 use crate::ast::{AstItem, File, FileItem, Package, PackageHeader};
 use crate::parse_worlds::world_behind;
 use std::alloc::Global;
 use wit_items::{Attribute, Gated, attribute, attributes, interface_behind, toplevel_use_behind};
-use wit_productions::{Cursor, PackageName, Part, ReadError, all, fault_at, package_name, until};
-use wit_tokens::{Docs, Kind, Rule, Span, Token};
+use wit_productions::{
+    Cursor, Docs, Kind, PackageName, Part, ReadError, Rule, Span, Token, all, fault_at,
+    package_name, until,
+};
 
 /// An item of a package behind its keyword, before which `left` tokens were left.
 fn ast_item_behind<'a>(

@@ -4,7 +4,7 @@ ghost use Rattle.std.specs.Prelude.{◌≡◌, map, List, length};
 ghost use Rattle.wit_syntax.specs.AstView as view;
 ghost use Rattle.wit_syntax.specs.FileGrammar as spec;
 ghost use Rattle.wit_productions.specs.Production.{Reads, next_at};
-ghost use Rattle.wit_words.specs.Token.{Tok, plain};
+ghost use Rattle.wit_productions.specs.Passed.wit_words-Token.{Tok, plain};
 
 use crate::ast::{ExternKind, Include, IncludeName, World, WorldItem};
 use std::alloc::Global;
@@ -12,9 +12,9 @@ use wit_items::{
     Gated, Interface, NamedFunc, func_behind, interface_items, type_def_behind, use_behind,
 };
 use wit_productions::{
-    Cursor, Id, Part, ReadError, UsePath, commas, fault_at, path_behind, until, use_path,
+    Cursor, Id, Kind, Part, ReadError, Rule, Token, UsePath, commas, fault_at, path_behind, until,
+    use_path,
 };
-use wit_tokens::{Kind, Rule, Token};
 
 /// A function that is imported or exported, behind its name and `func`.
 #[tactic(auto, unfolding(crate::specs::FileGrammar::extern_func))]

@@ -1,8 +1,8 @@
 //! Whole texts.
 
 ghost use Rattle.std.specs.Prelude.{◌≡◌, ◌+◌, ◌^◌, ◌<◌, ◌≤◌, length, Err, IfOk, IfErr};
-ghost use Rattle.wit_words.specs.Outcome.{AnswersText};
-ghost use Rattle.wit_words.specs.Token.{toks};
+ghost use Rattle.wit_productions.specs.Passed.wit_words-Outcome.{AnswersText};
+ghost use Rattle.wit_productions.specs.Passed.wit_words-Token.{toks};
 ghost use Rattle.wit_productions.specs.Broken.{IsSyntaxFault};
 ghost use Rattle.wit_productions.specs.WholeText as spec;
 ghost use Rattle.wit_syntax.specs.Ast.{FileTree};
@@ -13,8 +13,7 @@ ghost use Rattle.wit_syntax.specs.WholeText.{IsText};
 use crate::ast::File;
 use crate::parse_files::file;
 use std::alloc::Global;
-use wit_productions::{Cursor, end_of, placed};
-use wit_tokens::{DocumentedToken, SyntaxFault, read_tokens};
+use wit_productions::{Cursor, DocumentedToken, SyntaxFault, end_of, placed, read_tokens};
 
 fn file_of<'a>(
     alloc: Global,

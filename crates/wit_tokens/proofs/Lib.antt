@@ -8,3 +8,4 @@ pub mod Readings
 pub mod OneBreak
 pub mod ItemLaws
 pub mod Slices
+pub mod Passed

@@ -3,3 +3,4 @@ pub mod Lexical
 pub mod Cause
 pub mod Items
 pub mod Stands
+pub mod Passed

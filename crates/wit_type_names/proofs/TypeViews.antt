@@ -2,16 +2,16 @@
 use Rattle.std.proofs.Common.{◌≡◌, ap, sym, ◌∙◌, Option, Some, None}
 use Rattle.std.specs.Prelude.{Box, Vec}
 use Rattle.std.specs.declared.alloc.Global.{Global}
-use Rattle.wit_productions.specs.declared.names.Id.{Id}
-use Rattle.wit_productions.specs.declared.types.«Type».{«Type» as Written}
-use Rattle.wit_productions.specs.declared.types.TypeKind.TheViews as views
-use Rattle.wit_productions.specs.declared.types.TypeKind.TheVariants as variants
-use Rattle.wit_productions.specs.declared.types.TypeKind.TheFolds.{fold-roll-TypeKind, fold-roll-Type}
-use Rattle.wit_productions.specs.declared.types.TypeKind.TheOpen.{TypeKind-F}
-use Rattle.wit_productions.specs.NameView.{id}
-use Rattle.wit_productions.specs.TypeTree as tree
-use Rattle.wit_productions.specs.TypeTree.{TypeTree, TypeShape, row, standing}
-use Rattle.wit_productions.specs.TypeView.{type_shape, type_tree, kind_layer, type_layer}
+use Rattle.wit_scopes.specs.Passed.wit_productions-declared-names-Id.{Id}
+use Rattle.wit_scopes.specs.Passed.wit_productions-declared-types-Type.{«Type» as Written}
+use Rattle.wit_scopes.specs.Passed.wit_productions-declared-types-TypeKind-TheViews as views
+use Rattle.wit_scopes.specs.Passed.wit_productions-declared-types-TypeKind-TheVariants as variants
+use Rattle.wit_scopes.specs.Passed.wit_productions-declared-types-TypeKind-TheFolds.{fold-roll-TypeKind, fold-roll-Type}
+use Rattle.wit_scopes.specs.Passed.wit_productions-declared-types-TypeKind-TheOpen.{TypeKind-F}
+use Rattle.wit_scopes.specs.Passed.wit_productions-NameView.{id}
+use Rattle.wit_scopes.specs.Passed.wit_productions-TypeTree as tree
+use Rattle.wit_scopes.specs.Passed.wit_productions-TypeTree.{TypeTree, TypeShape, row, standing}
+use Rattle.wit_scopes.specs.Passed.wit_productions-TypeView.{type_shape, type_tree, kind_layer, type_layer}
 use Rattle.std.proofs.Common.{map}
 use Rattle.wit_type_names.specs.TypeView.{part_tree}
 

@@ -1,2 +1,3 @@
 pub mod TypeNames
 pub mod TypeView
+pub mod Passed

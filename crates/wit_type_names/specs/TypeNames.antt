@@ -1,10 +1,10 @@
 -- The names that stand in types, and in what has types (WIT, Types).
 use Rattle.std.specs.Prelude.{List, [], ◌∷◌, ◌++◌, map, flat_map, Option}
-use Rattle.wit_words.specs.Slice.{Slice}
-use Rattle.wit_productions.specs.TypeTree as written
-use Rattle.wit_productions.specs.TypeTree.{TypeTree, TypeShape, TypeRow, TypeOption, standing, opt, a_type}
-use Rattle.wit_items.specs.ItemTree as item
-use Rattle.wit_items.specs.ItemTree.{ParamTree, FuncTree, FieldTree, CaseTree, TypeDefKindTree}
+use Rattle.wit_scopes.specs.Passed.wit_words-Slice.{Slice}
+use Rattle.wit_scopes.specs.Passed.wit_productions-TypeTree as written
+use Rattle.wit_scopes.specs.Passed.wit_productions-TypeTree.{TypeTree, TypeShape, TypeRow, TypeOption, standing, opt, a_type}
+use Rattle.wit_scopes.specs.Passed.wit_items-ItemTree as item
+use Rattle.wit_scopes.specs.Passed.wit_items-ItemTree.{ParamTree, FuncTree, FieldTree, CaseTree, TypeDefKindTree}
 use Rattle.wit_scopes.specs.Members.{MemberKind, used, defined, function, method, static, constructor}
 
 abbrev mutual

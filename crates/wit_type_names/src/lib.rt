@@ -4,3 +4,7 @@
 mod type_names;
 
 pub use type_names::{func_type_names, member_handle_names, member_type_names};
+pub use wit_scopes::{
+    Case, Docs, EnumCase, ExternKind, Field, Flag, Front, Id, ItemScope, Listed, Member,
+    MemberKind, PackageName, Param, Span, Target, Type, TypeDefKind, TypeKind, WorldMember,
+};

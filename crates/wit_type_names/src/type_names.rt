@@ -1,16 +1,15 @@
 //! The names that stand in types, and which of them handles name.
 
 ghost use Rattle.std.specs.Prelude.{◌≡◌, ◌∷◌, ◌++◌, [], map, option_map, IfOk, OnOk};
-ghost use Rattle.wit_syntax.specs.AstView as view;
-ghost use Rattle.wit_productions.specs.TypeTree.{TypeOption, opt, row, a_type};
-ghost use Rattle.wit_productions.specs.TypeView.{type_tree, type_shape};
+ghost use Rattle.wit_scopes.specs.Passed.wit_syntax-AstView as view;
+ghost use Rattle.wit_scopes.specs.Passed.wit_productions-TypeTree.{TypeOption, opt, row, a_type};
+ghost use Rattle.wit_scopes.specs.Passed.wit_productions-TypeView.{type_tree, type_shape};
 ghost use Rattle.wit_type_names.specs.TypeNames as spec;
 ghost use Rattle.wit_type_names.specs.TypeView.{part_tree};
 ghost use Rattle.wit_scopes.specs.View as seen;
 
 use std::alloc::{AllocError, Global};
-use wit_scopes::MemberKind;
-use wit_syntax::{Case, Field, Func, Id, Param, Type, TypeDefKind, TypeKind};
+use wit_scopes::{Case, Field, Func, Id, MemberKind, Param, Type, TypeDefKind, TypeKind};
 
 /// The names that stand in types, from left to right.
 #[derive(Drop)]

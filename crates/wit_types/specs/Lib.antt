@@ -10,3 +10,4 @@ pub mod Track
 pub mod World
 pub mod WorldKey
 pub mod Shorthand
+pub mod Passed

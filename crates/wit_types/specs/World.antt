@@ -1,6 +1,6 @@
 -- What the items of a world are (WIT, Item: `world` and Feature Gates).
 use Rattle.std.specs.Prelude.{◌≡◌, ◌<◌, List, Some, length, slice_get}
-use Rattle.wit_words.specs.declared.source_map.Span.{Span}
+use Rattle.wit_order.specs.Passed.wit_words-declared-source_map-Span.{Span}
 use Rattle.wit_types.specs.declared.interface.TypeDef.{TypeDef}
 use Rattle.wit_types.specs.declared.stability.Stability.{Stability}
 use Rattle.wit_types.specs.declared.world.WorldItem.{WorldItem}

@@ -36,8 +36,7 @@ pub use package::{AstItem, ForeignItems, Package, PackageName, UnresolvedPackage
 pub use size::{FlagsRepr, Int};
 pub use stability::Stability;
 pub use wit_order::{
-    Need, OrderFault, law_a_fault_denies_an_order, law_order_is_of_the_set, toposort,
+    Need, OrderFault, Span, law_a_fault_denies_an_order, law_order_is_of_the_set, toposort,
 };
-use wit_words::Span;
 pub use world::{IncludeName, World, WorldInclude, WorldItem};
 pub use world_key::WorldKey;

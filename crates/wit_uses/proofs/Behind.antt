@@ -4,30 +4,30 @@ use Rattle.std.proofs.lemmas.Bool.{eq-eqb, eqb-true}
 use Rattle.std.proofs.lemmas.Option.{same_Some, slice_get_within}
 use Rattle.std.specs.Prelude.{slice_get}
 use Rattle.std.specs.declared.alloc.Global.{Global}
-use Rattle.wit_order.specs.Order.{Has}
-use Rattle.wit_types.specs.declared.kind.«Type».{«Type» as Ref}
-use Rattle.wit_types.specs.declared.kind.«Type».TheVariants as ref
-use Rattle.wit_types.specs.declared.kind.TypeDefKind.{TypeDefKind}
-use Rattle.wit_types.specs.declared.kind.TypeDefKind.TheVariants as kind
-use Rattle.wit_types.specs.declared.interface.Interface.{Interface}
-use Rattle.wit_types.specs.declared.interface.TypeDef.{TypeDef}
-use Rattle.wit_types.specs.declared.interface.TypeOwner.{TypeOwner}
-use Rattle.wit_types.specs.declared.interface.TypeOwner.TheVariants as belongs
-use Rattle.wit_features.specs.Features.{FeatureSet}
-use Rattle.wit_moves.specs.Moved.{Places, place_of, to, moved_ref, IsMovedKind}
-use Rattle.wit_moves.specs.Moved as moved
-use Rattle.wit_moves.specs.Plan.{OwnerPlaces, is_owner_placed, moved_owner}
-use Rattle.wit_finding.specs.Types.{type_found}
-use Rattle.wit_plans.specs.Checks.{Standing}
-use Rattle.wit_reach.specs.Holding.{HoldTheirTypes}
-use Rattle.wit_reach.specs.Ids.{kind_ids}
-use Rattle.wit_reach.specs.Made.{is_open, IsMadeOfWithin}
-use Rattle.wit_reach.specs.Paths.{Reaches}
-use Rattle.wit_reach.proofs.Ends.{closed_ends, reaches_more}
-use Rattle.wit_reach.proofs.Growing.{get_same}
-use Rattle.wit_reach.proofs.Holding.{has_mapped}
-use Rattle.wit_moved_trees.proofs.Parts.{kind_from}
-use Rattle.wit_arena.proofs.Lists.{get_kept}
+use Rattle.wit_joined.specs.Passed.wit_order-Order.{Has}
+use Rattle.wit_joined.specs.Passed.wit_types-declared-kind-Type.{«Type» as Ref}
+use Rattle.wit_joined.specs.Passed.wit_types-declared-kind-Type-TheVariants as ref
+use Rattle.wit_joined.specs.Passed.wit_types-declared-kind-TypeDefKind.{TypeDefKind}
+use Rattle.wit_joined.specs.Passed.wit_types-declared-kind-TypeDefKind-TheVariants as kind
+use Rattle.wit_joined.specs.Passed.wit_types-declared-interface-Interface.{Interface}
+use Rattle.wit_joined.specs.Passed.wit_types-declared-interface-TypeDef.{TypeDef}
+use Rattle.wit_joined.specs.Passed.wit_types-declared-interface-TypeOwner.{TypeOwner}
+use Rattle.wit_joined.specs.Passed.wit_types-declared-interface-TypeOwner-TheVariants as belongs
+use Rattle.wit_joined.specs.Passed.wit_features-Features.{FeatureSet}
+use Rattle.wit_joined.specs.Passed.wit_moves-Moved.{Places, place_of, to, moved_ref, IsMovedKind}
+use Rattle.wit_joined.specs.Passed.wit_moves-Moved as moved
+use Rattle.wit_joined.specs.Passed.wit_moves-Plan.{OwnerPlaces, is_owner_placed, moved_owner}
+use Rattle.wit_joined.specs.Passed.wit_finding-Types.{type_found}
+use Rattle.wit_joined.specs.Passed.wit_plans-Checks.{Standing}
+use Rattle.wit_joined.specs.Passed.wit_reach-Holding.{HoldTheirTypes}
+use Rattle.wit_joined.specs.Passed.wit_reach-Ids.{kind_ids}
+use Rattle.wit_joined.specs.Passed.wit_reach-Made.{is_open, IsMadeOfWithin}
+use Rattle.wit_joined.specs.Passed.wit_reach-Paths.{Reaches}
+use Rattle.wit_joined.proofs.Passed.wit_reach-Ends.{closed_ends, reaches_more}
+use Rattle.wit_joined.proofs.Passed.wit_reach-Growing.{get_same}
+use Rattle.wit_joined.proofs.Passed.wit_reach-Holding.{has_mapped}
+use Rattle.wit_placed.proofs.Passed.wit_moved_trees-Parts.{kind_from}
+use Rattle.wit_joined.proofs.Passed.wit_arena-Lists.{get_kept}
 use Rattle.wit_placed.specs.Order.{AreBehind}
 use Rattle.wit_placed.proofs.Holding.{IsFound, found, goes_to, get_behind}
 use Rattle.wit_placed.proofs.Own.{place_within}

@@ -5,43 +5,43 @@ use Rattle.std.proofs.lemmas.List.{map-append}
 use Rattle.std.proofs.lemmas.Option.{same_Some, slice_get_within}
 use Rattle.std.specs.Prelude.{slice_get, string_bytes, if◌then◌else◌}
 use Rattle.std.specs.declared.alloc.Global.{Global}
-use Rattle.wit_order.specs.Order.{Has}
-use Rattle.wit_types.specs.declared.kind.«Type».{«Type» as Ref}
-use Rattle.wit_types.specs.declared.kind.«Type».TheVariants as ref
-use Rattle.wit_types.specs.declared.kind.TypeDefKind.{TypeDefKind}
-use Rattle.wit_types.specs.declared.kind.TypeDefKind.TheVariants as kind
-use Rattle.wit_types.specs.declared.interface.TypeDef.{TypeDef}
-use Rattle.wit_types.specs.declared.interface.TypeOwner.{TypeOwner}
-use Rattle.wit_types.specs.declared.interface.TypeOwner.TheVariants as belongs
-use Rattle.wit_types.specs.declared.world.IncludeName.{IncludeName}
-use Rattle.wit_types.specs.declared.world.World.{World}
-use Rattle.wit_types.specs.declared.world.WorldItem.{WorldItem}
-use Rattle.wit_types.specs.declared.world.WorldItem.TheVariants as item
-use Rattle.wit_types.specs.declared.world_key.WorldKey.{WorldKey}
-use Rattle.wit_moves.specs.Moved as moved
-use Rattle.wit_moves.specs.Moved.{moved_ref, IsMovedKind}
-use Rattle.wit_moves.specs.Worlds as worlds
-use Rattle.wit_moves.specs.Worlds.{IsMovedItem}
-use Rattle.wit_copies.specs.Copies.{Copies, goes, copied_owner, IsCopiedDef, AreCopied, no_types, one_more, AreCopiedEntries, no_entries, one_entry_more}
-use Rattle.wit_copies.specs.Same as copy
-use Rattle.wit_copies.specs.Same.{IsSameKind, IsSameItem, text_of}
-use Rattle.wit_sides.specs.Renames as renamed
-use Rattle.wit_sides.specs.Renames.{IsRenamed, IsRenamedItem, AreRenamed}
-use Rattle.wit_includes.specs.Included as brings
-use Rattle.wit_includes.specs.Included.{is_of_world, IsRenamedName, IsRenamedDef, AreRenamedDefs, copies_behind, AreIncludedEntries, IsIncluded}
-use Rattle.wit_includes.specs.declared.worlds.Included.{Included}
-use Rattle.wit_reach.specs.Ids.{kind_ids, item_ids, side_ids}
-use Rattle.wit_reach.specs.Lists.{item_type, type_items}
-use Rattle.wit_reach.specs.Made.{is_open, IsMadeOfWithin}
-use Rattle.wit_reach.specs.Paths.{Reaches}
-use Rattle.wit_reach.specs.Types.{AreTypesBackward, AreSidesThere, IsLocalAt, is_local, UsesLocal, IsOfItem}
-use Rattle.wit_reach.proofs.Ends.{closed_ends, reaches_more}
-use Rattle.wit_reach.proofs.Growing.{get_same}
-use Rattle.wit_reach.proofs.Holding.{got}
-use Rattle.wit_reach.proofs.Local.{stays_local}
-use Rattle.wit_copied_trees.proofs.Members.{has_place, goes_own, goes_else}
-use Rattle.wit_copied_trees.proofs.Named.{renamed_named}
-use Rattle.wit_copied_trees.proofs.MovedIds.{has_moved, kind_moved, item_moved}
+use Rattle.wit_joined.specs.Passed.wit_order-Order.{Has}
+use Rattle.wit_joined.specs.Passed.wit_types-declared-kind-Type.{«Type» as Ref}
+use Rattle.wit_joined.specs.Passed.wit_types-declared-kind-Type-TheVariants as ref
+use Rattle.wit_joined.specs.Passed.wit_types-declared-kind-TypeDefKind.{TypeDefKind}
+use Rattle.wit_joined.specs.Passed.wit_types-declared-kind-TypeDefKind-TheVariants as kind
+use Rattle.wit_joined.specs.Passed.wit_types-declared-interface-TypeDef.{TypeDef}
+use Rattle.wit_joined.specs.Passed.wit_types-declared-interface-TypeOwner.{TypeOwner}
+use Rattle.wit_joined.specs.Passed.wit_types-declared-interface-TypeOwner-TheVariants as belongs
+use Rattle.wit_joined.specs.Passed.wit_types-declared-world-IncludeName.{IncludeName}
+use Rattle.wit_joined.specs.Passed.wit_types-declared-world-World.{World}
+use Rattle.wit_joined.specs.Passed.wit_types-declared-world-WorldItem.{WorldItem}
+use Rattle.wit_joined.specs.Passed.wit_types-declared-world-WorldItem-TheVariants as item
+use Rattle.wit_joined.specs.Passed.wit_types-declared-world_key-WorldKey.{WorldKey}
+use Rattle.wit_joined.specs.Passed.wit_moves-Moved as moved
+use Rattle.wit_joined.specs.Passed.wit_moves-Moved.{moved_ref, IsMovedKind}
+use Rattle.wit_joined.specs.Passed.wit_moves-Worlds as worlds
+use Rattle.wit_joined.specs.Passed.wit_moves-Worlds.{IsMovedItem}
+use Rattle.wit_joined.specs.Passed.wit_copies-Copies.{Copies, goes, copied_owner, IsCopiedDef, AreCopied, no_types, one_more, AreCopiedEntries, no_entries, one_entry_more}
+use Rattle.wit_joined.specs.Passed.wit_copies-Same as copy
+use Rattle.wit_joined.specs.Passed.wit_copies-Same.{IsSameKind, IsSameItem, text_of}
+use Rattle.wit_joined.specs.Passed.wit_sides-Renames as renamed
+use Rattle.wit_joined.specs.Passed.wit_sides-Renames.{IsRenamed, IsRenamedItem, AreRenamed}
+use Rattle.wit_joined.specs.Passed.wit_includes-Included as brings
+use Rattle.wit_joined.specs.Passed.wit_includes-Included.{is_of_world, IsRenamedName, IsRenamedDef, AreRenamedDefs, copies_behind, AreIncludedEntries, IsIncluded}
+use Rattle.wit_joined.specs.Passed.wit_includes-declared-worlds-Included.{Included}
+use Rattle.wit_joined.specs.Passed.wit_reach-Ids.{kind_ids, item_ids, side_ids}
+use Rattle.wit_joined.specs.Passed.wit_reach-Lists.{item_type, type_items}
+use Rattle.wit_joined.specs.Passed.wit_reach-Made.{is_open, IsMadeOfWithin}
+use Rattle.wit_joined.specs.Passed.wit_reach-Paths.{Reaches}
+use Rattle.wit_joined.specs.Passed.wit_reach-Types.{AreTypesBackward, AreSidesThere, IsLocalAt, is_local, UsesLocal, IsOfItem}
+use Rattle.wit_joined.proofs.Passed.wit_reach-Ends.{closed_ends, reaches_more}
+use Rattle.wit_joined.proofs.Passed.wit_reach-Growing.{get_same}
+use Rattle.wit_joined.proofs.Passed.wit_reach-Holding.{got}
+use Rattle.wit_joined.proofs.Passed.wit_reach-Local.{stays_local}
+use Rattle.wit_joined.proofs.Passed.wit_copied_trees-Members.{has_place, goes_own, goes_else}
+use Rattle.wit_joined.proofs.Passed.wit_copied_trees-Named.{renamed_named}
+use Rattle.wit_joined.proofs.Passed.wit_copied_trees-MovedIds.{has_moved, kind_moved, item_moved}
 use Rattle.wit_placed.proofs.Holding.{get_behind}
 use Rattle.wit_uses.specs.Uses.{IsOwn, IsUse, TakesByUse}
 use Rattle.wit_uses.specs.Included.{brought_types, IsOfBrought, BroughtTakesByUse}

@@ -2,20 +2,20 @@
 use Rattle.std.proofs.Common.{◌≡◌, ℕ, ◌+◌, ◌<◌, List, [], ◌++◌, inl, inr, Some, String, length, refl, sym, ◌∙◌, arith}
 use Rattle.std.specs.Prelude.{slice_get}
 use Rattle.std.specs.declared.alloc.Global.{Global}
-use Rattle.wit_order.specs.Order.{Has}
-use Rattle.wit_types.specs.declared.function.Function.{Function}
-use Rattle.wit_types.specs.declared.interface.Interface.{Interface}
-use Rattle.wit_types.specs.declared.interface.TypeDef.{TypeDef}
-use Rattle.wit_types.specs.declared.interface.TypeOwner.{TypeOwner}
-use Rattle.wit_types.specs.declared.interface.TypeOwner.TheVariants as belongs
-use Rattle.wit_reach.specs.Holding.{listed_types}
-use Rattle.wit_reach.specs.Ids.{function_ids}
-use Rattle.wit_reach.specs.Made.{IsMadeOfWithin}
-use Rattle.wit_reach.specs.Paths.{Reaches}
-use Rattle.wit_reach.specs.Types.{AreTypesBackward}
-use Rattle.wit_reach.proofs.Ends.{closed_ends, reaches_more}
-use Rattle.wit_reach.proofs.Growing.{get_same}
-use Rattle.wit_reach.proofs.Holding.{has_flat, mapped_has}
+use Rattle.wit_joined.specs.Passed.wit_order-Order.{Has}
+use Rattle.wit_joined.specs.Passed.wit_types-declared-function-Function.{Function}
+use Rattle.wit_joined.specs.Passed.wit_types-declared-interface-Interface.{Interface}
+use Rattle.wit_joined.specs.Passed.wit_types-declared-interface-TypeDef.{TypeDef}
+use Rattle.wit_joined.specs.Passed.wit_types-declared-interface-TypeOwner.{TypeOwner}
+use Rattle.wit_joined.specs.Passed.wit_types-declared-interface-TypeOwner-TheVariants as belongs
+use Rattle.wit_joined.specs.Passed.wit_reach-Holding.{listed_types}
+use Rattle.wit_joined.specs.Passed.wit_reach-Ids.{function_ids}
+use Rattle.wit_joined.specs.Passed.wit_reach-Made.{IsMadeOfWithin}
+use Rattle.wit_joined.specs.Passed.wit_reach-Paths.{Reaches}
+use Rattle.wit_joined.specs.Passed.wit_reach-Types.{AreTypesBackward}
+use Rattle.wit_joined.proofs.Passed.wit_reach-Ends.{closed_ends, reaches_more}
+use Rattle.wit_joined.proofs.Passed.wit_reach-Growing.{get_same}
+use Rattle.wit_joined.proofs.Passed.wit_reach-Holding.{has_flat, mapped_has}
 use Rattle.wit_placed.specs.There.{IsInterfaceThere}
 use Rattle.wit_placed.proofs.Members.{has_get}
 use Rattle.wit_uses.specs.Uses.{TakesByUse, IsOfInterface}

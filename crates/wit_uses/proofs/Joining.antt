@@ -9,42 +9,42 @@ use Rattle.std.specs.List.{list_any}
 use Rattle.std.specs.Map.{lookup}
 use Rattle.std.specs.Prelude.{slice_get, flat_map, is_some, bytes_eq, string_bytes, ◌||◌, if◌then◌else◌}
 use Rattle.std.specs.declared.alloc.Global.{Global}
-use Rattle.wit_order.specs.Order.{Has}
-use Rattle.wit_order.proofs.Lists.{has_was}
+use Rattle.wit_joined.specs.Passed.wit_order-Order.{Has}
+use Rattle.wit_joined.proofs.Passed.wit_order-Lists.{has_was}
 use Rattle.wit_words.specs.Slice.{Slice}
 use Rattle.wit_words.specs.NameKey.{name_key}
 use Rattle.wit_words.specs.declared.source_map.Span.{Span}
-use Rattle.wit_types.specs.declared.interface.TypeDef.{TypeDef}
-use Rattle.wit_types.specs.declared.interface.TypeOwner.{TypeOwner}
-use Rattle.wit_types.specs.declared.interface.TypeOwner.TheVariants as belongs
-use Rattle.wit_types.specs.declared.world.World.{World}
-use Rattle.wit_types.specs.declared.world.WorldInclude.{WorldInclude}
-use Rattle.wit_types.specs.declared.world.WorldItem.{WorldItem}
-use Rattle.wit_types.specs.declared.world.WorldItem.TheVariants as item
-use Rattle.wit_types.specs.declared.world_key.WorldKey.{WorldKey}
-use Rattle.wit_types.specs.declared.world_key.WorldKey.TheVariants as key
-use Rattle.wit_types.specs.World.{span_of}
-use Rattle.wit_types.specs.WorldKey.{key_eq}
-use Rattle.wit_types.specs.declared.world.IncludeName.{IncludeName}
-use Rattle.wit_moves.specs.Worlds as worlds
-use Rattle.wit_moves.specs.Worlds.{IsMovedItem}
-use Rattle.wit_copies.specs.Same as copy
-use Rattle.wit_copies.specs.Same.{IsSameItem, IsSameKey}
-use Rattle.wit_copies.specs.Copies as copies
-use Rattle.wit_sides.specs.Renames as renamed
-use Rattle.wit_sides.specs.Renames.{IsRenamedKey, IsRenamedItem, AreRenamed}
-use Rattle.wit_arena.proofs.Lists.{get_kept, get_last}
-use Rattle.wit_reach.specs.Ids.{item_ids, side_ids}
-use Rattle.wit_reach.specs.Lists.{item_type, item_interface, type_items}
-use Rattle.wit_reach.specs.Types.{AreTypesBackward, AreTypesThere, AreSidesThere, IsOfItem}
-use Rattle.wit_reach.proofs.Lists.{has_append, has_parts}
-use Rattle.wit_elaborated.specs.Worlds.{IsKeyOfItem, AreKeysOfItems}
+use Rattle.wit_joined.specs.Passed.wit_types-declared-interface-TypeDef.{TypeDef}
+use Rattle.wit_joined.specs.Passed.wit_types-declared-interface-TypeOwner.{TypeOwner}
+use Rattle.wit_joined.specs.Passed.wit_types-declared-interface-TypeOwner-TheVariants as belongs
+use Rattle.wit_joined.specs.Passed.wit_types-declared-world-World.{World}
+use Rattle.wit_joined.specs.Passed.wit_types-declared-world-WorldInclude.{WorldInclude}
+use Rattle.wit_joined.specs.Passed.wit_types-declared-world-WorldItem.{WorldItem}
+use Rattle.wit_joined.specs.Passed.wit_types-declared-world-WorldItem-TheVariants as item
+use Rattle.wit_joined.specs.Passed.wit_types-declared-world_key-WorldKey.{WorldKey}
+use Rattle.wit_joined.specs.Passed.wit_types-declared-world_key-WorldKey-TheVariants as key
+use Rattle.wit_joined.specs.Passed.wit_types-World.{span_of}
+use Rattle.wit_joined.specs.Passed.wit_types-WorldKey.{key_eq}
+use Rattle.wit_joined.specs.Passed.wit_types-declared-world-IncludeName.{IncludeName}
+use Rattle.wit_joined.specs.Passed.wit_moves-Worlds as worlds
+use Rattle.wit_joined.specs.Passed.wit_moves-Worlds.{IsMovedItem}
+use Rattle.wit_joined.specs.Passed.wit_copies-Same as copy
+use Rattle.wit_joined.specs.Passed.wit_copies-Same.{IsSameItem, IsSameKey}
+use Rattle.wit_joined.specs.Passed.wit_copies-Copies as copies
+use Rattle.wit_joined.specs.Passed.wit_sides-Renames as renamed
+use Rattle.wit_joined.specs.Passed.wit_sides-Renames.{IsRenamedKey, IsRenamedItem, AreRenamed}
+use Rattle.wit_joined.proofs.Passed.wit_arena-Lists.{get_kept, get_last}
+use Rattle.wit_joined.specs.Passed.wit_reach-Ids.{item_ids, side_ids}
+use Rattle.wit_joined.specs.Passed.wit_reach-Lists.{item_type, item_interface, type_items}
+use Rattle.wit_joined.specs.Passed.wit_reach-Types.{AreTypesBackward, AreTypesThere, AreSidesThere, IsOfItem}
+use Rattle.wit_joined.proofs.Passed.wit_reach-Lists.{has_append, has_parts}
+use Rattle.wit_placed.specs.Passed.wit_elaborated-Worlds.{IsKeyOfItem, AreKeysOfItems}
 use Rattle.wit_placed.proofs.Members.{has_get}
-use Rattle.wit_copies.specs.Copies.{Copies, goes, AreCopiedEntries}
-use Rattle.wit_sides.specs.Sides.{plain_name, plain_names, name_keys, IsClash, AreUnited, no_entries, first_of_its_key, key_again}
-use Rattle.wit_includes.specs.Included.{copies_behind, IsIncluded}
-use Rattle.wit_includes.specs.declared.worlds.Included.{Included}
-use Rattle.wit_copied_trees.specs.There.{IncludedTypesAreBackward, IncludedSidesAreThere}
+use Rattle.wit_joined.specs.Passed.wit_copies-Copies.{Copies, goes, AreCopiedEntries}
+use Rattle.wit_joined.specs.Passed.wit_sides-Sides.{plain_name, plain_names, name_keys, IsClash, AreUnited, no_entries, first_of_its_key, key_again}
+use Rattle.wit_joined.specs.Passed.wit_includes-Included.{copies_behind, IsIncluded}
+use Rattle.wit_joined.specs.Passed.wit_includes-declared-worlds-Included.{Included}
+use Rattle.wit_joined.specs.Passed.wit_copied_trees-There.{IncludedTypesAreBackward, IncludedSidesAreThere}
 use Rattle.wit_joined.specs.Joined.{State, with_brought, Includes, includes_none, includes_one, own_state, AreWorldsThere}
 use Rattle.wit_uses.specs.Uses.{IsOwn, IsUse, TakesByUse, WorldsTakeByUse}
 use Rattle.wit_uses.specs.Included.{brought_types, IsOfBrought, BroughtTakesByUse}

@@ -5,3 +5,4 @@ pub mod Moving
 pub mod Worlds
 pub mod Brought
 pub mod Joining
+pub mod Passed

@@ -3,28 +3,28 @@ use Rattle.std.proofs.Common.{◌≡◌, ℕ, zero, suc, ◌+◌, true, List, []
 use Rattle.std.proofs.lemmas.Bool.{and_parts, eq-eqb, eqb-true}
 use Rattle.std.specs.Prelude.{slice_get, is_some, unwrap_or}
 use Rattle.std.specs.declared.alloc.Global.{Global}
-use Rattle.wit_order.specs.Order.{Has}
-use Rattle.wit_types.specs.declared.function.Function.{Function}
-use Rattle.wit_types.specs.declared.interface.Interface.{Interface}
-use Rattle.wit_types.specs.declared.interface.TypeDef.{TypeDef}
-use Rattle.wit_types.specs.declared.interface.TypeOwner.{TypeOwner}
-use Rattle.wit_types.specs.declared.interface.TypeOwner.TheVariants as belongs
-use Rattle.wit_features.specs.Features.{FeatureSet, stays as gate_stays}
-use Rattle.wit_moves.specs.Breaks.{AnyOf, IsKept}
-use Rattle.wit_moves.specs.Moved.{Places, place_of, is_placed, to, resource_of, is_resource_placed}
-use Rattle.wit_moves.specs.Moved as moved
-use Rattle.wit_moves.specs.Interfaces.{AreMovedNames}
-use Rattle.wit_moves.specs.Plan.{OwnerPlaces, is_owner_placed, moved_owner}
-use Rattle.wit_finding.specs.Types.{type_found}
-use Rattle.wit_plans.specs.Checks.{Standing, InterfaceBreaks}
-use Rattle.wit_reach.specs.Holding.{listed_types, HoldTheirTypes}
-use Rattle.wit_reach.specs.Ids.{function_ids}
-use Rattle.wit_reach.specs.Made.{is_open}
-use Rattle.wit_reach.specs.Types.{AreTypesBackward}
-use Rattle.wit_reach.proofs.Holding.{has_mapped, mapped_has, has_flat, flat_has}
-use Rattle.wit_moved_trees.proofs.Moving.{placed_some}
-use Rattle.wit_moved_trees.proofs.Parts.{function_from, function_placed}
-use Rattle.wit_arena.proofs.Lists.{get_kept}
+use Rattle.wit_joined.specs.Passed.wit_order-Order.{Has}
+use Rattle.wit_joined.specs.Passed.wit_types-declared-function-Function.{Function}
+use Rattle.wit_joined.specs.Passed.wit_types-declared-interface-Interface.{Interface}
+use Rattle.wit_joined.specs.Passed.wit_types-declared-interface-TypeDef.{TypeDef}
+use Rattle.wit_joined.specs.Passed.wit_types-declared-interface-TypeOwner.{TypeOwner}
+use Rattle.wit_joined.specs.Passed.wit_types-declared-interface-TypeOwner-TheVariants as belongs
+use Rattle.wit_joined.specs.Passed.wit_features-Features.{FeatureSet, stays as gate_stays}
+use Rattle.wit_joined.specs.Passed.wit_moves-Breaks.{AnyOf, IsKept}
+use Rattle.wit_joined.specs.Passed.wit_moves-Moved.{Places, place_of, is_placed, to, resource_of, is_resource_placed}
+use Rattle.wit_joined.specs.Passed.wit_moves-Moved as moved
+use Rattle.wit_joined.specs.Passed.wit_moves-Interfaces.{AreMovedNames}
+use Rattle.wit_joined.specs.Passed.wit_moves-Plan.{OwnerPlaces, is_owner_placed, moved_owner}
+use Rattle.wit_joined.specs.Passed.wit_finding-Types.{type_found}
+use Rattle.wit_joined.specs.Passed.wit_plans-Checks.{Standing, InterfaceBreaks}
+use Rattle.wit_joined.specs.Passed.wit_reach-Holding.{listed_types, HoldTheirTypes}
+use Rattle.wit_joined.specs.Passed.wit_reach-Ids.{function_ids}
+use Rattle.wit_joined.specs.Passed.wit_reach-Made.{is_open}
+use Rattle.wit_joined.specs.Passed.wit_reach-Types.{AreTypesBackward}
+use Rattle.wit_joined.proofs.Passed.wit_reach-Holding.{has_mapped, mapped_has, has_flat, flat_has}
+use Rattle.wit_placed.proofs.Passed.wit_moved_trees-Moving.{placed_some}
+use Rattle.wit_placed.proofs.Passed.wit_moved_trees-Parts.{function_from, function_placed}
+use Rattle.wit_joined.proofs.Passed.wit_arena-Lists.{get_kept}
 use Rattle.wit_placed.specs.There.{IsInterfaceThere}
 use Rattle.wit_placed.specs.Order.{AreBehind, interface_places}
 use Rattle.wit_placed.proofs.Entries.{entry_stays}

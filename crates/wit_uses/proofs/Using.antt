@@ -2,15 +2,15 @@
 use Rattle.std.proofs.Common.{◌≡◌, ℕ, Bool, true, false, List, [], ◌⊎◌, inl, inr, Option, Some, None, refl, sym, subst, ap, ◌∙◌}
 use Rattle.std.proofs.lemmas.Bool.{cases_Bool, eqb-true}
 use Rattle.std.specs.Prelude.{slice_get, nat_eq, if◌then◌else◌}
-use Rattle.wit_order.specs.Order.{Has}
-use Rattle.wit_types.specs.declared.kind.TypeDefKind.{TypeDefKind}
-use Rattle.wit_types.specs.declared.interface.TypeDef.{TypeDef}
-use Rattle.wit_types.specs.declared.interface.TypeOwner.{TypeOwner}
-use Rattle.wit_types.specs.declared.interface.TypeOwner.TheVariants as belongs
-use Rattle.wit_reach.specs.Deps.{alias_target, interface_of, is_of_interface, but_own, owned, at_target, def_dep, AreUsed}
-use Rattle.wit_reach.specs.Made.{is_open, IsMadeOfWithin}
-use Rattle.wit_reach.specs.Paths.{Reaches}
-use Rattle.wit_reach.proofs.Ends.{closed_ends, reaches_more}
+use Rattle.wit_joined.specs.Passed.wit_order-Order.{Has}
+use Rattle.wit_joined.specs.Passed.wit_types-declared-kind-TypeDefKind.{TypeDefKind}
+use Rattle.wit_joined.specs.Passed.wit_types-declared-interface-TypeDef.{TypeDef}
+use Rattle.wit_joined.specs.Passed.wit_types-declared-interface-TypeOwner.{TypeOwner}
+use Rattle.wit_joined.specs.Passed.wit_types-declared-interface-TypeOwner-TheVariants as belongs
+use Rattle.wit_joined.specs.Passed.wit_reach-Deps.{alias_target, interface_of, is_of_interface, but_own, owned, at_target, def_dep, AreUsed}
+use Rattle.wit_joined.specs.Passed.wit_reach-Made.{is_open, IsMadeOfWithin}
+use Rattle.wit_joined.specs.Passed.wit_reach-Paths.{Reaches}
+use Rattle.wit_joined.proofs.Passed.wit_reach-Ends.{closed_ends, reaches_more}
 use Rattle.wit_uses.specs.Uses.{IsOwn, IsUse, TakesByUse, IsTaken, SeesByUse, TakenAreUsed}
 
 -- an owner sees into interfaces that it is

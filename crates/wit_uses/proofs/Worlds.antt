@@ -3,30 +3,30 @@ use Rattle.std.proofs.Common.{◌≡◌, ℕ, zero, suc, ◌+◌, length, Bool, 
 use Rattle.std.proofs.lemmas.Bool.{eq-eqb, eqb-true, and_parts}
 use Rattle.std.specs.Prelude.{is_some, unwrap_or, slice_get}
 use Rattle.std.proofs.lemmas.Option.{same_Some}
-use Rattle.wit_order.specs.Order.{Has}
-use Rattle.wit_order.proofs.Lists.{has_was}
-use Rattle.wit_types.specs.declared.interface.TypeOwner.{TypeOwner}
-use Rattle.wit_types.specs.declared.interface.TypeOwner.TheVariants as belongs
-use Rattle.wit_types.specs.declared.world.WorldItem.{WorldItem}
-use Rattle.wit_types.specs.declared.world.WorldItem.TheVariants as item
-use Rattle.wit_types.specs.declared.world_key.WorldKey.{WorldKey}
-use Rattle.wit_types.specs.World.{span_of}
-use Rattle.wit_features.specs.Features.{FeatureSet, stays as gate_stays}
-use Rattle.wit_moves.specs.Breaks.{AnyOf, IsKept}
-use Rattle.wit_moves.specs.Moved.{Places, place_of, is_placed, to, resource_of, is_resource_placed}
-use Rattle.wit_moves.specs.Interfaces.{no_entries, one_goes, one_stays}
-use Rattle.wit_moves.specs.Plan.{is_owner_placed, moved_owner}
-use Rattle.wit_plans.specs.Checks.{Standing, SidesBreak, WorldBreaks}
+use Rattle.wit_joined.specs.Passed.wit_order-Order.{Has}
+use Rattle.wit_joined.proofs.Passed.wit_order-Lists.{has_was}
+use Rattle.wit_joined.specs.Passed.wit_types-declared-interface-TypeOwner.{TypeOwner}
+use Rattle.wit_joined.specs.Passed.wit_types-declared-interface-TypeOwner-TheVariants as belongs
+use Rattle.wit_joined.specs.Passed.wit_types-declared-world-WorldItem.{WorldItem}
+use Rattle.wit_joined.specs.Passed.wit_types-declared-world-WorldItem-TheVariants as item
+use Rattle.wit_joined.specs.Passed.wit_types-declared-world_key-WorldKey.{WorldKey}
+use Rattle.wit_joined.specs.Passed.wit_types-World.{span_of}
+use Rattle.wit_joined.specs.Passed.wit_features-Features.{FeatureSet, stays as gate_stays}
+use Rattle.wit_joined.specs.Passed.wit_moves-Breaks.{AnyOf, IsKept}
+use Rattle.wit_joined.specs.Passed.wit_moves-Moved.{Places, place_of, is_placed, to, resource_of, is_resource_placed}
+use Rattle.wit_joined.specs.Passed.wit_moves-Interfaces.{no_entries, one_goes, one_stays}
+use Rattle.wit_joined.specs.Passed.wit_moves-Plan.{is_owner_placed, moved_owner}
+use Rattle.wit_joined.specs.Passed.wit_plans-Checks.{Standing, SidesBreak, WorldBreaks}
 use Rattle.wit_placed.specs.Worlds.{WorldsTakePlacesAlone}
-use Rattle.wit_types.specs.declared.world.World.{World}
-use Rattle.wit_moves.specs.Worlds.{item_stays, is_item_placed, IsMovedItem, moved_interface, moved_function, moved_type, moved_entry, AreMovedItems, IsMovedSide, SideBreaks}
-use Rattle.wit_reach.specs.Ids.{item_ids, side_ids}
-use Rattle.wit_reach.specs.Lists.{item_type, type_items}
-use Rattle.wit_reach.specs.Made.{is_open}
-use Rattle.wit_reach.specs.Types.{IsOfItem}
-use Rattle.wit_reach.proofs.Lists.{has_append, has_parts}
-use Rattle.wit_moved_trees.proofs.Moving.{placed_some}
-use Rattle.wit_moved_trees.proofs.Parts.{function_from, function_placed}
+use Rattle.wit_joined.specs.Passed.wit_types-declared-world-World.{World}
+use Rattle.wit_joined.specs.Passed.wit_moves-Worlds.{item_stays, is_item_placed, IsMovedItem, moved_interface, moved_function, moved_type, moved_entry, AreMovedItems, IsMovedSide, SideBreaks}
+use Rattle.wit_joined.specs.Passed.wit_reach-Ids.{item_ids, side_ids}
+use Rattle.wit_joined.specs.Passed.wit_reach-Lists.{item_type, type_items}
+use Rattle.wit_joined.specs.Passed.wit_reach-Made.{is_open}
+use Rattle.wit_joined.specs.Passed.wit_reach-Types.{IsOfItem}
+use Rattle.wit_joined.proofs.Passed.wit_reach-Lists.{has_append, has_parts}
+use Rattle.wit_placed.proofs.Passed.wit_moved_trees-Moving.{placed_some}
+use Rattle.wit_placed.proofs.Passed.wit_moved_trees-Parts.{function_from, function_placed}
 use Rattle.wit_placed.proofs.Holding.{goes_to}
 use Rattle.wit_placed.proofs.Members.{has_at}
 use Rattle.wit_uses.specs.Uses.{IsOwn}

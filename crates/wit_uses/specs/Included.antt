@@ -1,15 +1,15 @@
 -- What a world brings to one that includes it takes types of other interfaces by use, too (WIT, Use, Item: `include`).
 use Rattle.std.specs.Prelude.{◌⊎◌, ℕ, List, ◌++◌}
-use Rattle.wit_order.specs.Order.{Has}
-use Rattle.wit_types.specs.declared.interface.TypeDef.{TypeDef}
-use Rattle.wit_types.specs.declared.interface.TypeOwner.TheVariants as belongs
-use Rattle.wit_types.specs.declared.world.IncludeName.{IncludeName}
-use Rattle.wit_types.specs.declared.world.World.{World}
-use Rattle.wit_includes.specs.Included.{IsIncluded}
-use Rattle.wit_includes.specs.declared.worlds.Included.{Included}
-use Rattle.wit_reach.specs.Ids.{side_ids}
-use Rattle.wit_reach.specs.Lists.{type_items}
-use Rattle.wit_reach.specs.Types.{AreTypesBackward, AreSidesThere, IsOfItem}
+use Rattle.wit_joined.specs.Passed.wit_order-Order.{Has}
+use Rattle.wit_joined.specs.Passed.wit_types-declared-interface-TypeDef.{TypeDef}
+use Rattle.wit_joined.specs.Passed.wit_types-declared-interface-TypeOwner-TheVariants as belongs
+use Rattle.wit_joined.specs.Passed.wit_types-declared-world-IncludeName.{IncludeName}
+use Rattle.wit_joined.specs.Passed.wit_types-declared-world-World.{World}
+use Rattle.wit_joined.specs.Passed.wit_includes-Included.{IsIncluded}
+use Rattle.wit_joined.specs.Passed.wit_includes-declared-worlds-Included.{Included}
+use Rattle.wit_joined.specs.Passed.wit_reach-Ids.{side_ids}
+use Rattle.wit_joined.specs.Passed.wit_reach-Lists.{type_items}
+use Rattle.wit_joined.specs.Passed.wit_reach-Types.{AreTypesBackward, AreSidesThere, IsOfItem}
 use Rattle.wit_uses.specs.Uses.{TakesByUse}
 
 -- the types that are brought and listed, and those that items that are brought are made of

@@ -1,15 +1,15 @@
 -- A world with all that it includes takes types of other interfaces by use, too (WIT, Use, Item: `include`).
 use Rattle.std.specs.Prelude.{ℕ, List, length}
-use Rattle.wit_order.specs.Order.{Has}
-use Rattle.wit_types.specs.declared.interface.TypeDef.{TypeDef}
-use Rattle.wit_types.specs.declared.interface.TypeOwner.TheVariants as belongs
-use Rattle.wit_types.specs.declared.world.World.{World}
-use Rattle.wit_plans.specs.declared.moves.MovedWorld.{MovedWorld}
-use Rattle.wit_elaborated.specs.Worlds.{AreKeysOfItems}
+use Rattle.wit_joined.specs.Passed.wit_order-Order.{Has}
+use Rattle.wit_joined.specs.Passed.wit_types-declared-interface-TypeDef.{TypeDef}
+use Rattle.wit_joined.specs.Passed.wit_types-declared-interface-TypeOwner-TheVariants as belongs
+use Rattle.wit_joined.specs.Passed.wit_types-declared-world-World.{World}
+use Rattle.wit_joined.specs.Passed.wit_plans-declared-moves-MovedWorld.{MovedWorld}
+use Rattle.wit_placed.specs.Passed.wit_elaborated-Worlds.{AreKeysOfItems}
 use Rattle.wit_joined.specs.Joined.{AreWorldsThere, IsJoinedWorld}
-use Rattle.wit_reach.specs.Ids.{side_ids}
-use Rattle.wit_reach.specs.Lists.{type_items}
-use Rattle.wit_reach.specs.Types.{AreTypesBackward, AreTypesThere, IsOfItem}
+use Rattle.wit_joined.specs.Passed.wit_reach-Ids.{side_ids}
+use Rattle.wit_joined.specs.Passed.wit_reach-Lists.{type_items}
+use Rattle.wit_joined.specs.Passed.wit_reach-Types.{AreTypesBackward, AreTypesThere, IsOfItem}
 use Rattle.wit_uses.specs.Uses.{TakesByUse, WorldsTakeByUse}
 use Rattle.wit_uses.specs.Moved.{moved_types, IsOfMoved}
 

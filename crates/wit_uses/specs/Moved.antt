@@ -1,22 +1,22 @@
 -- What stays of a package takes types of other interfaces by use, too (WIT, Use, Feature Gates, Packages).
 use Rattle.std.specs.Prelude.{◌≡◌, ◌⊎◌, ℕ, ◌+◌, List, ◌++◌, Some, length, map, slice_get}
-use Rattle.wit_order.specs.Order.{Has}
-use Rattle.wit_types.specs.declared.interface.Interface.{Interface}
-use Rattle.wit_types.specs.declared.interface.TypeDef.{TypeDef}
-use Rattle.wit_types.specs.declared.interface.TypeOwner.TheVariants as belongs
-use Rattle.wit_types.specs.declared.world.World.{World}
-use Rattle.wit_features.specs.Features.{FeatureSet}
-use Rattle.wit_moves.specs.Breaks.{AnyOf, IsKept}
-use Rattle.wit_moves.specs.Moved.{Places, place_of}
-use Rattle.wit_moves.specs.Plan.{OwnerPlaces}
-use Rattle.wit_finding.specs.Types.{type_found}
-use Rattle.wit_plans.specs.Checks.{Standing, InterfaceBreaks, SidesBreak, WorldBreaks}
-use Rattle.wit_plans.specs.Moves.{IsMovedWorld, AreMovedWorlds}
-use Rattle.wit_plans.specs.declared.moves.MovedWorld.{MovedWorld}
-use Rattle.wit_reach.specs.Holding.{HoldTheirTypes}
-use Rattle.wit_reach.specs.Ids.{side_ids}
-use Rattle.wit_reach.specs.Lists.{type_items}
-use Rattle.wit_reach.specs.Types.{AreTypesBackward, IsOfItem}
+use Rattle.wit_joined.specs.Passed.wit_order-Order.{Has}
+use Rattle.wit_joined.specs.Passed.wit_types-declared-interface-Interface.{Interface}
+use Rattle.wit_joined.specs.Passed.wit_types-declared-interface-TypeDef.{TypeDef}
+use Rattle.wit_joined.specs.Passed.wit_types-declared-interface-TypeOwner-TheVariants as belongs
+use Rattle.wit_joined.specs.Passed.wit_types-declared-world-World.{World}
+use Rattle.wit_joined.specs.Passed.wit_features-Features.{FeatureSet}
+use Rattle.wit_joined.specs.Passed.wit_moves-Breaks.{AnyOf, IsKept}
+use Rattle.wit_joined.specs.Passed.wit_moves-Moved.{Places, place_of}
+use Rattle.wit_joined.specs.Passed.wit_moves-Plan.{OwnerPlaces}
+use Rattle.wit_joined.specs.Passed.wit_finding-Types.{type_found}
+use Rattle.wit_joined.specs.Passed.wit_plans-Checks.{Standing, InterfaceBreaks, SidesBreak, WorldBreaks}
+use Rattle.wit_joined.specs.Passed.wit_plans-Moves.{IsMovedWorld, AreMovedWorlds}
+use Rattle.wit_joined.specs.Passed.wit_plans-declared-moves-MovedWorld.{MovedWorld}
+use Rattle.wit_joined.specs.Passed.wit_reach-Holding.{HoldTheirTypes}
+use Rattle.wit_joined.specs.Passed.wit_reach-Ids.{side_ids}
+use Rattle.wit_joined.specs.Passed.wit_reach-Lists.{type_items}
+use Rattle.wit_joined.specs.Passed.wit_reach-Types.{AreTypesBackward, IsOfItem}
 use Rattle.wit_placed.specs.There.{AreBelow, IsInterfaceThere}
 use Rattle.wit_placed.specs.Order.{AreBehind}
 use Rattle.wit_placed.specs.Worlds.{world_places}

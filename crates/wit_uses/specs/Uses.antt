@@ -1,20 +1,20 @@
 -- Interfaces and worlds take types of other interfaces under names of their own alone (WIT, Use).
 use Rattle.std.specs.Prelude.{◌≡◌, ◌⊎◌, ℕ, ◌+◌, true, List, Some, slice_get}
-use Rattle.wit_order.specs.Order.{Has}
-use Rattle.wit_types.specs.declared.kind.«Type».TheVariants as ref
-use Rattle.wit_types.specs.declared.kind.TypeDefKind.TheVariants as kind
-use Rattle.wit_types.specs.declared.interface.Interface.{Interface}
-use Rattle.wit_types.specs.declared.interface.TypeDef.{TypeDef}
-use Rattle.wit_types.specs.declared.interface.TypeOwner.{TypeOwner}
-use Rattle.wit_types.specs.declared.interface.TypeOwner.TheVariants as belongs
-use Rattle.wit_types.specs.declared.world.World.{World}
-use Rattle.wit_reach.specs.Deps.{AreUsed}
-use Rattle.wit_reach.specs.Holding.{listed_types, functions_ids}
-use Rattle.wit_reach.specs.Ids.{kind_ids}
-use Rattle.wit_reach.specs.Lists.{type_items}
-use Rattle.wit_reach.specs.Made.{is_open, IsMadeOfWithin}
-use Rattle.wit_reach.specs.Paths.{Reaches}
-use Rattle.wit_reach.specs.Types.{IsOfItem}
+use Rattle.wit_joined.specs.Passed.wit_order-Order.{Has}
+use Rattle.wit_joined.specs.Passed.wit_types-declared-kind-Type-TheVariants as ref
+use Rattle.wit_joined.specs.Passed.wit_types-declared-kind-TypeDefKind-TheVariants as kind
+use Rattle.wit_joined.specs.Passed.wit_types-declared-interface-Interface.{Interface}
+use Rattle.wit_joined.specs.Passed.wit_types-declared-interface-TypeDef.{TypeDef}
+use Rattle.wit_joined.specs.Passed.wit_types-declared-interface-TypeOwner.{TypeOwner}
+use Rattle.wit_joined.specs.Passed.wit_types-declared-interface-TypeOwner-TheVariants as belongs
+use Rattle.wit_joined.specs.Passed.wit_types-declared-world-World.{World}
+use Rattle.wit_joined.specs.Passed.wit_reach-Deps.{AreUsed}
+use Rattle.wit_joined.specs.Passed.wit_reach-Holding.{listed_types, functions_ids}
+use Rattle.wit_joined.specs.Passed.wit_reach-Ids.{kind_ids}
+use Rattle.wit_joined.specs.Passed.wit_reach-Lists.{type_items}
+use Rattle.wit_joined.specs.Passed.wit_reach-Made.{is_open, IsMadeOfWithin}
+use Rattle.wit_joined.specs.Passed.wit_reach-Paths.{Reaches}
+use Rattle.wit_joined.specs.Passed.wit_reach-Types.{IsOfItem}
 
 -- ---- by steps
 

@@ -5,7 +5,7 @@ ghost use Rattle.wit_uses.specs.Joined.{JoinedWorldsTakeByUse};
 ghost use Rattle.wit_uses.specs.Moved.{InterfacesStillTakeByUse, MovedInterfacesTakeByUse, MovedWorldsTakeByUse, PlacedWorldsTakeByUse};
 ghost use Rattle.wit_uses.specs.Uses.{TakenAreUsed};
 
-use wit_copied_trees::{law_included_sides_are_there, law_included_types_are_backward};
+use wit_joined::{law_included_sides_are_there, law_included_types_are_backward};
 use wit_placed::law_worlds_take_places_alone;
 
 /// All that an owner sees that its types are made of is its own, belongs nowhere, or is of an interface of which types that it lists use one,

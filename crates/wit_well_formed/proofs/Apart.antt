@@ -1,24 +1,24 @@
 -- No two interfaces of a package stand at one place.
 use Rattle.std.proofs.Common.{◌≡◌, ℕ, List, [], ◌∷◌, inl, inr, Some, map, refl, sym, ap, ◌∙◌}
 use Rattle.std.specs.Prelude.{slice_get, flat_map}
-use Rattle.wit_scopes.specs.declared.worlds.Side.{Side}
-use Rattle.wit_scopes.specs.declared.worlds.Side.TheVariants.{Import, Export}
-use Rattle.wit_scopes.specs.Members.{MemberTree}
-use Rattle.wit_scopes.specs.Scopes as scope
-use Rattle.wit_scopes.specs.Scopes.{ExternKind, ListedTree, WorldMemberTree, InterfaceScope, WorldScope, ItemScope}
-use Rattle.wit_rules.specs.Breaks.{IsKept}
-use Rattle.wit_rules.specs.Labels.{side_labels}
-use Rattle.wit_rules.specs.Facts as fact
-use Rattle.wit_rules.specs.Facts.{WorldBreaks}
-use Rattle.wit_rules.proofs.Apart.{givers_apart}
-use Rattle.wit_arena.specs.Tree.{Name, Place, in_interface, in_listed}
-use Rattle.wit_arena.specs.Meaning.{Has}
-use Rattle.wit_arena.proofs.Lists.{has_none, map_has}
-use Rattle.wit_resolved_scopes.specs.Each.{AreApartBy}
-use Rattle.wit_resolved_scopes.specs.Texts.{InterfaceText, interface_text, listed_text, extern_texts, member_texts, labelled_texts, interfaces_of, worlds_of, interface_texts}
-use Rattle.wit_readiness.proofs.Flat.{AtMostOne, has_one, in_flat, flat_apart}
-use Rattle.wit_readiness.proofs.Labelled.{labelled_given}
-use Rattle.wit_readiness.proofs.Parts.{side_keeps}
+use Rattle.wit_package.specs.Passed.wit_scopes-declared-worlds-Side.{Side}
+use Rattle.wit_package.specs.Passed.wit_scopes-declared-worlds-Side-TheVariants.{Import, Export}
+use Rattle.wit_package.specs.Passed.wit_scopes-Members.{MemberTree}
+use Rattle.wit_package.specs.Passed.wit_scopes-Scopes as scope
+use Rattle.wit_package.specs.Passed.wit_scopes-Scopes.{ExternKind, ListedTree, WorldMemberTree, InterfaceScope, WorldScope, ItemScope}
+use Rattle.wit_package.specs.Passed.wit_rules-Breaks.{IsKept}
+use Rattle.wit_package.specs.Passed.wit_rules-Labels.{side_labels}
+use Rattle.wit_package.specs.Passed.wit_rules-Facts as fact
+use Rattle.wit_package.specs.Passed.wit_rules-Facts.{WorldBreaks}
+use Rattle.wit_package.proofs.Passed.wit_rules-Apart.{givers_apart}
+use Rattle.wit_package.specs.Passed.wit_arena-Tree.{Name, Place, in_interface, in_listed}
+use Rattle.wit_package.specs.Passed.wit_arena-Meaning.{Has}
+use Rattle.wit_package.proofs.Passed.wit_arena-Lists.{has_none, map_has}
+use Rattle.wit_package.specs.Passed.wit_resolved_scopes-Each.{AreApartBy}
+use Rattle.wit_package.specs.Passed.wit_resolved_scopes-Texts.{InterfaceText, interface_text, listed_text, extern_texts, member_texts, labelled_texts, interfaces_of, worlds_of, interface_texts}
+use Rattle.wit_package.proofs.Passed.wit_readiness-Flat.{AtMostOne, has_one, in_flat, flat_apart}
+use Rattle.wit_package.proofs.Passed.wit_readiness-Labelled.{labelled_given}
+use Rattle.wit_package.proofs.Passed.wit_readiness-Parts.{side_keeps}
 use Rattle.wit_well_formed.proofs.Lists.{apart_behind, all_apart, map_apart}
 
 abbrev pub text_place : InterfaceText → Place

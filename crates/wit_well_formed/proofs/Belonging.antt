@@ -10,18 +10,18 @@ use Rattle.wit_types.specs.declared.interface.TypeDef.{TypeDef}
 use Rattle.wit_types.specs.declared.interface.TypeOwner.{TypeOwner}
 use Rattle.wit_types.specs.declared.interface.TypeOwner.TheVariants as belongs
 use Rattle.wit_types.specs.declared.«package».UnresolvedPackage.{UnresolvedPackage}
-use Rattle.wit_syntax.specs.Ast.{FileTree}
-use Rattle.wit_scopes.specs.Paths.{file_uses}
-use Rattle.wit_scopes.specs.Scopes.{package_scopes}
-use Rattle.wit_rules.specs.Breaks.{IsKept}
-use Rattle.wit_lookups.specs.Lookups.{LookupsBreak}
-use Rattle.wit_arena.specs.Meaning.{Has}
-use Rattle.wit_arena.proofs.Lists.{has_map, has_none}
-use Rattle.wit_foreign.specs.Needs.{NeedTree}
-use Rattle.wit_foreign.specs.Items.{interfaces_in, worlds_in}
-use Rattle.wit_foreign.proofs.Numbers.{interface_below}
-use Rattle.wit_resolved_scopes.proofs.Orders.{listed}
-use Rattle.wit_interfaces.specs.Listed.{IsListedAt}
+use Rattle.wit_package.specs.Passed.wit_syntax-Ast.{FileTree}
+use Rattle.wit_package.specs.Passed.wit_scopes-Paths.{file_uses}
+use Rattle.wit_package.specs.Passed.wit_scopes-Scopes.{package_scopes}
+use Rattle.wit_package.specs.Passed.wit_rules-Breaks.{IsKept}
+use Rattle.wit_package.specs.Passed.wit_lookups-Lookups.{LookupsBreak}
+use Rattle.wit_package.specs.Passed.wit_arena-Meaning.{Has}
+use Rattle.wit_package.proofs.Passed.wit_arena-Lists.{has_map, has_none}
+use Rattle.wit_package.specs.Passed.wit_foreign-Needs.{NeedTree}
+use Rattle.wit_package.specs.Passed.wit_foreign-Items.{interfaces_in, worlds_in}
+use Rattle.wit_package.proofs.Passed.wit_foreign-Numbers.{interface_below}
+use Rattle.wit_package.proofs.Passed.wit_resolved_scopes-Orders.{listed}
+use Rattle.wit_package.specs.Passed.wit_interfaces-Listed.{IsListedAt}
 use Rattle.wit_reach.specs.Deps.{interface_of}
 use Rattle.wit_reach.specs.Holding.{listed_types}
 use Rattle.wit_package.specs.TopUses.{files_need}

@@ -13,16 +13,16 @@ use Rattle.wit_types.specs.declared.stability.Stability.{Stability}
 use Rattle.wit_types.specs.declared.«package».AstItem.{AstItem}
 use Rattle.wit_types.specs.declared.«package».AstItem.TheVariants as ids
 use Rattle.wit_types.specs.declared.«package».PackageName.{PackageName}
-use Rattle.wit_arena.specs.Tree.{Owner}
-use Rattle.wit_arena.specs.Meaning.{Has}
-use Rattle.wit_arena.proofs.Lists.{map_has}
-use Rattle.wit_foreign.specs.Needs.{NeedTree}
-use Rattle.wit_foreign.specs.Items.{Items, world_count, interfaces_in, worlds_in, AreItemsOf}
-use Rattle.wit_foreign.specs.Unknown.{AreUnknown}
-use Rattle.wit_package_types.specs.Foreign.{ForeignName}
-use Rattle.wit_foreign.specs.Deps.{AreEntries, IsItemDep, AreItemDeps, IsPackageDep, AreDeps, ItemEntry, package_entries, package_span}
-use Rattle.wit_foreign.proofs.Numbers.{interface_number, world_number, interface_below}
-use Rattle.wit_resolved_scopes.proofs.Orders.{placed}
+use Rattle.wit_package.specs.Passed.wit_arena-Tree.{Owner}
+use Rattle.wit_package.specs.Passed.wit_arena-Meaning.{Has}
+use Rattle.wit_package.proofs.Passed.wit_arena-Lists.{map_has}
+use Rattle.wit_package.specs.Passed.wit_foreign-Needs.{NeedTree}
+use Rattle.wit_package.specs.Passed.wit_foreign-Items.{Items, world_count, interfaces_in, worlds_in, AreItemsOf}
+use Rattle.wit_package.specs.Passed.wit_foreign-Unknown.{AreUnknown}
+use Rattle.wit_package.specs.Passed.wit_package_types-Foreign.{ForeignName}
+use Rattle.wit_package.specs.Passed.wit_foreign-Deps.{AreEntries, IsItemDep, AreItemDeps, IsPackageDep, AreDeps, ItemEntry, package_entries, package_span}
+use Rattle.wit_package.proofs.Passed.wit_foreign-Numbers.{interface_number, world_number, interface_below}
+use Rattle.wit_package.proofs.Passed.wit_resolved_scopes-Orders.{placed}
 use Rattle.wit_finding.specs.Asks.{IsItemThere, AreItemsThere, AreDepsThere, items_of}
 use Rattle.wit_reach.proofs.Holding.{got}
 

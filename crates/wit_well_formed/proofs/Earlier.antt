@@ -6,21 +6,21 @@ use Rattle.wit_words.specs.Slice.{Slice}
 use Rattle.wit_types.specs.declared.interface.TypeOwner.{TypeOwner}
 use Rattle.wit_types.specs.declared.interface.TypeOwner.TheVariants as belongs
 use Rattle.wit_productions.specs.TypeTree.{TypeTree, TypeOption}
-use Rattle.wit_syntax.specs.Ast.{PackageNameTree, FileTree}
-use Rattle.wit_scopes.specs.Paths.{foreign}
-use Rattle.wit_scopes.specs.Members.{used}
-use Rattle.wit_scopes.specs.Scopes.{ItemScope, package_scopes}
-use Rattle.wit_arena.specs.Tree.{Name, PackageText, Place, in_interface, in_world, Owner, Tree, TreeOption, Trees}
-use Rattle.wit_arena.specs.Meaning as means
-use Rattle.wit_arena.specs.Meaning.{Declares, package_text, parts, Means, MeansPart, MeansParts, MeansName}
-use Rattle.wit_arena.specs.Unfold.{Owners, owner_of}
-use Rattle.wit_interfaces.proofs.Behind.{get_either}
-use Rattle.wit_resolved_scopes.specs.Each.{AreApartBy}
-use Rattle.wit_resolved_scopes.specs.Texts.{InterfaceText, interfaces_of, worlds_of, interface_texts, AreItemsSorted}
-use Rattle.wit_resolved_scopes.specs.Fit.{Foreign, AreInterfacesReady, AreWorldsReady}
-use Rattle.wit_type_names.specs.TypeNames.{field_parts, case_parts}
+use Rattle.wit_package.specs.Passed.wit_syntax-Ast.{PackageNameTree, FileTree}
+use Rattle.wit_package.specs.Passed.wit_scopes-Paths.{foreign}
+use Rattle.wit_package.specs.Passed.wit_scopes-Members.{used}
+use Rattle.wit_package.specs.Passed.wit_scopes-Scopes.{ItemScope, package_scopes}
+use Rattle.wit_package.specs.Passed.wit_arena-Tree.{Name, PackageText, Place, in_interface, in_world, Owner, Tree, TreeOption, Trees}
+use Rattle.wit_package.specs.Passed.wit_arena-Meaning as means
+use Rattle.wit_package.specs.Passed.wit_arena-Meaning.{Declares, package_text, parts, Means, MeansPart, MeansParts, MeansName}
+use Rattle.wit_package.specs.Passed.wit_arena-Unfold.{Owners, owner_of}
+use Rattle.wit_package.proofs.Passed.wit_interfaces-Behind.{get_either}
+use Rattle.wit_package.specs.Passed.wit_resolved_scopes-Each.{AreApartBy}
+use Rattle.wit_package.specs.Passed.wit_resolved_scopes-Texts.{InterfaceText, interfaces_of, worlds_of, interface_texts, AreItemsSorted}
+use Rattle.wit_package.specs.Passed.wit_resolved_scopes-Fit.{Foreign, AreInterfacesReady, AreWorldsReady}
+use Rattle.wit_labels.specs.Passed.wit_type_names-TypeNames.{field_parts, case_parts}
 use Rattle.wit_reach.specs.Holding.{IsUpTo}
-use Rattle.wit_copied_trees.proofs.Owners.{IsIn, IsInPart, IsInParts, has_value}
+use Rattle.wit_labels.proofs.Passed.wit_copied_trees-Owners.{IsIn, IsInPart, IsInParts, has_value}
 use Rattle.wit_well_formed.proofs.Nameless.{by_name}
 use Rattle.wit_well_formed.proofs.Apart.{text_place}
 use Rattle.wit_well_formed.proofs.Order.{no_world, in_front}

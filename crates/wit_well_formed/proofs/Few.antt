@@ -9,16 +9,16 @@ use Rattle.wit_types.specs.declared.stability.Stability.{Stability}
 use Rattle.wit_types.specs.declared.«package».AstItem.{AstItem}
 use Rattle.wit_types.specs.declared.«package».PackageName.{PackageName}
 use Rattle.wit_words.specs.declared.source_map.Span.{Span}
-use Rattle.wit_lookups.specs.declared.asks.Asked.{Asked}
-use Rattle.wit_lookups.specs.declared.asks.Asked.TheVariants.{Interface, World}
-use Rattle.wit_arena.specs.Tree.{Name, Owner}
-use Rattle.wit_arena.specs.Meaning.{Has}
-use Rattle.wit_foreign.specs.Needs.{NeedTree}
-use Rattle.wit_foreign.specs.Items.{Items, place_asked, need_owner}
-use Rattle.wit_foreign.specs.Groups.{package_key, item_key}
-use Rattle.wit_foreign.specs.Deps.{ItemEntry, PackageEntry, package_entries, IsItemDep, AreItemDeps, IsPackageDep, AreDeps}
-use Rattle.wit_resolved_scopes.specs.Each.{AreApartBy}
-use Rattle.wit_readiness.proofs.Flat.{in_flat}
+use Rattle.wit_package.specs.Passed.wit_lookups-declared-asks-Asked.{Asked}
+use Rattle.wit_package.specs.Passed.wit_lookups-declared-asks-Asked-TheVariants.{Interface, World}
+use Rattle.wit_package.specs.Passed.wit_arena-Tree.{Name, Owner}
+use Rattle.wit_package.specs.Passed.wit_arena-Meaning.{Has}
+use Rattle.wit_package.specs.Passed.wit_foreign-Needs.{NeedTree}
+use Rattle.wit_package.specs.Passed.wit_foreign-Items.{Items, place_asked, need_owner}
+use Rattle.wit_package.specs.Passed.wit_foreign-Groups.{package_key, item_key}
+use Rattle.wit_package.specs.Passed.wit_foreign-Deps.{ItemEntry, PackageEntry, package_entries, IsItemDep, AreItemDeps, IsPackageDep, AreDeps}
+use Rattle.wit_package.specs.Passed.wit_resolved_scopes-Each.{AreApartBy}
+use Rattle.wit_package.proofs.Passed.wit_readiness-Flat.{in_flat}
 use Rattle.wit_finding.specs.Asks.{items_of}
 use Rattle.wit_finding.specs.Foreign.{counts_of}
 use Rattle.wit_well_formed.proofs.Lists.{all_apart}

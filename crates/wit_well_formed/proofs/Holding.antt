@@ -18,29 +18,29 @@ use Rattle.wit_types.specs.declared.interface.TypeDef.{TypeDef}
 use Rattle.wit_types.specs.declared.interface.TypeOwner.{TypeOwner}
 use Rattle.wit_types.specs.declared.interface.TypeOwner.TheVariants as belongs
 use Rattle.wit_productions.specs.TypeTree.{TypeOption}
-use Rattle.wit_scopes.specs.Members.{MemberKind, MemberTree, used, defined, function, method, static, constructor}
-use Rattle.wit_arena.specs.Tree.{Name, Owner, Tree, Trees, resource_leaf, named_tree}
-use Rattle.wit_arena.specs.Table.{Entries}
-use Rattle.wit_arena.specs.Meaning.{Has, MeansParts, MeansName}
-use Rattle.wit_arena.specs.Standing.{HasTree}
-use Rattle.wit_arena.specs.Unfold.{Owners, kind_tree, named_kind_tree, owner_of, def_tree_of, trees, IsWhole}
-use Rattle.wit_arena.proofs.Lists.{has_map}
-use Rattle.wit_arena.proofs.Unfolding.{def_at, option_map_some}
-use Rattle.wit_functions.specs.Signature.{IsKindOf}
-use Rattle.wit_interfaces.specs.Interfaces.{IsInterfaceIn, AreInterfacesIn}
-use Rattle.wit_resolved_scopes.specs.InArena.{Context, IsTypeIn, IsFunctionIn}
-use Rattle.wit_resolved_scopes.specs.Meaning.{function_refs, written_parts}
-use Rattle.wit_resolved_scopes.specs.Scope.{functions_among}
-use Rattle.wit_resolved_scopes.specs.Texts.{InterfaceText}
-use Rattle.wit_resolved_scopes.proofs.Orders.{placed}
-use Rattle.wit_resolved_scopes.proofs.Eaches.{each_right}
+use Rattle.wit_package.specs.Passed.wit_scopes-Members.{MemberKind, MemberTree, used, defined, function, method, static, constructor}
+use Rattle.wit_package.specs.Passed.wit_arena-Tree.{Name, Owner, Tree, Trees, resource_leaf, named_tree}
+use Rattle.wit_package.specs.Passed.wit_arena-Table.{Entries}
+use Rattle.wit_package.specs.Passed.wit_arena-Meaning.{Has, MeansParts, MeansName}
+use Rattle.wit_package.specs.Passed.wit_arena-Standing.{HasTree}
+use Rattle.wit_package.specs.Passed.wit_arena-Unfold.{Owners, kind_tree, named_kind_tree, owner_of, def_tree_of, trees, IsWhole}
+use Rattle.wit_package.proofs.Passed.wit_arena-Lists.{has_map}
+use Rattle.wit_package.proofs.Passed.wit_arena-Unfolding.{def_at, option_map_some}
+use Rattle.wit_package.specs.Passed.wit_functions-Signature.{IsKindOf}
+use Rattle.wit_package.specs.Passed.wit_interfaces-Interfaces.{IsInterfaceIn, AreInterfacesIn}
+use Rattle.wit_package.specs.Passed.wit_resolved_scopes-InArena.{Context, IsTypeIn, IsFunctionIn}
+use Rattle.wit_package.specs.Passed.wit_resolved_scopes-Meaning.{function_refs, written_parts}
+use Rattle.wit_package.specs.Passed.wit_resolved_scopes-Scope.{functions_among}
+use Rattle.wit_package.specs.Passed.wit_resolved_scopes-Texts.{InterfaceText}
+use Rattle.wit_package.proofs.Passed.wit_resolved_scopes-Orders.{placed}
+use Rattle.wit_package.proofs.Passed.wit_resolved_scopes-Eaches.{each_right}
 use Rattle.wit_reach.specs.Holding.{IsUpTo, IsMadeUpTo, listed_types, functions_ids, AreNamedOwned, IsTypeUnder, HoldTheirTypes}
 use Rattle.wit_reach.specs.Ids.{ref_ids, part_ids, resource_ids, signature_ids, function_ids}
 use Rattle.wit_reach.specs.Types.{IsMadeOf}
 use Rattle.wit_reach.proofs.Ends.{closed_ends}
 use Rattle.wit_reach.proofs.Holding.{has_mapped, has_flat, got}
 use Rattle.wit_reach.proofs.Lists.{has_parts}
-use Rattle.wit_copied_trees.proofs.Owners.{IsIn, IsInParts, then_some, parts_within, made_within}
+use Rattle.wit_labels.proofs.Passed.wit_copied_trees-Owners.{IsIn, IsInParts, then_some, parts_within, made_within}
 use Rattle.wit_well_formed.proofs.Nameless.{by_name}
 use Rattle.wit_well_formed.proofs.Earlier.{IsOwnerUpTo}
 

@@ -5,14 +5,14 @@ use Rattle.std.specs.Prelude.{slice_get, flat_map, option_map, string_bytes}
 use Rattle.std.specs.declared.alloc.Global.{Global}
 use Rattle.wit_types.specs.declared.interface.Interface.{Interface}
 use Rattle.wit_types.specs.declared.«package».UnresolvedPackage.{UnresolvedPackage}
-use Rattle.wit_syntax.specs.Ast.{FileTree}
-use Rattle.wit_scopes.specs.Scopes.{InterfaceScope}
-use Rattle.wit_arena.specs.Tree.{Name}
-use Rattle.wit_foreign.specs.Items.{interfaces_in}
-use Rattle.wit_interfaces.proofs.Behind.{get_either}
-use Rattle.wit_resolved_scopes.specs.Texts.{InterfaceText, interface_text, labelled_texts, interfaces_of, worlds_of, interface_texts}
-use Rattle.wit_readiness.proofs.Flat.{in_flat}
-use Rattle.wit_readiness.proofs.Labelled.{labelled_given}
+use Rattle.wit_package.specs.Passed.wit_syntax-Ast.{FileTree}
+use Rattle.wit_package.specs.Passed.wit_scopes-Scopes.{InterfaceScope}
+use Rattle.wit_package.specs.Passed.wit_arena-Tree.{Name}
+use Rattle.wit_package.specs.Passed.wit_foreign-Items.{interfaces_in}
+use Rattle.wit_package.proofs.Passed.wit_interfaces-Behind.{get_either}
+use Rattle.wit_package.specs.Passed.wit_resolved_scopes-Texts.{InterfaceText, interface_text, labelled_texts, interfaces_of, worlds_of, interface_texts}
+use Rattle.wit_package.proofs.Passed.wit_readiness-Flat.{in_flat}
+use Rattle.wit_package.proofs.Passed.wit_readiness-Labelled.{labelled_given}
 use Rattle.wit_graph_parts.specs.Own.{asked, own_parts}
 use Rattle.wit_package.specs.Resolved.{IsResolved}
 use Rattle.wit_package.specs.Steps.{Resolves}

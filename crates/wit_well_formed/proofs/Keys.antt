@@ -6,15 +6,15 @@ use Rattle.wit_types.specs.declared.world.WorldItem.{WorldItem}
 use Rattle.wit_types.specs.declared.world_key.WorldKey.{WorldKey}
 use Rattle.wit_types.specs.declared.world_key.WorldKey.TheVariants as key
 use Rattle.wit_types.specs.WorldKey.{spelled, placed, known}
-use Rattle.wit_scopes.specs.declared.worlds.Side.TheVariants.{Import}
-use Rattle.wit_scopes.specs.Scopes as scope
-use Rattle.wit_scopes.specs.Scopes.{ExternKind, ListedTree, WorldMemberTree, WorldScope}
-use Rattle.wit_arena.specs.Tree.{Name}
-use Rattle.wit_arena.specs.Table.{Entries}
-use Rattle.wit_resolved_scopes.specs.Each.{Each}
-use Rattle.wit_resolved_scopes.specs.InArena.{Context}
-use Rattle.wit_resolved_scopes.specs.Texts.{side_members}
-use Rattle.wit_worlds.specs.Worlds.{Entry, IsTypeEntry, IsExternEntry, IsEntryOf, IsWorldIn}
+use Rattle.wit_package.specs.Passed.wit_scopes-declared-worlds-Side-TheVariants.{Import}
+use Rattle.wit_package.specs.Passed.wit_scopes-Scopes as scope
+use Rattle.wit_package.specs.Passed.wit_scopes-Scopes.{ExternKind, ListedTree, WorldMemberTree, WorldScope}
+use Rattle.wit_package.specs.Passed.wit_arena-Tree.{Name}
+use Rattle.wit_package.specs.Passed.wit_arena-Table.{Entries}
+use Rattle.wit_package.specs.Passed.wit_resolved_scopes-Each.{Each}
+use Rattle.wit_package.specs.Passed.wit_resolved_scopes-InArena.{Context}
+use Rattle.wit_package.specs.Passed.wit_resolved_scopes-Texts.{side_members}
+use Rattle.wit_package.specs.Passed.wit_worlds-Worlds.{Entry, IsTypeEntry, IsExternEntry, IsEntryOf, IsWorldIn}
 use Rattle.wit_reach.specs.Lists.{item_interface}
 use Rattle.wit_elaborated.specs.Worlds.{IsKeyOfItem, AreKeysOfItems}
 

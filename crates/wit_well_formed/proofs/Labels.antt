@@ -11,21 +11,21 @@ use Rattle.wit_types.specs.declared.interface.TypeDef.{TypeDef}
 use Rattle.wit_types.specs.declared.interface.TypeOwner.{TypeOwner}
 use Rattle.wit_productions.specs.TypeTree.{TypeTree}
 use Rattle.wit_items.specs.ItemTree.{FieldTree, LabelTree, CaseTree, TypeDefKindTree}
-use Rattle.wit_scopes.specs.Members.{MemberKind, MemberTree, defined}
-use Rattle.wit_scopes.specs.Scopes as scope
-use Rattle.wit_scopes.specs.Scopes.{ItemScope}
-use Rattle.wit_rules.specs.Breaks.{IsKept, NamesBreak}
-use Rattle.wit_rules.specs.Facts as fact
-use Rattle.wit_rules.specs.Facts.{MembersBreak, MemberBreaks, ScopesBreak}
-use Rattle.wit_rules.specs.Labels.{kind_names, names_within}
-use Rattle.wit_arena.specs.Tree.{Name, PackageText, Place, Owner, Tree, TreeOption, Trees, primitive, list_tree, fixed_length_list_tree, option_tree, tuple_tree, result_tree, future_tree, stream_tree, own_tree, borrow_tree, record_tree, flags_tree, enum_tree, variant_tree, resource_leaf, named_tree}
-use Rattle.wit_arena.specs.Meaning as meaning
-use Rattle.wit_arena.specs.Meaning.{Has, Declares, bare_name, Means, MeansName}
-use Rattle.wit_arena.specs.Shape.{ShapeTree, kind_shape}
-use Rattle.wit_arena.specs.Unfold.{Owners, and_then, part_trees, named_kind_tree, owner_of, def_tree_of, trees, IsWhole}
-use Rattle.wit_arena.specs.Standing.{Stands}
-use Rattle.wit_arena.proofs.Unfolding.{def_at}
-use Rattle.wit_readiness.proofs.Parts.{members_keep, listed_members_keep, world_keeps, world_member_keeps}
+use Rattle.wit_package.specs.Passed.wit_scopes-Members.{MemberKind, MemberTree, defined}
+use Rattle.wit_package.specs.Passed.wit_scopes-Scopes as scope
+use Rattle.wit_package.specs.Passed.wit_scopes-Scopes.{ItemScope}
+use Rattle.wit_package.specs.Passed.wit_rules-Breaks.{IsKept, NamesBreak}
+use Rattle.wit_package.specs.Passed.wit_rules-Facts as fact
+use Rattle.wit_package.specs.Passed.wit_rules-Facts.{MembersBreak, MemberBreaks, ScopesBreak}
+use Rattle.wit_package.specs.Passed.wit_rules-Labels.{kind_names, names_within}
+use Rattle.wit_package.specs.Passed.wit_arena-Tree.{Name, PackageText, Place, Owner, Tree, TreeOption, Trees, primitive, list_tree, fixed_length_list_tree, option_tree, tuple_tree, result_tree, future_tree, stream_tree, own_tree, borrow_tree, record_tree, flags_tree, enum_tree, variant_tree, resource_leaf, named_tree}
+use Rattle.wit_package.specs.Passed.wit_arena-Meaning as meaning
+use Rattle.wit_package.specs.Passed.wit_arena-Meaning.{Has, Declares, bare_name, Means, MeansName}
+use Rattle.wit_package.specs.Passed.wit_arena-Shape.{ShapeTree, kind_shape}
+use Rattle.wit_package.specs.Passed.wit_arena-Unfold.{Owners, and_then, part_trees, named_kind_tree, owner_of, def_tree_of, trees, IsWhole}
+use Rattle.wit_package.specs.Passed.wit_arena-Standing.{Stands}
+use Rattle.wit_package.proofs.Passed.wit_arena-Unfolding.{def_at}
+use Rattle.wit_package.proofs.Passed.wit_readiness-Parts.{members_keep, listed_members_keep, world_keeps, world_member_keeps}
 use Rattle.wit_labels.specs.Labels.{labels_of, HasLabelsApart}
 use Rattle.wit_well_formed.proofs.Nameless.{by_name}
 use Rattle.wit_well_formed.proofs.New.{names_new, read_through}

@@ -23,3 +23,4 @@ mod PlainNames
 pub mod PlainTexts
 pub mod OffsetNames
 pub mod InterfaceNames
+pub mod Passed

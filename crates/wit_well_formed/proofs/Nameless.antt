@@ -6,9 +6,9 @@ use Rattle.wit_types.specs.declared.kind.TypeDefKind.{TypeDefKind}
 use Rattle.wit_types.specs.declared.interface.TypeDef.{TypeDef}
 use Rattle.wit_types.specs.declared.interface.TypeOwner.{TypeOwner}
 use Rattle.wit_types.specs.declared.interface.TypeOwner.TheVariants as belongs
-use Rattle.wit_arena.specs.Tree.{Name, Owner, Tree, resource_leaf}
-use Rattle.wit_arena.specs.Unfold.{Owners, nameless_tree, def_tree_of, trees, IsWhole}
-use Rattle.wit_arena.proofs.Unfolding.{def_at}
+use Rattle.wit_package.specs.Passed.wit_arena-Tree.{Name, Owner, Tree, resource_leaf}
+use Rattle.wit_package.specs.Passed.wit_arena-Unfold.{Owners, nameless_tree, def_tree_of, trees, IsWhole}
+use Rattle.wit_package.proofs.Passed.wit_arena-Unfolding.{def_at}
 
 -- what is given for names of other packages: each by itself
 abbrev pub by_name : Owner → Name → Tree

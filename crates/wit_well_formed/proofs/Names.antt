@@ -10,35 +10,35 @@ use Rattle.wit_types.specs.declared.interface.Interface.{Interface}
 use Rattle.wit_types.specs.declared.interface.TypeDef.{TypeDef}
 use Rattle.wit_types.specs.declared.interface.TypeOwner.TheVariants as belongs
 use Rattle.wit_types.specs.declared.«package».UnresolvedPackage.{UnresolvedPackage}
-use Rattle.wit_syntax.specs.Ast.{FileTree}
-use Rattle.wit_scopes.specs.Members.{MemberKind, MemberTree, used, defined, function, method, static, constructor}
-use Rattle.wit_scopes.specs.Scopes.{ItemScope, package_scopes}
-use Rattle.wit_rules.specs.Breaks.{IsKept}
-use Rattle.wit_rules.specs.Facts as fact
-use Rattle.wit_rules.specs.Facts.{MembersBreak, ScopesBreak, IsDeclared}
-use Rattle.wit_rules.specs.Labels.{full_name, member_label}
-use Rattle.wit_rules.proofs.Apart.{apart}
-use Rattle.wit_orders.specs.Needs.{member_type, types_of}
-use Rattle.wit_arena.specs.Table.{Entries}
-use Rattle.wit_arena.specs.Meaning.{Has}
-use Rattle.wit_arena.specs.Standing.{IsOfType}
-use Rattle.wit_arena.specs.Tree.{Name}
-use Rattle.wit_arena.proofs.Lists.{map_has}
-use Rattle.wit_functions.specs.Signature.{IsFunction}
-use Rattle.wit_foreign.specs.Items.{interfaces_in}
-use Rattle.wit_interfaces.specs.Interfaces.{IsInterfaceIn}
-use Rattle.wit_interfaces.proofs.Behind.{get_either}
-use Rattle.wit_resolved_scopes.specs.InArena.{Context, IsTypeIn, IsFunctionIn}
-use Rattle.wit_resolved_scopes.specs.Scope.{member_function, functions_among}
-use Rattle.wit_resolved_scopes.specs.Texts.{InterfaceText, interface_text, labelled_texts, interfaces_of, worlds_of, interface_texts, AreItemsSorted}
-use Rattle.wit_resolved_scopes.proofs.Eaches.{each_right}
-use Rattle.wit_resolved_scopes.proofs.Orders.{placed, sorted_has, sorted_distinct}
-use Rattle.wit_readiness.proofs.Flat.{in_flat}
-use Rattle.wit_readiness.proofs.Labelled.{labelled_given}
-use Rattle.wit_readiness.proofs.Members.{types_are_apart, functions_are_apart}
-use Rattle.wit_readiness.proofs.Named.{type_label, type_given, function_given}
-use Rattle.wit_readiness.proofs.Parts.{declared_kept, members_keep, listed_members_keep, world_keeps}
-use Rattle.wit_placed.specs.Naming.{HasNamesApart}
+use Rattle.wit_package.specs.Passed.wit_syntax-Ast.{FileTree}
+use Rattle.wit_package.specs.Passed.wit_scopes-Members.{MemberKind, MemberTree, used, defined, function, method, static, constructor}
+use Rattle.wit_package.specs.Passed.wit_scopes-Scopes.{ItemScope, package_scopes}
+use Rattle.wit_package.specs.Passed.wit_rules-Breaks.{IsKept}
+use Rattle.wit_package.specs.Passed.wit_rules-Facts as fact
+use Rattle.wit_package.specs.Passed.wit_rules-Facts.{MembersBreak, ScopesBreak, IsDeclared}
+use Rattle.wit_package.specs.Passed.wit_rules-Labels.{full_name, member_label}
+use Rattle.wit_package.proofs.Passed.wit_rules-Apart.{apart}
+use Rattle.wit_package.specs.Passed.wit_orders-Needs.{member_type, types_of}
+use Rattle.wit_package.specs.Passed.wit_arena-Table.{Entries}
+use Rattle.wit_package.specs.Passed.wit_arena-Meaning.{Has}
+use Rattle.wit_package.specs.Passed.wit_arena-Standing.{IsOfType}
+use Rattle.wit_package.specs.Passed.wit_arena-Tree.{Name}
+use Rattle.wit_package.proofs.Passed.wit_arena-Lists.{map_has}
+use Rattle.wit_package.specs.Passed.wit_functions-Signature.{IsFunction}
+use Rattle.wit_package.specs.Passed.wit_foreign-Items.{interfaces_in}
+use Rattle.wit_package.specs.Passed.wit_interfaces-Interfaces.{IsInterfaceIn}
+use Rattle.wit_package.proofs.Passed.wit_interfaces-Behind.{get_either}
+use Rattle.wit_package.specs.Passed.wit_resolved_scopes-InArena.{Context, IsTypeIn, IsFunctionIn}
+use Rattle.wit_package.specs.Passed.wit_resolved_scopes-Scope.{member_function, functions_among}
+use Rattle.wit_package.specs.Passed.wit_resolved_scopes-Texts.{InterfaceText, interface_text, labelled_texts, interfaces_of, worlds_of, interface_texts, AreItemsSorted}
+use Rattle.wit_package.proofs.Passed.wit_resolved_scopes-Eaches.{each_right}
+use Rattle.wit_package.proofs.Passed.wit_resolved_scopes-Orders.{placed, sorted_has, sorted_distinct}
+use Rattle.wit_package.proofs.Passed.wit_readiness-Flat.{in_flat}
+use Rattle.wit_package.proofs.Passed.wit_readiness-Labelled.{labelled_given}
+use Rattle.wit_package.proofs.Passed.wit_readiness-Members.{types_are_apart, functions_are_apart}
+use Rattle.wit_package.proofs.Passed.wit_readiness-Named.{type_label, type_given, function_given}
+use Rattle.wit_package.proofs.Passed.wit_readiness-Parts.{declared_kept, members_keep, listed_members_keep, world_keeps}
+use Rattle.wit_labels.specs.Passed.wit_placed-Naming.{HasNamesApart}
 use Rattle.wit_package.specs.Faults.{by_files}
 use Rattle.wit_package.specs.TopUses.{files_need}
 use Rattle.wit_package.specs.Resolved.{IsResolved, context_of}

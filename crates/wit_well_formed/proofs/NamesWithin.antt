@@ -16,36 +16,36 @@ use Rattle.wit_types.specs.declared.world.WorldItem.{WorldItem}
 use Rattle.wit_types.specs.declared.world.WorldItem.TheVariants as item
 use Rattle.wit_types.specs.declared.world_key.WorldKey.{WorldKey}
 use Rattle.wit_types.specs.declared.«package».UnresolvedPackage.{UnresolvedPackage}
-use Rattle.wit_syntax.specs.Ast.{FileTree}
-use Rattle.wit_scopes.specs.declared.worlds.Side.{Side}
-use Rattle.wit_scopes.specs.declared.worlds.Side.TheVariants.{Import, Export}
-use Rattle.wit_scopes.specs.Members.{MemberTree}
-use Rattle.wit_scopes.specs.Scopes as scope
-use Rattle.wit_scopes.specs.Scopes.{ExternKind, ListedTree, WorldMemberTree, WorldScope, ItemScope, package_scopes}
-use Rattle.wit_rules.specs.Breaks.{IsKept, NamesBreak}
-use Rattle.wit_rules.specs.Facts as fact
-use Rattle.wit_rules.specs.Facts.{MembersBreak, ScopesBreak, WorldBreaks}
-use Rattle.wit_rules.specs.Labels.{names_within}
-use Rattle.wit_arena.specs.Tree.{Name, Place, in_world}
-use Rattle.wit_arena.specs.Table.{Entries}
-use Rattle.wit_arena.specs.Meaning.{Has}
-use Rattle.wit_arena.specs.Shape.{ShapeTree}
-use Rattle.wit_arena.specs.Arena.{IsUnnamed}
-use Rattle.wit_arena.specs.Standing.{Stands}
-use Rattle.wit_arena.proofs.Lists.{has_none, has_map}
-use Rattle.wit_foreign.specs.Items.{interfaces_in, worlds_in}
-use Rattle.wit_interfaces.specs.Interfaces.{IsInterfaceIn}
-use Rattle.wit_interfaces.specs.Listed.{IsListedAt, HasType, ImportsType}
-use Rattle.wit_interfaces.proofs.Behind.{get_either}
-use Rattle.wit_resolved_scopes.specs.Each as pairs
-use Rattle.wit_resolved_scopes.specs.InArena.{Context, IsTypeIn, IsFunctionIn}
-use Rattle.wit_resolved_scopes.specs.Scope.{member_function, functions_among}
-use Rattle.wit_resolved_scopes.specs.Texts.{InterfaceText, interface_texts, worlds_of, side_member, side_members}
-use Rattle.wit_resolved_scopes.proofs.Eaches.{each_right}
-use Rattle.wit_readiness.proofs.Flat.{in_flat}
-use Rattle.wit_readiness.proofs.Named.{function_given}
-use Rattle.wit_readiness.proofs.Parts.{world_keeps, world_member_keeps}
-use Rattle.wit_worlds.specs.Worlds.{Entry, IsTypeEntry, IsExternEntry, IsEntryOf, IsWorldIn}
+use Rattle.wit_package.specs.Passed.wit_syntax-Ast.{FileTree}
+use Rattle.wit_package.specs.Passed.wit_scopes-declared-worlds-Side.{Side}
+use Rattle.wit_package.specs.Passed.wit_scopes-declared-worlds-Side-TheVariants.{Import, Export}
+use Rattle.wit_package.specs.Passed.wit_scopes-Members.{MemberTree}
+use Rattle.wit_package.specs.Passed.wit_scopes-Scopes as scope
+use Rattle.wit_package.specs.Passed.wit_scopes-Scopes.{ExternKind, ListedTree, WorldMemberTree, WorldScope, ItemScope, package_scopes}
+use Rattle.wit_package.specs.Passed.wit_rules-Breaks.{IsKept, NamesBreak}
+use Rattle.wit_package.specs.Passed.wit_rules-Facts as fact
+use Rattle.wit_package.specs.Passed.wit_rules-Facts.{MembersBreak, ScopesBreak, WorldBreaks}
+use Rattle.wit_package.specs.Passed.wit_rules-Labels.{names_within}
+use Rattle.wit_package.specs.Passed.wit_arena-Tree.{Name, Place, in_world}
+use Rattle.wit_package.specs.Passed.wit_arena-Table.{Entries}
+use Rattle.wit_package.specs.Passed.wit_arena-Meaning.{Has}
+use Rattle.wit_package.specs.Passed.wit_arena-Shape.{ShapeTree}
+use Rattle.wit_package.specs.Passed.wit_arena-Arena.{IsUnnamed}
+use Rattle.wit_package.specs.Passed.wit_arena-Standing.{Stands}
+use Rattle.wit_package.proofs.Passed.wit_arena-Lists.{has_none, has_map}
+use Rattle.wit_package.specs.Passed.wit_foreign-Items.{interfaces_in, worlds_in}
+use Rattle.wit_package.specs.Passed.wit_interfaces-Interfaces.{IsInterfaceIn}
+use Rattle.wit_package.specs.Passed.wit_interfaces-Listed.{IsListedAt, HasType, ImportsType}
+use Rattle.wit_package.proofs.Passed.wit_interfaces-Behind.{get_either}
+use Rattle.wit_package.specs.Passed.wit_resolved_scopes-Each as pairs
+use Rattle.wit_package.specs.Passed.wit_resolved_scopes-InArena.{Context, IsTypeIn, IsFunctionIn}
+use Rattle.wit_package.specs.Passed.wit_resolved_scopes-Scope.{member_function, functions_among}
+use Rattle.wit_package.specs.Passed.wit_resolved_scopes-Texts.{InterfaceText, interface_texts, worlds_of, side_member, side_members}
+use Rattle.wit_package.proofs.Passed.wit_resolved_scopes-Eaches.{each_right}
+use Rattle.wit_package.proofs.Passed.wit_readiness-Flat.{in_flat}
+use Rattle.wit_package.proofs.Passed.wit_readiness-Named.{function_given}
+use Rattle.wit_package.proofs.Passed.wit_readiness-Parts.{world_keeps, world_member_keeps}
+use Rattle.wit_package.specs.Passed.wit_worlds-Worlds.{Entry, IsTypeEntry, IsExternEntry, IsEntryOf, IsWorldIn}
 use Rattle.wit_labels.specs.Labels.{HasLabelsApart, HasParametersApart, HaveParametersApart, functions_in, IsInterfaceApart, IsItemApart, IsSideApart, IsWorldApart}
 use Rattle.wit_labels.proofs.Every.{each_join, each_of}
 use Rattle.wit_package.specs.TopUses.{files_need}

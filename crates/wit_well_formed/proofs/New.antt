@@ -6,9 +6,9 @@ use Rattle.std.specs.Prelude.{slice_get, bytes_eq}
 use Rattle.std.specs.List.{list_any}
 use Rattle.distinct_names.specs.Names.{is_new, all_new}
 use Rattle.wit_words.specs.Slice.{Slice}
-use Rattle.wit_rules.specs.Breaks.{IsKept, NamesBreak}
-use Rattle.wit_rules.proofs.Apart.{apart}
-use Rattle.wit_arena.proofs.Lists.{get_kept, get_last}
+use Rattle.wit_package.specs.Passed.wit_rules-Breaks.{IsKept, NamesBreak}
+use Rattle.wit_package.proofs.Passed.wit_rules-Apart.{apart}
+use Rattle.wit_package.proofs.Passed.wit_arena-Lists.{get_kept, get_last}
 use Rattle.wit_well_formed.proofs.Lists.{got_mapped}
 
 abbrev Names : Type 0

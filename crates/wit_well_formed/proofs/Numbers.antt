@@ -9,16 +9,16 @@ use Rattle.wit_types.specs.declared.«package».AstItem.{AstItem}
 use Rattle.wit_types.specs.declared.«package».AstItem.TheVariants as ids
 use Rattle.wit_types.specs.declared.«package».PackageName.{PackageName}
 use Rattle.wit_words.specs.declared.source_map.Span.{Span}
-use Rattle.wit_arena.specs.Tree.{Owner}
-use Rattle.wit_arena.specs.Meaning.{Has}
-use Rattle.wit_arena.proofs.Lists.{get_split, has_here, has_left, has_right, has_cases, has_none}
-use Rattle.wit_foreign.specs.Needs.{NeedTree}
-use Rattle.wit_foreign.specs.Items.{Items, interfaces_in, worlds_in, need_owner, AreItemsOf}
-use Rattle.wit_foreign.proofs.Numbers.{interface_below, interface_alone, world_alone}
-use Rattle.wit_foreign.specs.Groups.{package_key, item_key, IsPart, no_part, of_key, of_another, AreParts}
-use Rattle.wit_foreign.specs.Deps.{ItemEntry, PackageEntry, package_entries, AreEntries, IsItemDep, IsPackageDep, AreDeps}
-use Rattle.wit_resolved_scopes.proofs.Readying.{either}
-use Rattle.wit_readiness.proofs.Flat.{has_one, flat_has}
+use Rattle.wit_package.specs.Passed.wit_arena-Tree.{Owner}
+use Rattle.wit_package.specs.Passed.wit_arena-Meaning.{Has}
+use Rattle.wit_package.proofs.Passed.wit_arena-Lists.{get_split, has_here, has_left, has_right, has_cases, has_none}
+use Rattle.wit_package.specs.Passed.wit_foreign-Needs.{NeedTree}
+use Rattle.wit_package.specs.Passed.wit_foreign-Items.{Items, interfaces_in, worlds_in, need_owner, AreItemsOf}
+use Rattle.wit_package.proofs.Passed.wit_foreign-Numbers.{interface_below, interface_alone, world_alone}
+use Rattle.wit_package.specs.Passed.wit_foreign-Groups.{package_key, item_key, IsPart, no_part, of_key, of_another, AreParts}
+use Rattle.wit_package.specs.Passed.wit_foreign-Deps.{ItemEntry, PackageEntry, package_entries, AreEntries, IsItemDep, IsPackageDep, AreDeps}
+use Rattle.wit_package.proofs.Passed.wit_resolved_scopes-Readying.{either}
+use Rattle.wit_package.proofs.Passed.wit_readiness-Flat.{has_one, flat_has}
 use Rattle.wit_finding.specs.Asks.{items_of}
 use Rattle.wit_finding.specs.Foreign.{with_item, with_items, with_deps, counts_of}
 use Rattle.wit_finding.specs.declared.counts.Counts.{Counts}

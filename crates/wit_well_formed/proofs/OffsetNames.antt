@@ -26,14 +26,14 @@ use Rattle.wit_types.specs.declared.world.WorldItem.TheVariants as item
 use Rattle.wit_types.specs.declared.world_key.WorldKey.{WorldKey}
 use Rattle.wit_types.specs.declared.world_key.WorldKey.TheVariants as key
 use Rattle.wit_offsets.specs.Offsets.{param_by, function_by, field_by, case_by, flag_by, enum_case_by, kind_by, type_def_by, interface_by, include_by, item_by, world_by, span_at}
-use Rattle.wit_plain_texts.specs.Plain.{IsPlain}
-use Rattle.wit_plain_texts.proofs.Scopes.{each_map}
+use Rattle.wit_labels.specs.Passed.wit_plain_texts-Plain.{IsPlain}
+use Rattle.wit_labels.proofs.Passed.wit_plain_texts-Scopes.{each_map}
 use Rattle.wit_labels.specs.Labels.{labels_of, HasLabelsApart, HasParametersApart, HaveParametersApart, functions_in, IsInterfaceApart, IsItemApart, IsSideApart, IsWorldApart}
 use Rattle.wit_labels.specs.Types.{IsOwnType, IsOwnItem, HasOwnTypes}
 use Rattle.wit_labels.specs.Plain.{ArePlainApart, AreUnderTheirNames, IsWorldUnderItsNames}
 use Rattle.wit_graph_parts.specs.Own.{asked}
 use Rattle.wit_reach.proofs.Holding.{has_mapped}
-use Rattle.wit_resolved_scopes.proofs.Orders.{listed, placed}
+use Rattle.wit_package.proofs.Passed.wit_resolved_scopes-Orders.{listed, placed}
 use Rattle.wit_well_formed.specs.Naming.{MovedInterfacesAreNamedApart}
 use Rattle.wit_well_formed.specs.Within.{MovedPackagesHaveNamesApart}
 use Rattle.wit_well_formed.specs.Plain.{MovedWorldsAreUnderTheirNames, AreOwnTypes, MovedWorldsHaveOwnTypes}

@@ -31,9 +31,9 @@ use Rattle.wit_reach.specs.Ids.{ref_ids, part_ids, kind_ids, resource_ids, funct
 use Rattle.wit_reach.specs.Types.{IsMadeOf}
 use Rattle.wit_reach.proofs.Seen.{path_over}
 use Rattle.wit_offsets.specs.Offsets.{items_by, param_by, function_by, field_by, case_by, kind_by, type_def_by, interface_by, item_by, world_by, package_by, span_at}
-use Rattle.wit_placed.specs.Order.{AreNamelessFree}
-use Rattle.wit_placed.specs.Listed.{AreOwnersBehind}
-use Rattle.wit_placed.specs.Naming.{AreNamesApart, HasNamesApart, HaveNamesApart}
+use Rattle.wit_labels.specs.Passed.wit_placed-Order.{AreNamelessFree}
+use Rattle.wit_labels.specs.Passed.wit_placed-Listed.{AreOwnersBehind}
+use Rattle.wit_labels.specs.Passed.wit_placed-Naming.{AreNamesApart, HasNamesApart, HaveNamesApart}
 use Rattle.wit_graph_parts.specs.Own.{asked, asked_types, IsWellFormed}
 use Rattle.wit_well_formed.specs.Law.{MovedPackagesAreWellFormed}
 use Rattle.wit_reach.proofs.Holding.{has_mapped}

@@ -4,20 +4,20 @@ use Rattle.std.proofs.lemmas.Option.{same_Some, slice_get-map, slice_get_within}
 use Rattle.std.proofs.lemmas.List.{length-map}
 use Rattle.std.specs.Prelude.{slice_get, flat_map, option_map}
 use Rattle.wit_words.specs.Slice.{Slice}
-use Rattle.wit_scopes.specs.Paths.{own}
-use Rattle.wit_scopes.specs.Members.{MemberKind, MemberTree, used}
-use Rattle.wit_scopes.specs.Scopes as scope
-use Rattle.wit_scopes.specs.Scopes.{ExternKind, InterfaceScope, WorldScope, ItemScope}
-use Rattle.wit_arena.specs.Tree.{Name, Place, in_interface, in_world, in_listed}
-use Rattle.wit_arena.specs.Meaning.{Has, Declares, interface_declares, world_declares, listed_declares}
-use Rattle.wit_arena.proofs.Lists.{has_here, has_left, has_right, has_map, map_has, get_kept}
-use Rattle.wit_interfaces.proofs.Behind.{get_either}
-use Rattle.wit_resolved_scopes.specs.Each.{AreApartBy}
-use Rattle.wit_resolved_scopes.specs.Texts.{InterfaceText, interface_text, listed_text, extern_texts, member_texts, labelled_texts, interfaces_of, worlds_of, interface_texts, AreItemsSorted}
-use Rattle.wit_resolved_scopes.specs.Fit.{Foreign, LeadsAmong, IsUsedAmong, IsInterfaceReady, AreInterfacesReady, AreWorldsReady}
-use Rattle.wit_resolved_scopes.proofs.Orders.{at_taken}
-use Rattle.wit_readiness.proofs.Flat.{in_flat, flat_has}
-use Rattle.wit_readiness.proofs.Labelled.{labelled_given}
+use Rattle.wit_package.specs.Passed.wit_scopes-Paths.{own}
+use Rattle.wit_package.specs.Passed.wit_scopes-Members.{MemberKind, MemberTree, used}
+use Rattle.wit_package.specs.Passed.wit_scopes-Scopes as scope
+use Rattle.wit_package.specs.Passed.wit_scopes-Scopes.{ExternKind, InterfaceScope, WorldScope, ItemScope}
+use Rattle.wit_package.specs.Passed.wit_arena-Tree.{Name, Place, in_interface, in_world, in_listed}
+use Rattle.wit_package.specs.Passed.wit_arena-Meaning.{Has, Declares, interface_declares, world_declares, listed_declares}
+use Rattle.wit_package.proofs.Passed.wit_arena-Lists.{has_here, has_left, has_right, has_map, map_has, get_kept}
+use Rattle.wit_package.proofs.Passed.wit_interfaces-Behind.{get_either}
+use Rattle.wit_package.specs.Passed.wit_resolved_scopes-Each.{AreApartBy}
+use Rattle.wit_package.specs.Passed.wit_resolved_scopes-Texts.{InterfaceText, interface_text, listed_text, extern_texts, member_texts, labelled_texts, interfaces_of, worlds_of, interface_texts, AreItemsSorted}
+use Rattle.wit_package.specs.Passed.wit_resolved_scopes-Fit.{Foreign, LeadsAmong, IsUsedAmong, IsInterfaceReady, AreInterfacesReady, AreWorldsReady}
+use Rattle.wit_package.proofs.Passed.wit_resolved_scopes-Orders.{at_taken}
+use Rattle.wit_package.proofs.Passed.wit_readiness-Flat.{in_flat, flat_has}
+use Rattle.wit_package.proofs.Passed.wit_readiness-Labelled.{labelled_given}
 use Rattle.wit_package.proofs.Scoping.{interface_in_order, world_in_order}
 use Rattle.wit_well_formed.proofs.Apart.{text_place}
 

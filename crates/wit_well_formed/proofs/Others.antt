@@ -6,18 +6,18 @@ use Rattle.std.specs.Prelude.{bytes_eq, option_map, unwrap_or, if◌then◌else�
 use Rattle.wit_words.specs.Slice.{Slice}
 use Rattle.wit_items.specs.ItemTree as tree
 use Rattle.wit_items.specs.ItemTree.{AttributeTree, GatedTree, UseTree, UseNameTree, ResourceFuncTree, TypeDefTree, InterfaceItemTree}
-use Rattle.wit_syntax.specs.Ast as ast
-use Rattle.wit_syntax.specs.Ast.{PackageNameTree, UsePathTree, ToplevelUseTree, ExternTree, WorldItemTree, AstItemTree, FileItemTree, FileTree}
-use Rattle.wit_scopes.specs.declared.worlds.Side.TheVariants.{Import, Export}
-use Rattle.wit_scopes.specs.Paths.{TargetTree, own, foreign, same_text, same_version, same_package, by_itself, known_name, used_target, target, item_uses}
-use Rattle.wit_scopes.specs.Members.{MemberKind, MemberTree, used, defined, function, method, static, constructor, used_member, uses_members, resource_member_kind, resource_member, resource_funcs, without_functions, member_of, type_members, interface_item_members, interface_members}
-use Rattle.wit_scopes.specs.Scopes as scope
-use Rattle.wit_scopes.specs.Scopes.{ExternKind, ListedTree, WorldMemberTree, InterfaceScope, WorldScope, ItemScope, extern_kind, world_item_members, world_members, ast_item_scopes, file_item_scopes, items_scopes, scopes_from, package_scopes}
-use Rattle.wit_arena.specs.Tree.{Name, PackageText, Place}
-use Rattle.wit_arena.specs.Meaning.{Has, Declares, package_text, interface_declares, world_declares, listed_declares}
-use Rattle.wit_arena.proofs.Lists.{has_none, has_cases, map_has}
-use Rattle.wit_resolved_scopes.proofs.Readying.{either}
-use Rattle.wit_readiness.proofs.Flat.{has_one, in_flat}
+use Rattle.wit_package.specs.Passed.wit_syntax-Ast as ast
+use Rattle.wit_package.specs.Passed.wit_syntax-Ast.{PackageNameTree, UsePathTree, ToplevelUseTree, ExternTree, WorldItemTree, AstItemTree, FileItemTree, FileTree}
+use Rattle.wit_package.specs.Passed.wit_scopes-declared-worlds-Side-TheVariants.{Import, Export}
+use Rattle.wit_package.specs.Passed.wit_scopes-Paths.{TargetTree, own, foreign, same_text, same_version, same_package, by_itself, known_name, used_target, target, item_uses}
+use Rattle.wit_package.specs.Passed.wit_scopes-Members.{MemberKind, MemberTree, used, defined, function, method, static, constructor, used_member, uses_members, resource_member_kind, resource_member, resource_funcs, without_functions, member_of, type_members, interface_item_members, interface_members}
+use Rattle.wit_package.specs.Passed.wit_scopes-Scopes as scope
+use Rattle.wit_package.specs.Passed.wit_scopes-Scopes.{ExternKind, ListedTree, WorldMemberTree, InterfaceScope, WorldScope, ItemScope, extern_kind, world_item_members, world_members, ast_item_scopes, file_item_scopes, items_scopes, scopes_from, package_scopes}
+use Rattle.wit_package.specs.Passed.wit_arena-Tree.{Name, PackageText, Place}
+use Rattle.wit_package.specs.Passed.wit_arena-Meaning.{Has, Declares, package_text, interface_declares, world_declares, listed_declares}
+use Rattle.wit_package.proofs.Passed.wit_arena-Lists.{has_none, has_cases, map_has}
+use Rattle.wit_package.proofs.Passed.wit_resolved_scopes-Readying.{either}
+use Rattle.wit_package.proofs.Passed.wit_readiness-Flat.{has_one, in_flat}
 
 -- ---- by test and by texts
 

@@ -9,28 +9,28 @@ use Rattle.wit_types.specs.declared.function.Param.{Param}
 use Rattle.wit_types.specs.declared.interface.TypeDef.{TypeDef}
 use Rattle.wit_types.specs.declared.world.WorldItem.{WorldItem}
 use Rattle.wit_types.specs.declared.world.WorldItem.TheVariants as item
-use Rattle.wit_scopes.specs.declared.worlds.Side.{Side}
-use Rattle.wit_scopes.specs.declared.worlds.Side.TheVariants.{Import, Export}
-use Rattle.wit_scopes.specs.Members.{MemberKind, MemberTree, used, defined, function, method, static, constructor}
-use Rattle.wit_scopes.specs.Scopes as scope
-use Rattle.wit_scopes.specs.Scopes.{ExternKind, ListedTree, WorldMemberTree}
-use Rattle.wit_rules.specs.Breaks.{IsKept, NamesBreak}
-use Rattle.wit_rules.specs.Facts as fact
-use Rattle.wit_rules.specs.Facts.{MemberBreaks, ExternBreaks, WorldMemberBreaks}
-use Rattle.wit_rules.specs.Labels.{param_names, names_within}
-use Rattle.wit_arena.specs.Tree.{Name}
-use Rattle.wit_arena.specs.Table.{Entries}
-use Rattle.wit_arena.specs.Meaning.{Has}
-use Rattle.wit_arena.specs.LowerKind.{Label}
-use Rattle.wit_arena.specs.LowerParams.{written_param, param_label}
-use Rattle.wit_arena.proofs.Lists.{has_none}
-use Rattle.wit_functions.specs.Signature.{params_of}
-use Rattle.wit_resolved_scopes.specs.InArena.{Context, IsFunctionOf}
-use Rattle.wit_resolved_scopes.specs.Scope.{function_of}
-use Rattle.wit_resolved_scopes.specs.Texts.{at_side, side_member}
-use Rattle.wit_readiness.proofs.Flat.{in_flat, has_one}
-use Rattle.wit_readiness.proofs.Named.{function_given}
-use Rattle.wit_worlds.specs.Worlds.{Entry, function_member, IsExternEntry, IsEntryOf}
+use Rattle.wit_package.specs.Passed.wit_scopes-declared-worlds-Side.{Side}
+use Rattle.wit_package.specs.Passed.wit_scopes-declared-worlds-Side-TheVariants.{Import, Export}
+use Rattle.wit_package.specs.Passed.wit_scopes-Members.{MemberKind, MemberTree, used, defined, function, method, static, constructor}
+use Rattle.wit_package.specs.Passed.wit_scopes-Scopes as scope
+use Rattle.wit_package.specs.Passed.wit_scopes-Scopes.{ExternKind, ListedTree, WorldMemberTree}
+use Rattle.wit_package.specs.Passed.wit_rules-Breaks.{IsKept, NamesBreak}
+use Rattle.wit_package.specs.Passed.wit_rules-Facts as fact
+use Rattle.wit_package.specs.Passed.wit_rules-Facts.{MemberBreaks, ExternBreaks, WorldMemberBreaks}
+use Rattle.wit_package.specs.Passed.wit_rules-Labels.{param_names, names_within}
+use Rattle.wit_package.specs.Passed.wit_arena-Tree.{Name}
+use Rattle.wit_package.specs.Passed.wit_arena-Table.{Entries}
+use Rattle.wit_package.specs.Passed.wit_arena-Meaning.{Has}
+use Rattle.wit_package.specs.Passed.wit_arena-LowerKind.{Label}
+use Rattle.wit_package.specs.Passed.wit_arena-LowerParams.{written_param, param_label}
+use Rattle.wit_package.proofs.Passed.wit_arena-Lists.{has_none}
+use Rattle.wit_package.specs.Passed.wit_functions-Signature.{params_of}
+use Rattle.wit_package.specs.Passed.wit_resolved_scopes-InArena.{Context, IsFunctionOf}
+use Rattle.wit_package.specs.Passed.wit_resolved_scopes-Scope.{function_of}
+use Rattle.wit_package.specs.Passed.wit_resolved_scopes-Texts.{at_side, side_member}
+use Rattle.wit_package.proofs.Passed.wit_readiness-Flat.{in_flat, has_one}
+use Rattle.wit_package.proofs.Passed.wit_readiness-Named.{function_given}
+use Rattle.wit_package.specs.Passed.wit_worlds-Worlds.{Entry, function_member, IsExternEntry, IsEntryOf}
 use Rattle.wit_labels.specs.Labels.{HasParametersApart, IsItemApart}
 use Rattle.wit_well_formed.proofs.New.{names_new, read_through}
 

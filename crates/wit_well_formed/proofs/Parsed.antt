@@ -2,8 +2,8 @@
 use Rattle.std.proofs.Common.{◌≡◌, ℕ, suc, List, [], ◌∷◌, inl, inr, length, Some, refl, sym, subst, ap, arith}
 use Rattle.std.specs.Prelude.{slice_get}
 use Rattle.wit_order.specs.Order.{Has}
-use Rattle.wit_syntax.specs.Ast.{FileTree}
-use Rattle.wit_nested.specs.Nested.{own_files, nested_files}
+use Rattle.wit_package.specs.Passed.wit_syntax-Ast.{FileTree}
+use Rattle.wit_package.specs.Passed.wit_nested-Nested.{own_files, nested_files}
 use Rattle.wit_types.specs.declared.«package».UnresolvedPackage.{UnresolvedPackage}
 use Rattle.wit_graph_parts.specs.Own.{IsWellFormed}
 use Rattle.wit_package.specs.Steps.{Resolves}

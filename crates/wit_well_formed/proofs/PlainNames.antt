@@ -17,25 +17,25 @@ use Rattle.wit_types.specs.declared.world_key.WorldKey.{WorldKey}
 use Rattle.wit_types.specs.declared.world_key.WorldKey.TheVariants as key
 use Rattle.wit_types.specs.WorldKey.{Known, spelled, placed as placed_at, known}
 use Rattle.wit_types.specs.declared.«package».UnresolvedPackage.{UnresolvedPackage}
-use Rattle.wit_scopes.specs.declared.worlds.Side.{Side}
-use Rattle.wit_scopes.specs.declared.worlds.Side.TheVariants.{Import, Export}
-use Rattle.wit_scopes.specs.Members.{MemberTree}
-use Rattle.wit_scopes.specs.Scopes as scope
-use Rattle.wit_scopes.specs.Scopes.{ExternKind, ListedTree, WorldMemberTree, InterfaceScope, WorldScope}
-use Rattle.wit_rules.specs.Labels.{full_name}
-use Rattle.wit_orders.specs.Needs.{types_of}
-use Rattle.wit_arena.specs.Tree.{Name, in_world}
-use Rattle.wit_arena.specs.Table.{Entries}
-use Rattle.wit_arena.specs.Meaning.{Has}
-use Rattle.wit_interfaces.proofs.Behind.{get_either}
-use Rattle.wit_resolved_scopes.specs.Each.{Each, AreApartBy}
-use Rattle.wit_resolved_scopes.specs.Fit.{Foreign, IsWorldReady}
-use Rattle.wit_resolved_scopes.specs.InArena.{Context, IsTypeIn}
-use Rattle.wit_resolved_scopes.specs.Texts as text
-use Rattle.wit_resolved_scopes.specs.Texts.{KeyText, plain, own_members, side_members, key_text}
-use Rattle.wit_resolved_scopes.proofs.Eaches.{each_right}
-use Rattle.wit_resolved_scopes.proofs.Orders.{placed, sorted_has, sorted_distinct}
-use Rattle.wit_worlds.specs.Worlds.{Entry, IsTypeEntry, IsExternEntry, IsEntryOf, IsWorldIn}
+use Rattle.wit_package.specs.Passed.wit_scopes-declared-worlds-Side.{Side}
+use Rattle.wit_package.specs.Passed.wit_scopes-declared-worlds-Side-TheVariants.{Import, Export}
+use Rattle.wit_package.specs.Passed.wit_scopes-Members.{MemberTree}
+use Rattle.wit_package.specs.Passed.wit_scopes-Scopes as scope
+use Rattle.wit_package.specs.Passed.wit_scopes-Scopes.{ExternKind, ListedTree, WorldMemberTree, InterfaceScope, WorldScope}
+use Rattle.wit_package.specs.Passed.wit_rules-Labels.{full_name}
+use Rattle.wit_package.specs.Passed.wit_orders-Needs.{types_of}
+use Rattle.wit_package.specs.Passed.wit_arena-Tree.{Name, in_world}
+use Rattle.wit_package.specs.Passed.wit_arena-Table.{Entries}
+use Rattle.wit_package.specs.Passed.wit_arena-Meaning.{Has}
+use Rattle.wit_package.proofs.Passed.wit_interfaces-Behind.{get_either}
+use Rattle.wit_package.specs.Passed.wit_resolved_scopes-Each.{Each, AreApartBy}
+use Rattle.wit_package.specs.Passed.wit_resolved_scopes-Fit.{Foreign, IsWorldReady}
+use Rattle.wit_package.specs.Passed.wit_resolved_scopes-InArena.{Context, IsTypeIn}
+use Rattle.wit_package.specs.Passed.wit_resolved_scopes-Texts as text
+use Rattle.wit_package.specs.Passed.wit_resolved_scopes-Texts.{KeyText, plain, own_members, side_members, key_text}
+use Rattle.wit_package.proofs.Passed.wit_resolved_scopes-Eaches.{each_right}
+use Rattle.wit_package.proofs.Passed.wit_resolved_scopes-Orders.{placed, sorted_has, sorted_distinct}
+use Rattle.wit_package.specs.Passed.wit_worlds-Worlds.{Entry, IsTypeEntry, IsExternEntry, IsEntryOf, IsWorldIn}
 use Rattle.wit_labels.specs.Types.{IsOwnType, IsOwnItem, HasOwnTypes}
 use Rattle.wit_labels.specs.Plain.{ArePlainApart, AreUnderTheirNames, IsWorldUnderItsNames}
 use Rattle.wit_package.specs.Resolved.{IsResolved, context_of}

@@ -16,38 +16,38 @@ use Rattle.wit_types.specs.declared.world.WorldItem.{WorldItem}
 use Rattle.wit_types.specs.declared.world_key.WorldKey.{WorldKey}
 use Rattle.wit_types.specs.declared.world_key.WorldKey.TheVariants as key
 use Rattle.wit_types.specs.declared.«package».UnresolvedPackage.{UnresolvedPackage}
-use Rattle.wit_syntax.specs.Ast.{IncludeNameTree, FileTree}
-use Rattle.wit_scopes.specs.declared.worlds.Side.{Side}
-use Rattle.wit_scopes.specs.declared.worlds.Side.TheVariants.{Import, Export}
-use Rattle.wit_scopes.specs.Members.{MemberTree}
-use Rattle.wit_scopes.specs.Scopes as scope
-use Rattle.wit_scopes.specs.Scopes.{ExternKind, ListedTree, IncludedTree, WorldMemberTree, InterfaceScope, WorldScope, ItemScope, package_scopes}
-use Rattle.wit_rules.specs.Labels.{full_name}
-use Rattle.wit_orders.specs.Needs.{member_type, types_of}
-use Rattle.wit_arena.specs.Tree.{Name}
-use Rattle.wit_arena.specs.Table.{Entries}
-use Rattle.wit_arena.specs.Meaning.{Has}
-use Rattle.wit_arena.proofs.Lists.{has_none, map_has}
-use Rattle.wit_foreign.specs.Items.{interfaces_in}
-use Rattle.wit_interfaces.proofs.Behind.{get_either}
-use Rattle.wit_nested.specs.Nested.{own_files, nested_files}
-use Rattle.wit_resolved_scopes.specs.Each.{Each}
-use Rattle.wit_resolved_scopes.specs.Fit.{Foreign, IsWorldReady}
-use Rattle.wit_resolved_scopes.specs.InArena.{Context}
-use Rattle.wit_resolved_scopes.specs.Texts as text
-use Rattle.wit_resolved_scopes.specs.Texts.{InterfaceText, interface_text, labelled_texts, interfaces_of, worlds_of, interface_texts, KeyText, plain, path, listed_member, own_member, own_members, side_member, side_members, included_in, includes_of, key_text}
-use Rattle.wit_resolved_scopes.proofs.Eaches.{each_right}
-use Rattle.wit_resolved_scopes.proofs.Orders.{listed, placed, sorted_has}
-use Rattle.wit_readiness.proofs.Flat.{in_flat, has_one}
-use Rattle.wit_readiness.proofs.Labelled.{labelled_given}
-use Rattle.wit_readiness.proofs.Named.{type_label, type_given}
-use Rattle.wit_worlds.specs.Worlds.{Entry, written_name, include_name, IsIncludeOf, IsEntryOf, IsWorldIn}
-use Rattle.wit_plain_texts.specs.Plain.{IsPlain}
-use Rattle.wit_plain_texts.specs.Trees.{IsPlainName, IsPlainFile}
-use Rattle.wit_plain_texts.specs.Law.{NamesOfTextsArePlain}
-use Rattle.wit_plain_texts.specs.Scopes.{IsPlainMember, IsPlainListed, IsPlainWorldMember, IsPlainScope}
-use Rattle.wit_plain_texts.proofs.Files.{names_of_texts_are_plain}
-use Rattle.wit_plain_texts.proofs.Scopes.{scopes_are_plain, packages_are_plain, nested_files_are_plain}
+use Rattle.wit_package.specs.Passed.wit_syntax-Ast.{IncludeNameTree, FileTree}
+use Rattle.wit_package.specs.Passed.wit_scopes-declared-worlds-Side.{Side}
+use Rattle.wit_package.specs.Passed.wit_scopes-declared-worlds-Side-TheVariants.{Import, Export}
+use Rattle.wit_package.specs.Passed.wit_scopes-Members.{MemberTree}
+use Rattle.wit_package.specs.Passed.wit_scopes-Scopes as scope
+use Rattle.wit_package.specs.Passed.wit_scopes-Scopes.{ExternKind, ListedTree, IncludedTree, WorldMemberTree, InterfaceScope, WorldScope, ItemScope, package_scopes}
+use Rattle.wit_package.specs.Passed.wit_rules-Labels.{full_name}
+use Rattle.wit_package.specs.Passed.wit_orders-Needs.{member_type, types_of}
+use Rattle.wit_package.specs.Passed.wit_arena-Tree.{Name}
+use Rattle.wit_package.specs.Passed.wit_arena-Table.{Entries}
+use Rattle.wit_package.specs.Passed.wit_arena-Meaning.{Has}
+use Rattle.wit_package.proofs.Passed.wit_arena-Lists.{has_none, map_has}
+use Rattle.wit_package.specs.Passed.wit_foreign-Items.{interfaces_in}
+use Rattle.wit_package.proofs.Passed.wit_interfaces-Behind.{get_either}
+use Rattle.wit_package.specs.Passed.wit_nested-Nested.{own_files, nested_files}
+use Rattle.wit_package.specs.Passed.wit_resolved_scopes-Each.{Each}
+use Rattle.wit_package.specs.Passed.wit_resolved_scopes-Fit.{Foreign, IsWorldReady}
+use Rattle.wit_package.specs.Passed.wit_resolved_scopes-InArena.{Context}
+use Rattle.wit_package.specs.Passed.wit_resolved_scopes-Texts as text
+use Rattle.wit_package.specs.Passed.wit_resolved_scopes-Texts.{InterfaceText, interface_text, labelled_texts, interfaces_of, worlds_of, interface_texts, KeyText, plain, path, listed_member, own_member, own_members, side_member, side_members, included_in, includes_of, key_text}
+use Rattle.wit_package.proofs.Passed.wit_resolved_scopes-Eaches.{each_right}
+use Rattle.wit_package.proofs.Passed.wit_resolved_scopes-Orders.{listed, placed, sorted_has}
+use Rattle.wit_package.proofs.Passed.wit_readiness-Flat.{in_flat, has_one}
+use Rattle.wit_package.proofs.Passed.wit_readiness-Labelled.{labelled_given}
+use Rattle.wit_package.proofs.Passed.wit_readiness-Named.{type_label, type_given}
+use Rattle.wit_package.specs.Passed.wit_worlds-Worlds.{Entry, written_name, include_name, IsIncludeOf, IsEntryOf, IsWorldIn}
+use Rattle.wit_labels.specs.Passed.wit_plain_texts-Plain.{IsPlain}
+use Rattle.wit_labels.specs.Passed.wit_plain_texts-Trees.{IsPlainName, IsPlainFile}
+use Rattle.wit_labels.specs.Passed.wit_plain_texts-Law.{NamesOfTextsArePlain}
+use Rattle.wit_labels.specs.Passed.wit_plain_texts-Scopes.{IsPlainMember, IsPlainListed, IsPlainWorldMember, IsPlainScope}
+use Rattle.wit_labels.proofs.Passed.wit_plain_texts-Files.{names_of_texts_are_plain}
+use Rattle.wit_labels.proofs.Passed.wit_plain_texts-Scopes.{scopes_are_plain, packages_are_plain, nested_files_are_plain}
 use Rattle.wit_labels.specs.Named.{ArePlainChanges}
 use Rattle.wit_labels.proofs.Every.{each_at, each_of}
 use Rattle.wit_labels.proofs.Naming.{sides_are_named}

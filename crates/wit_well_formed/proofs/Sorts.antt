@@ -5,25 +5,25 @@ use Rattle.std.proofs.lemmas.Option.{same_Some}
 use Rattle.std.specs.Prelude.{slice_get, flat_map}
 use Rattle.wit_words.specs.Slice.{Slice}
 use Rattle.wit_items.specs.ItemTree.{AttributeTree}
-use Rattle.wit_syntax.specs.Ast.{PackageNameTree, ToplevelUseTree}
-use Rattle.wit_scopes.specs.Paths.{TargetTree, own, foreign, by_itself}
-use Rattle.wit_scopes.specs.Members.{MemberKind, MemberTree, used, defined, function, method, static, constructor}
-use Rattle.wit_scopes.specs.Scopes as scope
-use Rattle.wit_scopes.specs.Scopes.{ExternKind, WorldMemberTree, ItemScope}
-use Rattle.wit_rules.specs.Breaks.{IsKept}
-use Rattle.wit_rules.specs.Labels.{target_text}
-use Rattle.wit_rules.specs.declared.fault.PackageRule.TheVariants.{WrongKind}
-use Rattle.wit_lookups.specs.declared.asks.Asked.{Asked}
-use Rattle.wit_lookups.specs.declared.asks.Asked.TheVariants.{Interface, World}
-use Rattle.wit_lookups.specs.Lookups.{AskTree, path_asks, kind_asks, member_asks, extern_asks, world_member_asks, item_asks, asks_in, LookupsBreak, by_asks}
-use Rattle.wit_arena.specs.Tree.{PackageText, Owner}
-use Rattle.wit_arena.specs.Meaning.{Has, package_text}
-use Rattle.wit_arena.proofs.Lists.{has_none, has_here}
-use Rattle.wit_foreign.specs.Needs.{NeedTree, path_needs, kind_needs, member_needs, extern_needs, world_member_needs, item_needs, needs_in}
-use Rattle.wit_foreign.specs.Items.{place_asked, owner_asked, need_owner}
-use Rattle.wit_resolved_scopes.proofs.Readying.{either}
-use Rattle.wit_readiness.proofs.Flat.{has_one, in_flat, flat_has}
-use Rattle.wit_worlds.proofs.Keys.{foreign_text}
+use Rattle.wit_package.specs.Passed.wit_syntax-Ast.{PackageNameTree, ToplevelUseTree}
+use Rattle.wit_package.specs.Passed.wit_scopes-Paths.{TargetTree, own, foreign, by_itself}
+use Rattle.wit_package.specs.Passed.wit_scopes-Members.{MemberKind, MemberTree, used, defined, function, method, static, constructor}
+use Rattle.wit_package.specs.Passed.wit_scopes-Scopes as scope
+use Rattle.wit_package.specs.Passed.wit_scopes-Scopes.{ExternKind, WorldMemberTree, ItemScope}
+use Rattle.wit_package.specs.Passed.wit_rules-Breaks.{IsKept}
+use Rattle.wit_package.specs.Passed.wit_rules-Labels.{target_text}
+use Rattle.wit_package.specs.Passed.wit_rules-declared-fault-PackageRule-TheVariants.{WrongKind}
+use Rattle.wit_package.specs.Passed.wit_lookups-declared-asks-Asked.{Asked}
+use Rattle.wit_package.specs.Passed.wit_lookups-declared-asks-Asked-TheVariants.{Interface, World}
+use Rattle.wit_package.specs.Passed.wit_lookups-Lookups.{AskTree, path_asks, kind_asks, member_asks, extern_asks, world_member_asks, item_asks, asks_in, LookupsBreak, by_asks}
+use Rattle.wit_package.specs.Passed.wit_arena-Tree.{PackageText, Owner}
+use Rattle.wit_package.specs.Passed.wit_arena-Meaning.{Has, package_text}
+use Rattle.wit_package.proofs.Passed.wit_arena-Lists.{has_none, has_here}
+use Rattle.wit_package.specs.Passed.wit_foreign-Needs.{NeedTree, path_needs, kind_needs, member_needs, extern_needs, world_member_needs, item_needs, needs_in}
+use Rattle.wit_package.specs.Passed.wit_foreign-Items.{place_asked, owner_asked, need_owner}
+use Rattle.wit_package.proofs.Passed.wit_resolved_scopes-Readying.{either}
+use Rattle.wit_package.proofs.Passed.wit_readiness-Flat.{has_one, in_flat, flat_has}
+use Rattle.wit_package.proofs.Passed.wit_worlds-Keys.{foreign_text}
 use Rattle.wit_package.specs.TopUses.{asks_for_world, asked_among, asked_in, top_needs, files_top_needs, with_top_uses}
 use Rattle.wit_package.proofs.Among.{world_by_texts, world_by_test, as_world, as_interface}
 

@@ -9,24 +9,24 @@ use Rattle.wit_types.specs.declared.function.Function.{Function}
 use Rattle.wit_types.specs.declared.world.World.{World}
 use Rattle.wit_types.specs.declared.«package».AstItem.TheVariants as ids
 use Rattle.wit_types.specs.declared.«package».UnresolvedPackage.{UnresolvedPackage}
-use Rattle.wit_syntax.specs.Ast.{FileTree}
-use Rattle.wit_scopes.specs.Paths.{file_uses}
-use Rattle.wit_scopes.specs.Scopes.{WorldScope, package_scopes}
-use Rattle.wit_rules.specs.Breaks.{IsKept}
-use Rattle.wit_rules.specs.Facts.{IsDeclared, WorldBreaks}
-use Rattle.wit_lookups.specs.Lookups.{LookupsBreak}
-use Rattle.wit_arena.specs.Meaning.{Has, package_text}
-use Rattle.wit_arena.specs.Tree.{Name, Place, in_interface, in_world, in_listed, Owner}
-use Rattle.wit_arena.proofs.Lists.{has_right, map_has}
-use Rattle.wit_foreign.specs.Needs.{NeedTree, needs_in}
-use Rattle.wit_foreign.specs.Items.{interfaces_in, worlds_in, IsNumbered}
-use Rattle.wit_interfaces.specs.Interfaces.{AreInterfacesIn}
-use Rattle.wit_interfaces.proofs.Behind.{get_either}
-use Rattle.wit_resolved_scopes.specs.Texts.{worlds_of, interface_texts}
-use Rattle.wit_resolved_scopes.proofs.Orders.{placed}
-use Rattle.wit_readiness.specs.Readiness.{AreReadyInOrder}
-use Rattle.wit_readiness.proofs.Ready.{packages_are_ready}
-use Rattle.wit_readiness.proofs.Parts.{declared_kept, world_keeps}
+use Rattle.wit_package.specs.Passed.wit_syntax-Ast.{FileTree}
+use Rattle.wit_package.specs.Passed.wit_scopes-Paths.{file_uses}
+use Rattle.wit_package.specs.Passed.wit_scopes-Scopes.{WorldScope, package_scopes}
+use Rattle.wit_package.specs.Passed.wit_rules-Breaks.{IsKept}
+use Rattle.wit_package.specs.Passed.wit_rules-Facts.{IsDeclared, WorldBreaks}
+use Rattle.wit_package.specs.Passed.wit_lookups-Lookups.{LookupsBreak}
+use Rattle.wit_package.specs.Passed.wit_arena-Meaning.{Has, package_text}
+use Rattle.wit_package.specs.Passed.wit_arena-Tree.{Name, Place, in_interface, in_world, in_listed, Owner}
+use Rattle.wit_package.proofs.Passed.wit_arena-Lists.{has_right, map_has}
+use Rattle.wit_package.specs.Passed.wit_foreign-Needs.{NeedTree, needs_in}
+use Rattle.wit_package.specs.Passed.wit_foreign-Items.{interfaces_in, worlds_in, IsNumbered}
+use Rattle.wit_package.specs.Passed.wit_interfaces-Interfaces.{AreInterfacesIn}
+use Rattle.wit_package.proofs.Passed.wit_interfaces-Behind.{get_either}
+use Rattle.wit_package.specs.Passed.wit_resolved_scopes-Texts.{worlds_of, interface_texts}
+use Rattle.wit_package.proofs.Passed.wit_resolved_scopes-Orders.{placed}
+use Rattle.wit_package.specs.Passed.wit_readiness-Readiness.{AreReadyInOrder}
+use Rattle.wit_package.proofs.Passed.wit_readiness-Ready.{packages_are_ready}
+use Rattle.wit_package.proofs.Passed.wit_readiness-Parts.{declared_kept, world_keeps}
 use Rattle.wit_reach.specs.Holding.{IsMadeUpTo, listed_types, functions_ids, IsTypeUnder, HoldTheirTypes}
 use Rattle.wit_reach.specs.Ids.{function_ids}
 use Rattle.wit_elaborated.specs.Worlds.{AreKeysOfItems}

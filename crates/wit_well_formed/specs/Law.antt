@@ -4,11 +4,11 @@ use Rattle.wit_words.specs.Sources.{SourceText}
 use Rattle.wit_order.specs.Order.{Has}
 use Rattle.wit_types.specs.declared.world.World.{World}
 use Rattle.wit_types.specs.declared.«package».UnresolvedPackage.{UnresolvedPackage}
-use Rattle.wit_syntax.specs.Ast.{FileTree}
+use Rattle.wit_package.specs.Passed.wit_syntax-Ast.{FileTree}
 use Rattle.wit_reach.specs.Holding.{HoldTheirTypes}
 use Rattle.wit_elaborated.specs.Worlds.{AreKeysOfItems}
 use Rattle.wit_finding.specs.Asks.{AreDepsThere, items_of}
-use Rattle.wit_placed.specs.Order.{AreNamelessFree}
+use Rattle.wit_labels.specs.Passed.wit_placed-Order.{AreNamelessFree}
 use Rattle.wit_graph_parts.specs.Own.{IsWellFormed}
 use Rattle.wit_package.specs.Group.{AreParsed}
 use Rattle.wit_package.specs.Steps.{Resolves}

@@ -4,3 +4,4 @@ pub mod Naming
 pub mod Within
 pub mod Plain
 pub mod Marks
+pub mod Passed

@@ -1,9 +1,9 @@
 -- Interfaces of a resolved package have all types of it that belong to an interface (WIT, Item: `interface`).
 use Rattle.std.specs.Prelude.{List}
 use Rattle.wit_types.specs.declared.«package».UnresolvedPackage.{UnresolvedPackage}
-use Rattle.wit_syntax.specs.Ast.{FileTree}
+use Rattle.wit_package.specs.Passed.wit_syntax-Ast.{FileTree}
 use Rattle.wit_reach.specs.Holding.{AreListed}
-use Rattle.wit_placed.specs.Listed.{AreOwnersBehind}
+use Rattle.wit_labels.specs.Passed.wit_placed-Listed.{AreOwnersBehind}
 use Rattle.wit_graph_parts.specs.Own.{asked, own_parts}
 use Rattle.wit_package.specs.Steps.{Resolves}
 

@@ -15,7 +15,7 @@ use Rattle.wit_labels.specs.Named.{IsWorldNamed}
 use Rattle.wit_graph_parts.specs.Own.{own_parts}
 use Rattle.wit_package.specs.Group.{AreParsed}
 use Rattle.wit_offsets.specs.Offsets.{package_at}
-use Rattle.wit_plain_texts.specs.Plain.{IsPlain}
+use Rattle.wit_labels.specs.Passed.wit_plain_texts-Plain.{IsPlain}
 
 -- plain names of one side of a world
 abbrev pub HasPlainSide : List (WorldKey × WorldItem) → Type 0

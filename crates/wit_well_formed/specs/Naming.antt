@@ -3,8 +3,8 @@ use Rattle.std.specs.Prelude.{◌≡◌, ℕ, List, Some, String, slice_get, str
 use Rattle.std.specs.declared.alloc.Global.{Global}
 use Rattle.wit_types.specs.declared.interface.Interface.{Interface}
 use Rattle.wit_types.specs.declared.«package».UnresolvedPackage.{UnresolvedPackage}
-use Rattle.wit_syntax.specs.Ast.{FileTree}
-use Rattle.wit_placed.specs.Naming.{HaveNamesApart}
+use Rattle.wit_package.specs.Passed.wit_syntax-Ast.{FileTree}
+use Rattle.wit_labels.specs.Passed.wit_placed-Naming.{HaveNamesApart}
 use Rattle.wit_graph_parts.specs.Own.{own_parts}
 use Rattle.wit_offsets.specs.Offsets.{package_at}
 use Rattle.wit_package.specs.Steps.{Resolves}

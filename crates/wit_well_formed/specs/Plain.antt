@@ -4,7 +4,7 @@ use Rattle.wit_types.specs.declared.interface.TypeDef.{TypeDef}
 use Rattle.wit_order.specs.Order.{Has}
 use Rattle.wit_types.specs.declared.world.World.{World}
 use Rattle.wit_types.specs.declared.«package».UnresolvedPackage.{UnresolvedPackage}
-use Rattle.wit_syntax.specs.Ast.{FileTree}
+use Rattle.wit_package.specs.Passed.wit_syntax-Ast.{FileTree}
 use Rattle.wit_labels.specs.Plain.{IsWorldUnderItsNames}
 use Rattle.wit_labels.specs.Types.{HasOwnTypes}
 use Rattle.wit_package.specs.Steps.{Resolves}

@@ -2,9 +2,9 @@
 use Rattle.std.specs.Prelude.{◌≡◌, ℕ, List, None, Some, slice_get}
 use Rattle.wit_types.specs.declared.interface.TypeDef.{TypeDef}
 use Rattle.wit_types.specs.declared.«package».UnresolvedPackage.{UnresolvedPackage}
-use Rattle.wit_syntax.specs.Ast.{FileTree}
-use Rattle.wit_arena.specs.Arena.{IsUnnamed}
-use Rattle.wit_arena.specs.Shape.{ShapeTree}
+use Rattle.wit_package.specs.Passed.wit_syntax-Ast.{FileTree}
+use Rattle.wit_package.specs.Passed.wit_arena-Arena.{IsUnnamed}
+use Rattle.wit_package.specs.Passed.wit_arena-Shape.{ShapeTree}
 use Rattle.wit_labels.specs.Labels.{AreNamesWithinApart}
 use Rattle.wit_package.specs.Steps.{Resolves}
 use Rattle.wit_offsets.specs.Offsets.{package_at}

@@ -26,6 +26,7 @@ pub use plain::{
     law_moved_worlds_are_under_their_names, law_moved_worlds_have_own_types,
     law_worlds_are_under_their_names, law_worlds_have_own_types,
 };
+pub use wit_package::{PackageFault, UnresolvedPackageGroup};
 pub use within::{
     law_moved_packages_have_names_apart, law_nameless_types_are_forms, law_names_within_are_apart,
 };

@@ -2,7 +2,7 @@
 use Rattle.std.proofs.Common.{◌≡◌, ℕ, ◌+◌, ◌≤◌, zero, suc, List, [], ◌∷◌, ◌++◌, length, length-append, Some, take, drop, sym, subst, ap, ◌∙◌, append-nil, append_assoc, add-one, arith}
 use Rattle.std.proofs.lemmas.Option.{same_Some}
 use Rattle.std.specs.Prelude.{slice_get, flat_map}
-use Rattle.wit_rules.proofs.Places.{taken}
+use Rattle.wit_foreign.proofs.Passed.wit_rules-Places.{taken}
 use Rattle.wit_scopes.proofs.Lists.{flat_map-push}
 use Rattle.wit_arena.proofs.Lists.{get_kept, get_last}
 use Rattle.wit_resolved_scopes.specs.Each.{Each}

@@ -11,7 +11,7 @@ use Rattle.wit_scopes.specs.Paths.{TargetTree, own, foreign}
 use Rattle.wit_scopes.specs.Members.{MemberTree}
 use Rattle.wit_scopes.specs.Scopes as scope
 use Rattle.wit_scopes.specs.Scopes.{ExternKind, ListedTree, WorldMemberTree}
-use Rattle.wit_rules.specs.Labels.{full_name, target_text}
+use Rattle.wit_foreign.specs.Passed.wit_rules-Labels.{full_name, target_text}
 use Rattle.wit_arena.specs.Tree.{Name, PackageText, in_interface, Owner}
 use Rattle.wit_arena.specs.Table.{Entries}
 use Rattle.wit_arena.specs.Meaning.{Has, package_text}

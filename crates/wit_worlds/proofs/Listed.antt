@@ -13,7 +13,7 @@ use Rattle.wit_scopes.specs.Scopes as scope
 use Rattle.wit_scopes.specs.Scopes.{ExternKind, ListedTree, IncludedTree, WorldMemberTree}
 use Rattle.wit_arena.specs.Tree.{Name}
 use Rattle.wit_arena.specs.Standing.{IsOfType}
-use Rattle.wit_functions.specs.Signature.{IsFunction}
+use Rattle.wit_resolved_scopes.specs.Passed.wit_functions-Signature.{IsFunction}
 use Rattle.wit_resolved_scopes.specs.Each.{Each}
 use Rattle.wit_resolved_scopes.specs.Scope.{member_function, functions_among}
 use Rattle.wit_resolved_scopes.specs.Texts.{listed_text, extern_texts, member_texts, listed_member, own_member, own_members, at_side, side_member, side_members, included_in, includes_of}

@@ -13,8 +13,8 @@ use Rattle.wit_scopes.specs.Scopes.{ExternKind, ListedTree, IncludedTree, WorldM
 use Rattle.wit_scopes.specs.declared.worlds.Side.TheVariants.{Import, Export}
 use Rattle.wit_arena.specs.Tree.{Name}
 use Rattle.wit_arena.specs.Standing.{IsOfType}
-use Rattle.wit_functions.specs.Signature.{IsFunction}
-use Rattle.wit_package_types.specs.Stability.{AreGates, IsStabilityOf}
+use Rattle.wit_resolved_scopes.specs.Passed.wit_functions-Signature.{IsFunction}
+use Rattle.wit_foreign.specs.Passed.wit_package_types-Stability.{AreGates, IsStabilityOf}
 use Rattle.wit_resolved_scopes.specs.Each.{Each}
 use Rattle.wit_resolved_scopes.specs.Scope.{functions_among}
 use Rattle.wit_resolved_scopes.specs.Texts.{InterfaceText, listed_text, member_texts, own_member, own_members, side_members, includes_of}

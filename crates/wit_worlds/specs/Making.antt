@@ -11,7 +11,7 @@ use Rattle.wit_arena.specs.Tree.{Name}
 use Rattle.wit_arena.specs.Table.{Entries}
 use Rattle.wit_arena.specs.Meaning.{Has}
 use Rattle.wit_arena.specs.Docs.{said, contents_of}
-use Rattle.wit_package_types.specs.Stability.{AreGates, IsStabilityOf}
+use Rattle.wit_foreign.specs.Passed.wit_package_types-Stability.{AreGates, IsStabilityOf}
 use Rattle.wit_resolved_scopes.specs.Each.{Each, AreApartBy}
 use Rattle.wit_resolved_scopes.specs.Scope.{functions_among}
 use Rattle.wit_resolved_scopes.specs.InArena.{IsFunctionOf}

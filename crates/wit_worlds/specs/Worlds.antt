@@ -18,13 +18,13 @@ use Rattle.wit_scopes.specs.Paths.{TargetTree, own, foreign}
 use Rattle.wit_scopes.specs.Members.{MemberTree, function}
 use Rattle.wit_scopes.specs.Scopes as scope
 use Rattle.wit_scopes.specs.Scopes.{ExternKind, ListedTree, IncludedTree, WorldMemberTree, WorldScope}
-use Rattle.wit_rules.specs.Labels.{full_name}
-use Rattle.wit_orders.specs.Needs.{types_of, AreSorted}
+use Rattle.wit_foreign.specs.Passed.wit_rules-Labels.{full_name}
+use Rattle.wit_resolved_scopes.specs.Passed.wit_orders-Needs.{types_of, AreSorted}
 use Rattle.wit_arena.specs.Tree.{Name, PackageText, Place, in_interface, in_world, in_listed, Owner}
 use Rattle.wit_arena.specs.Table.{Entries}
 use Rattle.wit_arena.specs.Docs.{said, contents_of}
 use Rattle.wit_arena.specs.Meaning.{package_text}
-use Rattle.wit_package_types.specs.Stability.{IsStabilityOf}
+use Rattle.wit_foreign.specs.Passed.wit_package_types-Stability.{IsStabilityOf}
 use Rattle.wit_resolved_scopes.specs.Each.{Each}
 use Rattle.wit_resolved_scopes.specs.InArena.{Context, own_owner, IsTypeIn, IsFunctionIn}
 use Rattle.wit_resolved_scopes.specs.Texts.{own_members, side_members, includes_of}

@@ -6,9 +6,7 @@ ghost use Rattle.wit_types.specs.declared.«package».AstItem.TheVariants as ids
 ghost use Rattle.wit_worlds.specs.Paths as spec;
 
 use name_places::FirstPlaces;
-use wit_foreign::ForeignItems;
-use wit_lookups::Asked;
-use wit_package_types::Known;
+use wit_foreign::{Asked, ForeignItems, Known};
 use wit_scopes::Target;
 use wit_types::{AstItem, InterfaceId, WorldId};
 

@@ -1,9 +1,9 @@
 use Rattle.std.proofs.Common.{rules, ◌≡◌, ◌-◌, ◌+◌, ◌++◌, List, ◌∷◌, map, take, drop, length, ap, sym, subst, ◌∙◌, arith}
 use Rattle.std.proofs.lemmas.List.{length-map}
 use Rattle.std.proofs.lemmas.Result.{err_from_is_err_and}
-use Rattle.component_entries.specs.Nested.{header}
+use Rattle.component_sections.specs.Passed.component_entries-Nested.{header}
 use Rattle.component_sections.specs.Component.{definition_value, first_section, section_of, section_bytes, IsSection}
-use Rattle.component_entries.proofs.Neighbours.{split_of}
+use Rattle.component_sections.proofs.Passed.component_entries-Neighbours.{split_of}
 use Rattle.component_sections.proofs.WholeSections.{sections_go_on, sections_stop}
 use Rattle.component_builder.specs.Pieces.{pieces_bytes}
 use Rattle.component_builder.proofs.Wholes.{all_written, all_typed, typed_sections}

@@ -1,7 +1,7 @@
 use Rattle.std.proofs.Common.{◌≤◌, ◌-◌, map, drop, length}
 use Rattle.component_sections.specs.Component.{definition_value, section_bytes, IsSection, sections_of}
-use Rattle.component_entries.specs.Nested.{header}
-use Rattle.component_entries.proofs.Neighbours.{Left}
+use Rattle.component_sections.specs.Passed.component_entries-Nested.{header}
+use Rattle.component_sections.proofs.Passed.component_entries-Neighbours.{Left}
 use Rattle.component_builder.specs.Pieces.{pieces_bytes}
 use Rattle.component_builder.proofs.pieces.pieces_of.Given as goal
 

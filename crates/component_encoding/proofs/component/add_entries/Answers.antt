@@ -4,7 +4,7 @@ use Rattle.std.proofs.lemmas.Iterator.Adapters.{YieldsList-from_vec}
 use Rattle.std.proofs.lemmas.Iterator.Consumers.{YieldsList-end}
 use Rattle.component_entries.specs.Entries.{entry_value}
 use Rattle.component_entries.specs.declared.entry.Entry.{Entry}
-use Rattle.type_sinks.specs.Placing.{as_definitions}
+use Rattle.linked_imports.specs.Passed.type_sinks-Placing.{as_definitions}
 use Rattle.component_encoding.proofs.Entries.{entry_next}
 use Rattle.component_encoding.proofs.component.add_entries.Goals as goal
 

@@ -1,14 +1,14 @@
 use Rattle.std.proofs.Common.{◌<◌, ◌++◌, length, map, sym, ap, subst, ◌∙◌}
 use Rattle.std.specs.Prelude.{slice_get}
 use Rattle.component_entries.specs.Entries.{entry_value}
-use Rattle.component_meaning.specs.Spaces.{meaning}
+use Rattle.linked_imports.specs.Passed.component_meaning-Spaces.{meaning}
 use Rattle.wasm_types.specs.Entries.{export_value}
-use Rattle.link_table.specs.Linking.{linking_value}
-use Rattle.link_table.specs.View.{AreLinksOfEntries}
-use Rattle.right_components.specs.Main.{main_of}
+use Rattle.linked_imports.specs.Passed.link_table-Linking.{linking_value}
+use Rattle.linked_imports.specs.Passed.link_table-View.{AreLinksOfEntries}
+use Rattle.linked_imports.specs.Passed.right_components-Main.{main_of}
 use Rattle.component_encoding.specs.Instances.{AreLowerable, IsInstantiated}
 use Rattle.component_encoding.specs.Exports.{AreTypes}
-use Rattle.type_sinks.specs.Placing.{as_definitions}
+use Rattle.linked_imports.specs.Passed.type_sinks-Placing.{as_definitions}
 use Rattle.component_encoding.proofs.Whole.{whole, places_there, exported_of}
 use Rattle.component_encoding.proofs.component.add_linked.Goals as goal
 

@@ -2,11 +2,11 @@ use Rattle.std.proofs.Common.{◌≡◌, Some, map, sym, ap, subst, ◌∙◌}
 use Rattle.std.specs.Prelude.{string_bytes}
 use Rattle.wasm_types.specs.declared.types.ExportKind.TheVariants as kinds
 use Rattle.wasm_types.specs.Entries.{export_value}
-use Rattle.component_meaning.specs.Core.{of_function}
-use Rattle.component_meaning.specs.Spaces.{core_at, meaning}
-use Rattle.link_table.specs.View.{name_at, options_value}
-use Rattle.right_components.specs.Ends.{AreOptionsOf}
-use Rattle.type_meaning.specs.Items.{type_at, is_function}
+use Rattle.linked_imports.specs.Passed.component_meaning-Core.{of_function}
+use Rattle.linked_imports.specs.Passed.component_meaning-Spaces.{core_at, meaning}
+use Rattle.linked_imports.specs.Passed.link_table-View.{name_at, options_value}
+use Rattle.linked_imports.specs.Passed.right_components-Ends.{AreOptionsOf}
+use Rattle.type_writing.specs.Passed.type_meaning-Items.{type_at, is_function}
 use Rattle.component_encoding.specs.Growing.{Offers, export_item}
 use Rattle.component_encoding.specs.Exports.{AreOffered}
 use Rattle.component_encoding.specs.Placing.{StayPlacedWith}

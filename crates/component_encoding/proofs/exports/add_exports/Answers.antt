@@ -2,7 +2,7 @@ use Rattle.std.proofs.Common.{refl, ◌≡◌, ◌<◌, [], Some, length, map, g
 use Rattle.std.proofs.lemmas.List.{append-nil}
 use Rattle.std.proofs.lemmas.Option.{slice_get-get_or, slice_get_read}
 use Rattle.std.specs.Prelude.{slice_get}
-use Rattle.component_meaning.specs.Spaces.{meaning}
+use Rattle.linked_imports.specs.Passed.component_meaning-Spaces.{meaning}
 use Rattle.wasm_types.specs.Entries.{export_value}
 use Rattle.component_encoding.proofs.Lists.{get_map}
 use Rattle.component_encoding.proofs.Exported.{exports_next, no_exports, all_exported}

@@ -1,9 +1,9 @@
 use Rattle.std.proofs.Common.{sym, ap, subst}
 use Rattle.std.specs.Prelude.{option_and_then}
 use Rattle.component_definitions.specs.declared.canonical.CanonicalOption.TheVariants as canonical
-use Rattle.component_meaning.specs.Spaces.{meaning}
-use Rattle.link_table.specs.View.{name_at, options_value}
-use Rattle.right_components.specs.Ends.{AreOptionsOf}
+use Rattle.linked_imports.specs.Passed.component_meaning-Spaces.{meaning}
+use Rattle.linked_imports.specs.Passed.link_table-View.{name_at, options_value}
+use Rattle.linked_imports.specs.Passed.right_components-Ends.{AreOptionsOf}
 use Rattle.component_encoding.proofs.Growth.{grows, main_stays}
 use Rattle.component_encoding.proofs.Staying.{option_for_stays, options_are}
 use Rattle.component_encoding.proofs.exports.take_options.Goals as goal

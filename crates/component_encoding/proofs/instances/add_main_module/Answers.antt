@@ -3,7 +3,7 @@ use Rattle.component_builder.specs.Builder.{index_behind}
 use Rattle.component_instances.specs.Instances.{core_argument_value}
 use Rattle.component_sections.specs.Component.{a_core_module}
 use Rattle.component_value_types.specs.Names.{named_value}
-use Rattle.right_components.specs.Main.{main_of}
+use Rattle.linked_imports.specs.Passed.right_components-Main.{main_of}
 use Rattle.wasm_format.specs.Module.{module_value}
 use Rattle.wasm_types.specs.Entries.{import_value}
 use Rattle.component_encoding.specs.Given.{under_value, AreGivenFor, MayBeGiven}

@@ -2,9 +2,9 @@ use Rattle.std.proofs.Common.{ap, ◌∙◌, inr}
 use Rattle.std.specs.Prelude.{nat_eq, List}
 use Rattle.std.specs.List.{list_any, AllByRecursion as Each}
 use Rattle.std.proofs.lemmas.Result.{IfErr-weaker, on_ok_weaker}
-use Rattle.type_writing.specs.Writing.{IsRemembered}
-use Rattle.type_writing.proofs.Standing.{on_ok_always}
-use Rattle.type_writing.proofs.Refusals.{cause_weaker}
+use Rattle.type_sinks.specs.Passed.type_writing-Writing.{IsRemembered}
+use Rattle.type_sinks.proofs.Passed.type_writing-Standing.{on_ok_always}
+use Rattle.type_sinks.proofs.Passed.type_writing-Refusals.{cause_weaker}
 use Rattle.type_sinks.specs.Kept.{index_of}
 use Rattle.type_sinks.specs.Views.{inside_setting, InsideIsGood, IsGiven}
 use Rattle.wit_types.specs.declared.interface.TypeDef.{TypeDef}

@@ -1,8 +1,8 @@
 use Rattle.std.proofs.Common.{ap, ◌∙◌, ◌++◌, subst}
 use Rattle.std.specs.List.{AllByRecursion as Each}
 use Rattle.std.proofs.lemmas.Result.{err_from_is_err_and}
-use Rattle.type_writing.specs.Writing.{Setting, Begins, HasItsName, names_of_types}
-use Rattle.type_writing.proofs.Refusals.{cause_weaker}
+use Rattle.type_sinks.specs.Passed.type_writing-Writing.{Setting, Begins, HasItsName, names_of_types}
+use Rattle.type_sinks.proofs.Passed.type_writing-Refusals.{cause_weaker}
 use Rattle.type_sinks.specs.declared.root.Root.{Root}
 use Rattle.type_sinks.specs.Views.{root_scope, inside_setting, IsGiven}
 use Rattle.component_imports.specs.Functions.{functions_of, function_names}

@@ -4,7 +4,7 @@ use Rattle.wit_reach.specs.Types.{AreTypesThere}
 use Rattle.component_imports.specs.Functions.{functions_of, HaveParametersApart}
 use Rattle.component_imports.specs.Interfaces.{ids_of, linked_of}
 use Rattle.std.proofs.lemmas.Result.{err_from_is_err_and}
-use Rattle.type_writing.proofs.Refusals.{cause_weaker}
+use Rattle.type_sinks.proofs.Passed.type_writing-Refusals.{cause_weaker}
 use Rattle.component_imports.proofs.Exported.{each_get}
 use Rattle.component_imports.proofs.Readied.{ready_imported}
 use Rattle.component_imports.proofs.Turns.{ready_now}

@@ -1,5 +1,5 @@
 use Rattle.std.specs.List.{AllByRecursion as Each}
-use Rattle.type_writing.specs.Placing.{AreLabelsApart}
+use Rattle.type_sinks.specs.Passed.type_writing-Placing.{AreLabelsApart}
 use Rattle.type_sinks.specs.Views.{RootIsPlaced}
 use Rattle.component_imports.specs.Functions.{HaveParametersApart}
 use Rattle.component_imports.specs.Interfaces.{linked_of}

@@ -3,7 +3,7 @@ use Rattle.std.specs.Prelude.{length}
 use Rattle.std.specs.List.{All}
 use Rattle.std.proofs.lemmas.Result.{IfOk-weaker, IfErr-weaker}
 use Rattle.component_imports.specs.Functions.{functions_of}
-use Rattle.type_writing.proofs.Refusals.{cause_weaker}
+use Rattle.type_sinks.proofs.Passed.type_writing-Refusals.{cause_weaker}
 use Rattle.component_imports.specs.Interface.{IsUnready}
 use Rattle.component_imports.specs.Interfaces.{ids_of}
 use Rattle.component_imports.proofs.Walked.{all_has, walked_there}

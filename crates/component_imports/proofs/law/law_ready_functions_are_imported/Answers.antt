@@ -1,4 +1,4 @@
-use Rattle.type_writing.specs.Writing.{IsRemembered}
+use Rattle.type_sinks.specs.Passed.type_writing-Writing.{IsRemembered}
 use Rattle.type_sinks.specs.Kept.{index_of}
 use Rattle.type_sinks.specs.Views.{root_setting, root_names}
 use Rattle.component_imports.proofs.Readied.{items_ready}

@@ -1,16 +1,16 @@
 use Rattle.std.proofs.Common.{take, ◌⊎◌, false, Option, subst, ◌∙◌, arith, ◌≡◌, ◌+◌, length}
 use Rattle.std.specs.Prelude.{List, ℕ}
 use Rattle.wit_types.specs.declared.function.Param.{Param}
-use Rattle.type_meaning.specs.Scope.{import_label}
-use Rattle.type_writing.proofs.Standing.{begins_on}
+use Rattle.type_sinks.specs.Passed.type_meaning-Scope.{import_label}
+use Rattle.type_sinks.proofs.Passed.type_writing-Standing.{begins_on}
 use Rattle.type_sinks.specs.Views.{root_scope, root_names, IsFunctionAt}
 use Rattle.component_imports.specs.Functions.{functions_of}
 use Rattle.std.proofs.lemmas.Result.{err_from_is_err_and}
 use Rattle.distinct_names.specs.Names.{is_new}
-use Rattle.type_writing.specs.Functions.{function_form}
-use Rattle.type_writing.specs.Refusals.{AreUnready}
-use Rattle.type_writing.specs.Writing.{IsRemembered}
-use Rattle.type_writing.proofs.Refusals.{cause_weaker}
+use Rattle.type_sinks.specs.Passed.type_writing-Functions.{function_form}
+use Rattle.type_sinks.specs.Passed.type_writing-Refusals.{AreUnready}
+use Rattle.type_sinks.specs.Passed.type_writing-Writing.{IsRemembered}
+use Rattle.type_sinks.proofs.Passed.type_writing-Refusals.{cause_weaker}
 use Rattle.type_sinks.specs.Kept.{index_of}
 use Rattle.component_imports.proofs.Exported.{names_next, parameters_at, functions_cause}
 use Rattle.component_imports.proofs.Worldly.{functions_at_stay, at_next}

@@ -1,6 +1,6 @@
 use Rattle.std.proofs.Common.{◌≡◌, ◌++◌, ◌+◌, List, length, take}
 use Rattle.wit_types.specs.declared.interface.TypeDef.{TypeDef}
-use Rattle.type_writing.specs.Writing.{Begins}
+use Rattle.type_sinks.specs.Passed.type_writing-Writing.{Begins}
 use Rattle.type_sinks.specs.Kept.{index_of}
 use Rattle.type_sinks.specs.Views.{root_scope, root_names, interface_names, RootIsGood, RootIsPlaced}
 use Rattle.component_imports.specs.Functions.{functions_of, function_names, HaveParametersApart}

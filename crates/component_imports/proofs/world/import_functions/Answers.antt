@@ -4,14 +4,14 @@ use Rattle.wit_order.specs.Order.{Has}
 use Rattle.wit_types.specs.declared.interface.TypeOwner.TheVariants as belongs
 use Rattle.wit_reach.specs.Paths.{AreEnds}
 use Rattle.wit_reach.specs.Made.{IsMadeOfWithin}
-use Rattle.type_writing.specs.Writing.{Setting, names_of_types}
-use Rattle.type_writing.proofs.Standing.{begins_on, begins_same}
+use Rattle.type_sinks.specs.Passed.type_writing-Writing.{Setting, names_of_types}
+use Rattle.type_sinks.proofs.Passed.type_writing-Standing.{begins_on, begins_same}
 use Rattle.type_sinks.specs.Views.{root_scope, root_names, root_setting}
 use Rattle.component_imports.specs.Functions.{functions_of, function_names}
 use Rattle.component_imports.specs.Interfaces.{ids_of}
 use Rattle.std.proofs.lemmas.Result.{err_from_is_err_and}
-use Rattle.type_writing.specs.Writing.{IsRemembered}
-use Rattle.type_writing.proofs.Refusals.{cause_weaker}
+use Rattle.type_sinks.specs.Passed.type_writing-Writing.{IsRemembered}
+use Rattle.type_sinks.proofs.Passed.type_writing-Refusals.{cause_weaker}
 use Rattle.type_sinks.specs.Kept.{index_of}
 use Rattle.component_imports.specs.World.{AreFunctionsAt, AreWorldItemsUnready}
 use Rattle.component_imports.proofs.Exported.{items_cause}

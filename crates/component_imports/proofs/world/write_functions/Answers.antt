@@ -3,10 +3,10 @@ use Rattle.std.proofs.lemmas.List.{take_all}
 use Rattle.std.proofs.lemmas.Result.{err_from_is_err_and}
 use Rattle.std.specs.Prelude.{List, ℕ, Option}
 use Rattle.wit_types.specs.declared.function.Param.{Param}
-use Rattle.type_writing.specs.Functions.{function_form, FunctionStands}
-use Rattle.type_writing.specs.Refusals.{AreUnready}
-use Rattle.type_writing.specs.Writing.{IsRemembered}
-use Rattle.type_writing.proofs.Refusals.{cause_weaker}
+use Rattle.type_sinks.specs.Passed.type_writing-Functions.{function_form, FunctionStands}
+use Rattle.type_sinks.specs.Passed.type_writing-Refusals.{AreUnready}
+use Rattle.type_sinks.specs.Passed.type_writing-Writing.{IsRemembered}
+use Rattle.type_sinks.proofs.Passed.type_writing-Refusals.{cause_weaker}
 use Rattle.type_sinks.specs.Kept.{index_of}
 use Rattle.type_sinks.specs.Root.{root_label}
 use Rattle.type_sinks.specs.Views.{root_scope, interface_names}

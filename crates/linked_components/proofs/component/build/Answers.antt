@@ -2,7 +2,7 @@ use Rattle.std.proofs.Common.{inl, inr, refl, map}
 use Rattle.std.proofs.lemmas.Result.{err_from_is_err_and}
 use Rattle.std.specs.Prelude.{string_bytes}
 use Rattle.core_links.specs.Names.{names_in}
-use Rattle.link_table.specs.Linking.{linking_value}
+use Rattle.encodable_worlds.specs.Passed.link_table-Linking.{linking_value}
 use Rattle.linked_components.proofs.component.build.Goals as goal
 
 pub table_of-requires-clause-packages : goal.table_of-requires-clause-packages

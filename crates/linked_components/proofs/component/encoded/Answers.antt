@@ -1,6 +1,6 @@
 use Rattle.std.proofs.Common.{map}
 use Rattle.std.specs.Prelude.{string_bytes}
-use Rattle.link_table.specs.Linking.{linking_value}
+use Rattle.encodable_worlds.specs.Passed.link_table-Linking.{linking_value}
 use Rattle.linked_components.specs.Build.{IsComponentCause}
 use Rattle.linked_components.specs.Faults.{of_writing}
 use Rattle.linked_components.proofs.Causes.{moved_up, writing_cause_is}

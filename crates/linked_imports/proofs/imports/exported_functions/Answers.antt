@@ -1,7 +1,7 @@
 use Rattle.std.proofs.Common.{[], ◌∷◌, sym, ap, ◌∙◌, arith}
 use Rattle.std.proofs.lemmas.List.{map-append}
 use Rattle.component_imports.specs.Functions.{functions_of}
-use Rattle.link_table.proofs.Walks.{exported_next}
+use Rattle.right_components.proofs.Passed.link_table-Walks.{exported_next}
 use Rattle.linked_imports.proofs.Found.{none_next}
 use Rattle.linked_imports.proofs.imports.exported_functions.Goals as goal
 use Rattle.linked_imports.proofs.imports.exported_functions.Goals.{in-Some+in_ok-push, in_default}

@@ -1,6 +1,6 @@
 use Rattle.std.proofs.Common.{◌≡◌, take}
 use Rattle.component_imports.specs.Functions.{functions_of}
-use Rattle.link_table.specs.Linking.{functions_at}
+use Rattle.right_components.specs.Passed.link_table-Linking.{functions_at}
 use Rattle.linked_imports.proofs.imports.exported_functions.Given as goal
 
 abbrev pub invariant-loop-entry : goal.invariant-loop-entry

@@ -1,17 +1,17 @@
 use Rattle.std.proofs.Common.{ℕ, refl, sym, subst, ap, ◌∙◌}
 use Rattle.std.proofs.lemmas.Result.{err_from_is_err_and}
 use Rattle.std.specs.Prelude.{◌++◌, List, Option, map, string_bytes}
-use Rattle.type_meaning.specs.Scope.{meaning, Scope}
+use Rattle.type_writing.specs.Passed.type_meaning-Scope.{meaning, Scope}
 use Rattle.type_writing.proofs.Refusals.{cause_weaker}
 use Rattle.type_writing.specs.Writing.{IsRemembered}
-use Rattle.type_sinks.specs.Kept.{index_of}
+use Rattle.component_imports.specs.Passed.type_sinks-Kept.{index_of}
 use Rattle.wit_order.specs.Order.{Has}
 use Rattle.wit_reach.specs.Types.{AreTypesThere}
-use Rattle.type_sinks.specs.Placing.{ArePlaced}
+use Rattle.component_imports.specs.Passed.type_sinks-Placing.{ArePlaced}
 use Rattle.component_imports.specs.Functions.{functions_of, HaveParametersApart}
 use Rattle.component_imports.specs.Interfaces.{ids_of, linked_of, asked}
 use Rattle.component_imports.specs.World.{HasUnwrittenType}
-use Rattle.link_table.specs.Linking.{linking_value, types_of, exported_functions}
+use Rattle.right_components.specs.Passed.link_table-Linking.{linking_value, types_of, exported_functions}
 use Rattle.linked_imports.specs.Imports.{AreImportsWritten, AreImportsListed}
 use Rattle.linked_imports.proofs.Importable.{needed_of, can_import, exported_ready}
 use Rattle.linked_imports.proofs.Listed.{imports_listed}

@@ -1,6 +1,6 @@
 use Rattle.std.proofs.Common.{◌++◌, ap, subst, ◌∙◌}
 use Rattle.std.specs.Prelude.{List, ℕ, OnOk, IfErr}
-use Rattle.wit_order.specs.Order.{Has}
+use Rattle.wit_types.specs.Passed.wit_order-Order.{Has}
 use Rattle.linked_types.specs.Reached.{functions, ids_of, AreTypesLinked, IsTypeCause}
 use Rattle.linked_types.proofs.Walks.{Looked, order_there, if_linked, if_not}
 use Rattle.linked_types.proofs.functions.check_functions.Goals as goal

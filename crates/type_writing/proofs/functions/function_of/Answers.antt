@@ -1,6 +1,6 @@
 use Rattle.std.proofs.Common.{Some, map, sym, ap, subst}
 use Rattle.std.proofs.lemmas.Result.{err_from_is_err_and}
-use Rattle.component_value_types.specs.declared.values.ValueType.{ValueType}
+use Rattle.type_meaning.specs.Passed.component_value_types-declared-values-ValueType.{ValueType}
 use Rattle.wit_types.specs.declared.function.Param.{Param}
 use Rattle.type_meaning.specs.Tree.{function_kind}
 use Rattle.type_meaning.specs.Syntax.{labelled}

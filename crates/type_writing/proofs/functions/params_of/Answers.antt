@@ -1,8 +1,8 @@
 use Rattle.std.proofs.Common.{Some}
 use Rattle.std.proofs.lemmas.Result.{err_from_is_err_and}
 use Rattle.std.specs.Prelude.{string_bytes}
-use Rattle.component_value_types.specs.declared.named.Named.{Named}
-use Rattle.component_value_types.specs.declared.values.ValueType.{ValueType}
+use Rattle.type_meaning.specs.Passed.component_value_types-declared-named-Named.{Named}
+use Rattle.type_meaning.specs.Passed.component_value_types-declared-values-ValueType.{ValueType}
 use Rattle.wit_types.specs.declared.function.Param.{Param}
 use Rattle.type_writing.specs.Writing.{IsRemembered}
 use Rattle.type_writing.proofs.Refusals.{part_cause}

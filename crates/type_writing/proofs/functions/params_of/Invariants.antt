@@ -1,6 +1,6 @@
 use Rattle.std.proofs.Common.{◌≡◌, List, Some, map, take}
 use Rattle.std.specs.Prelude.{string_bytes}
-use Rattle.component_value_types.specs.Names.{named_value}
+use Rattle.type_meaning.specs.Passed.component_value_types-Names.{named_value}
 use Rattle.type_meaning.specs.Syntax.{names_of}
 use Rattle.wit_types.specs.declared.interface.TypeDef.{TypeDef}
 use Rattle.type_writing.specs.Writing.{PartsStand}

@@ -1,6 +1,6 @@
 use Rattle.std.proofs.Common.{[], ◌∷◌, ap}
 use Rattle.std.proofs.lemmas.Result.{IfOk-weaker, IfErr-weaker, err_from_is_err_and}
-use Rattle.component_value_types.specs.Types.{function, function_type_value}
+use Rattle.type_meaning.specs.Passed.component_value_types-Types.{function, function_type_value}
 use Rattle.type_writing.specs.Writing.{Setting}
 use Rattle.type_writing.proofs.Standing.{begins_here, begins_same, in_either, function_stands}
 use Rattle.type_writing.proofs.Placing.{function_placed}

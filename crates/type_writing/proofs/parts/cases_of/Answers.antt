@@ -1,7 +1,7 @@
 use Rattle.std.specs.Prelude.{string_bytes}
-use Rattle.component_value_types.specs.declared.named.Named.{Named}
-use Rattle.component_value_types.specs.declared.types.CaseType.{CaseType}
-use Rattle.component_value_types.specs.Types.{case_value}
+use Rattle.type_meaning.specs.Passed.component_value_types-declared-named-Named.{Named}
+use Rattle.type_meaning.specs.Passed.component_value_types-declared-types-CaseType.{CaseType}
+use Rattle.type_meaning.specs.Passed.component_value_types-Types.{case_value}
 use Rattle.wit_types.specs.declared.kind.Case.{Case}
 use Rattle.type_writing.proofs.Standing.{parts_next, labels_next, case_stands}
 use Rattle.type_writing.proofs.parts.cases_of.Goals as goal

@@ -1,7 +1,7 @@
 use Rattle.std.proofs.Common.{◌≡◌, List, map, take}
 use Rattle.std.specs.Prelude.{string_bytes}
-use Rattle.component_value_types.specs.Names.{named_value}
-use Rattle.component_value_types.specs.Types.{case_value}
+use Rattle.type_meaning.specs.Passed.component_value_types-Names.{named_value}
+use Rattle.type_meaning.specs.Passed.component_value_types-Types.{case_value}
 use Rattle.type_meaning.specs.Syntax.{names_of}
 use Rattle.wit_types.specs.declared.interface.TypeDef.{TypeDef}
 use Rattle.type_writing.specs.Writing.{PartsStand}

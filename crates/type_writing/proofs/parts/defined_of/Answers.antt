@@ -1,7 +1,7 @@
 use Rattle.std.proofs.Common.{[], Some, Option, map, refl, sym, ap, subst}
 use Rattle.std.specs.Prelude.{string_bytes}
-use Rattle.component_value_types.specs.declared.values.ValueType.{ValueType}
-use Rattle.component_value_types.specs.Types.{case_value}
+use Rattle.type_meaning.specs.Passed.component_value_types-declared-values-ValueType.{ValueType}
+use Rattle.type_meaning.specs.Passed.component_value_types-Types.{case_value}
 use Rattle.wit_types.specs.declared.kind.Field.{Field}
 use Rattle.wit_types.specs.declared.kind.Case.{Case}
 use Rattle.wit_types.specs.declared.kind.Flag.{Flag}

@@ -1,6 +1,6 @@
 use Rattle.std.proofs.Common.{Some}
 use Rattle.std.proofs.lemmas.Result.{err_from_is_err_and}
-use Rattle.component_value_types.specs.declared.values.ValueType.{ValueType}
+use Rattle.type_meaning.specs.Passed.component_value_types-declared-values-ValueType.{ValueType}
 use Rattle.wit_types.specs.declared.kind.«Type».{«Type» as Ref}
 use Rattle.type_writing.specs.Writing.{IsRemembered}
 use Rattle.type_writing.proofs.Refusals.{part_cause}

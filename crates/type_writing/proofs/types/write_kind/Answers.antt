@@ -1,6 +1,6 @@
 use Rattle.std.proofs.Common.{[], ◌∷◌, ap}
 use Rattle.std.proofs.lemmas.Result.{IfOk-weaker, IfErr-weaker}
-use Rattle.component_value_types.specs.Types.{defined_type_value}
+use Rattle.type_meaning.specs.Passed.component_value_types-Types.{defined_type_value}
 use Rattle.type_writing.specs.Writing.{Setting}
 use Rattle.type_writing.proofs.Standing.{begins_here, begins_same, in_either, defined_stands}
 use Rattle.type_writing.proofs.Placing.{defined_placed}

@@ -1,6 +1,6 @@
 use Rattle.std.proofs.Common.{◌≡◌, ◌⊎◌, ◌++◌, ℕ, take}
 use Rattle.std.specs.List.{AllByRecursion as Each}
-use Rattle.wit_order.specs.Order.{Has}
+use Rattle.wit_types.specs.Passed.wit_order-Order.{Has}
 use Rattle.type_writing.specs.Placing.{AreLabelsApart}
 use Rattle.type_writing.specs.Writing.{Begins, HasItsName, names_of_types, IsRemembered}
 use Rattle.type_writing.proofs.types.write_types.Given as goal

@@ -3,8 +3,8 @@ use Rattle.std.proofs.lemmas.Simd.{map-map}
 use Rattle.wit_types.specs.declared.kind.Enum.{Enum}
 use Rattle.wit_types.specs.declared.kind.TypeDefKind.TheVariants as kind
 use Rattle.wit_types.specs.declared.interface.TypeDef.{TypeDef}
-use Rattle.wit_items.specs.ItemTree as item
-use Rattle.wit_syntax.specs.AstView as view
+use Rattle.wit_type_names.specs.Passed.wit_items-ItemTree as item
+use Rattle.wit_type_names.specs.Passed.wit_syntax-AstView as view
 use Rattle.wit_arena.specs.LowerKind.{written_label, LowersKind, lowers_enum}
 use Rattle.wit_arena.proofs.Rows.{no_types_in, none_there}
 use Rattle.wit_arena.proofs.definitions.lower_enum.Goals as goal

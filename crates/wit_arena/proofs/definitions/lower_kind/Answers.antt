@@ -1,8 +1,8 @@
 use Rattle.std.proofs.Common.{map, sym, subst}
 use Rattle.wit_types.specs.declared.kind.TypeDefKind.TheVariants as kind
-use Rattle.wit_productions.specs.TypeView.{type_tree}
-use Rattle.wit_items.specs.declared.items.TypeDefKind.{TypeDefKind as Written}
-use Rattle.wit_syntax.specs.AstView as view
+use Rattle.wit_type_names.specs.Passed.wit_productions-TypeView.{type_tree}
+use Rattle.wit_type_names.specs.Passed.wit_items-declared-items-TypeDefKind.{TypeDefKind as Written}
+use Rattle.wit_type_names.specs.Passed.wit_syntax-AstView as view
 use Rattle.wit_arena.specs.LowerKind.{LowersKind, lowers_alias, lowers_resource}
 use Rattle.wit_arena.proofs.definitions.lower_kind.Goals as goal
 

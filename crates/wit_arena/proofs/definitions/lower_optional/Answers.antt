@@ -1,8 +1,8 @@
 use Rattle.std.proofs.Common.{Option, Some, None, sym, subst}
 use Rattle.std.specs.Prelude.{option_map}
-use Rattle.wit_productions.specs.declared.types.«Type».{«Type» as Written}
-use Rattle.wit_productions.specs.TypeTree.{opt}
-use Rattle.wit_productions.specs.TypeView.{type_tree}
+use Rattle.wit_type_names.specs.Passed.wit_productions-declared-types-Type.{«Type» as Written}
+use Rattle.wit_type_names.specs.Passed.wit_productions-TypeTree.{opt}
+use Rattle.wit_type_names.specs.Passed.wit_productions-TypeView.{type_tree}
 use Rattle.wit_arena.specs.Lower.{LowersPart, lowers_nothing, lowers_a_type}
 use Rattle.wit_arena.proofs.definitions.lower_optional.Goals as goal
 

@@ -1,6 +1,6 @@
 use Rattle.wit_types.specs.declared.kind.Handle.TheVariants as handle
-use Rattle.wit_productions.specs.TypeTree as written
-use Rattle.wit_productions.specs.NameView.{id}
+use Rattle.wit_type_names.specs.Passed.wit_productions-TypeTree as written
+use Rattle.wit_type_names.specs.Passed.wit_productions-NameView.{id}
 use Rattle.wit_arena.specs.Shape as shape
 use Rattle.wit_arena.specs.Lower.{lowers_composed, lowers_borrow}
 use Rattle.wit_arena.proofs.functions.lower_borrow.Goals as goal

@@ -1,8 +1,8 @@
 use Rattle.std.proofs.Common.{◌∙◌, List, Some, refl, sym, subst, map}
 use Rattle.std.proofs.lemmas.Simd.{map-map}
-use Rattle.wit_productions.specs.TypeTree.{TypeOption, a_type}
-use Rattle.wit_items.specs.ItemTree.{ParamTree}
-use Rattle.wit_syntax.specs.AstView as view
+use Rattle.wit_type_names.specs.Passed.wit_productions-TypeTree.{TypeOption, a_type}
+use Rattle.wit_type_names.specs.Passed.wit_items-ItemTree.{ParamTree}
+use Rattle.wit_type_names.specs.Passed.wit_syntax-AstView as view
 use Rattle.wit_type_names.specs.TypeNames.{names_in_parts}
 use Rattle.wit_arena.specs.Lower.{AreThere, LowersParts}
 use Rattle.wit_arena.specs.LowerParams.{written_param}

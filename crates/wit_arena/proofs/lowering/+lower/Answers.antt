@@ -4,13 +4,13 @@ use denote.Param.Weighed.{most, at_most}
 use Rattle.wit_types.specs.declared.kind.«Type».{«Type» as Ref}
 use Rattle.wit_types.specs.declared.kind.«Type».TheVariants as ref
 use Rattle.wit_types.specs.declared.kind.Handle.TheVariants as handle
-use Rattle.wit_productions.specs.declared.types.«Type».{«Type» as Written}
-use Rattle.wit_productions.specs.declared.types.TypeKind.TheViews as views
-use Rattle.wit_productions.specs.TypeTree as written
-use Rattle.wit_productions.specs.TypeTree.{TypeTree, TypeShape, TypeRow, TypeOption, row, standing}
-use Rattle.wit_productions.specs.TypeView.{type_tree, type_shape}
-use Rattle.wit_productions.specs.NameView.{id}
-use Rattle.wit_productions.proofs.TypeViews.{list_of, fixed_length_list_of, option_of, future_of, stream_of}
+use Rattle.wit_type_names.specs.Passed.wit_productions-declared-types-Type.{«Type» as Written}
+use Rattle.wit_type_names.specs.Passed.wit_productions-declared-types-TypeKind-TheViews as views
+use Rattle.wit_type_names.specs.Passed.wit_productions-TypeTree as written
+use Rattle.wit_type_names.specs.Passed.wit_productions-TypeTree.{TypeTree, TypeShape, TypeRow, TypeOption, row, standing}
+use Rattle.wit_type_names.specs.Passed.wit_productions-TypeView.{type_tree, type_shape}
+use Rattle.wit_type_names.specs.Passed.wit_productions-NameView.{id}
+use Rattle.wit_type_names.proofs.Passed.wit_productions-TypeViews.{list_of, fixed_length_list_of, option_of, future_of, stream_of}
 use Rattle.wit_type_names.specs.TypeNames.{names_in_part, names_in_shape}
 use Rattle.wit_arena.specs.Shape as shape
 use Rattle.wit_arena.specs.Shape.{ShapeTree, shape_of}

@@ -1,5 +1,5 @@
 use Rattle.std.proofs.Common.{[]}
-use Rattle.wit_productions.specs.NameView.{id}
+use Rattle.wit_type_names.specs.Passed.wit_productions-NameView.{id}
 use Rattle.wit_arena.proofs.Lists.{has_here}
 use Rattle.wit_arena.proofs.lowering.id_of.Goals as goal
 

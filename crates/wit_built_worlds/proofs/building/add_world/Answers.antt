@@ -4,11 +4,11 @@ use Rattle.wit_scopes.specs.View as scope_view
 use Rattle.wit_types.specs.declared.interface.Interface.{Interface}
 use Rattle.wit_types.specs.declared.interface.TypeOwner.TheVariants as belongs
 use Rattle.wit_rules.specs.Breaks.{IsFaultOf}
-use Rattle.wit_orders.specs.Needs.{types_of}
-use Rattle.wit_arena.specs.Tree.{in_world}
-use Rattle.wit_package_types.specs.Known.{KnownTypes}
-use Rattle.wit_resolved_scopes.specs.Scope.{ResolvesScope}
-use Rattle.wit_resolved_scopes.specs.Texts.{labelled_texts, own_members}
+use Rattle.wit_interfaces.specs.Passed.wit_orders-Needs.{types_of}
+use Rattle.wit_interfaces.specs.Passed.wit_arena-Tree.{in_world}
+use Rattle.wit_interfaces.specs.Passed.wit_package_types-Known.{KnownTypes}
+use Rattle.wit_interfaces.specs.Passed.wit_resolved_scopes-Scope.{ResolvesScope}
+use Rattle.wit_interfaces.specs.Passed.wit_resolved_scopes-Texts.{labelled_texts, own_members}
 use Rattle.wit_interfaces.specs.Adding.{MayBring}
 use Rattle.wit_interfaces.specs.Labelled.{TextsBreak, MayAddTexts}
 use Rattle.wit_built_worlds.specs.Adding.{WorldBreaks, paths_of}

@@ -3,8 +3,8 @@ use Rattle.std.proofs.lemmas.List.{length-map, length-take-le, take_all}
 use Rattle.wit_scopes.specs.Scopes.{WorldScope}
 use Rattle.wit_scopes.specs.View as scope_view
 use Rattle.wit_rules.proofs.Breaking.{AreKept, all_kept, one_breaks}
-use Rattle.wit_package_types.specs.Known.{KnownTypes}
-use Rattle.wit_foreign.specs.Items.{interfaces_in, worlds_in}
+use Rattle.wit_interfaces.specs.Passed.wit_package_types-Known.{KnownTypes}
+use Rattle.wit_readiness.specs.Passed.wit_foreign-Items.{interfaces_in, worlds_in}
 use Rattle.wit_built_worlds.specs.Adding.{WorldBreaks, AreReadyBehind, AddsWorlds}
 use Rattle.wit_built_worlds.specs.Places.{worlds_at}
 use Rattle.wit_built_worlds.proofs.Ready.{next_ready, numbered}

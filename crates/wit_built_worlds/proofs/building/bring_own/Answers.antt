@@ -4,8 +4,8 @@ use Rattle.wit_types.specs.declared.interface.TypeOwner.TheVariants as belongs
 use Rattle.wit_scopes.specs.Members.{MemberTree}
 use Rattle.wit_scopes.specs.View as scope_view
 use Rattle.wit_rules.specs.Breaks.{IsKept}
-use Rattle.wit_arena.specs.Tree.{in_world}
-use Rattle.wit_resolved_scopes.specs.Texts.{own_members}
+use Rattle.wit_interfaces.specs.Passed.wit_arena-Tree.{in_world}
+use Rattle.wit_interfaces.specs.Passed.wit_resolved_scopes-Texts.{own_members}
 use Rattle.wit_interfaces.specs.Adding.{MembersBreak, MayBring}
 use Rattle.wit_built_worlds.proofs.building.bring_own.Goals as goal
 

@@ -1,7 +1,7 @@
 use Rattle.std.proofs.Common.{length, sym, subst}
 use Rattle.wit_scopes.proofs.Outcomes.{on_ok}
 use Rattle.wit_scopes.specs.View as scope_view
-use Rattle.wit_package_types.specs.Known.{KnownTypes}
+use Rattle.wit_interfaces.specs.Passed.wit_package_types-Known.{KnownTypes}
 use Rattle.wit_interfaces.proofs.Bringing.{on_any}
 use Rattle.wit_worlds.specs.Making.{MayMake, MakesWorld}
 use Rattle.wit_built_worlds.specs.Adding.{paths_of}

@@ -1,5 +1,5 @@
 use Rattle.std.proofs.Common.{◌≡◌, map, ap, sym, subst, ◌∙◌}
-use Rattle.component_entries.specs.Entries.{nothing}
+use Rattle.component_sections.specs.Passed.component_entries-Entries.{nothing}
 use Rattle.component_sections.specs.Component as whole
 use Rattle.component_sections.specs.Component.{Follow}
 use Rattle.wit_component.specs.Component.{component_of}

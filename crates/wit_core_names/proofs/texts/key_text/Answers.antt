@@ -1,6 +1,6 @@
 use Rattle.std.proofs.Common.{Some, ap, sym, ◌∙◌}
 use Rattle.std.specs.Prelude.{option_map, string_bytes}
-use Rattle.wit_types.specs.Package.{interface_text}
+use Rattle.wit_names.specs.Passed.wit_types-Package.{interface_text}
 use Rattle.wit_names.specs.Names.{canonical_text, IsKeyText}
 use Rattle.wit_core_names.specs.Texts.{interface_text_in}
 use Rattle.wit_core_names.proofs.Keys.{named_there, some_text}

@@ -3,7 +3,7 @@ use Rattle.std.proofs.lemmas.Result.{IfOk-weaker}
 use Rattle.std.specs.List.{IsDistinct}
 use Rattle.std.specs.Map.{keys_of}
 use Rattle.indexmap.specs.IndexMap.{insert_all}
-use Rattle.wit_types.specs.WorldKey.{key_eq}
+use Rattle.wit_reach.specs.Passed.wit_types-WorldKey.{key_eq}
 use Rattle.wit_elaborated.specs.Elaborated as spec
 use Rattle.wit_elaborated.proofs.Elaborating.{elaborates}
 use Rattle.wit_elaborated.proofs.imports.elaborated_imports.Goals as goal

@@ -1,6 +1,6 @@
 use Rattle.std.proofs.Common.{ℕ, ◌<◌, length}
 use Rattle.std.proofs.lemmas.Result.{IfOk-weaker}
-use Rattle.wit_order.specs.Order.{Has}
+use Rattle.wit_reach.specs.Passed.wit_order-Order.{Has}
 use Rattle.wit_reach.specs.Reach.{Lists, Uses, lists_of, IsElaboration}
 use Rattle.wit_reach.specs.Lists.{AreListsOf}
 use Rattle.wit_reach.proofs.There.{labelled_has}

@@ -1,6 +1,6 @@
 use Rattle.std.proofs.Common.{◌≡◌, ℕ, ◌<◌, List, [], inl, refl, sym, ap, subst, ◌∙◌}
 use Rattle.std.proofs.lemmas.Result.{on_ok_weaker, IfErr-weaker}
-use Rattle.wit_order.specs.Order.{Has}
+use Rattle.wit_reach.specs.Passed.wit_order-Order.{Has}
 use Rattle.wit_reach.specs.declared.reach.ElaborateFault.TheVariants.{OutOfMemory}
 use Rattle.wit_elaborated.specs.Elaborated.{elaborated}
 use Rattle.wit_elaborated.specs.Worlds.{IsElaboratedCause}

@@ -1,7 +1,7 @@
 use Rattle.std.proofs.Common.{◌≡◌, ◌++◌, ℕ, List, sym, ap, ◌∙◌, subst, drop}
 use Rattle.std.proofs.lemmas.Result.{err_from_is_err_and}
 use Rattle.indexmap.specs.IndexMap.{values}
-use Rattle.wit_types.specs.declared.«package».AstItem.{AstItem}
+use Rattle.wit_moves.specs.Passed.wit_types-declared-package-AstItem.{AstItem}
 use Rattle.wit_finding.specs.Asks.{ItemEntry, Ask, asks_of, asks_in, items_of, found_by}
 use Rattle.wit_finding.proofs.Having.{has_slice_get, left_next}
 use Rattle.wit_finding.proofs.Asking.{Leads, leads_all, leads_past, leads_done, cause_past, found_on, found_all, asks_from, asks_left, items_at, asks_end, id_at}

@@ -1,8 +1,8 @@
 use Rattle.std.proofs.Common.{◌≡◌, ℕ, ◌<◌, List, subst, sym, ap, ◌∙◌, length}
 use Rattle.std.proofs.lemmas.Result.{err_from_is_err_and}
 use Rattle.std.proofs.lemmas.Slice.Zip.{AllZip-long}
-use Rattle.wit_types.specs.declared.«package».AstItem.{AstItem}
-use Rattle.wit_order.specs.Order.{Has}
+use Rattle.wit_moves.specs.Passed.wit_types-declared-package-AstItem.{AstItem}
+use Rattle.wit_moves.specs.Passed.wit_order-Order.{Has}
 use Rattle.wit_finding.specs.Asks.{AskBreaks, found_by, items_of}
 use Rattle.wit_finding.specs.Places.{ArePlaced, interface_pairs, world_pairs}
 use Rattle.wit_finding.specs.Foreign.{asks_of_package, counts_of}

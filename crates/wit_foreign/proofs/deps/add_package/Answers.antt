@@ -2,8 +2,8 @@ use Rattle.std.proofs.Common.{◌≡◌, ◌∙◌, ap, None}
 use Rattle.std.proofs.lemmas.List.{map_push}
 use Rattle.std.specs.Map.{lookup}
 use Rattle.indexmap.proofs.CallerLemmas.{insert_entry-new}
-use Rattle.wit_syntax.specs.AstView as view
-use Rattle.wit_arena.proofs.Lists.{has_map}
+use Rattle.wit_lookups.specs.Passed.wit_syntax-AstView as view
+use Rattle.wit_package_types.proofs.Passed.wit_arena-Lists.{has_map}
 use Rattle.wit_foreign.specs.Deps.{package_entries}
 use Rattle.wit_foreign.proofs.Depending.{not_found}
 use Rattle.wit_foreign.proofs.PackageNames.{name_eq, same_names}

@@ -1,6 +1,6 @@
 use Rattle.std.proofs.Common.{◌∙◌, ◌+◌, List, take, sym, subst, arith}
 use Rattle.std.proofs.lemmas.List.{length-map}
-use Rattle.wit_arena.specs.Meaning.{Has}
+use Rattle.wit_package_types.specs.Passed.wit_arena-Meaning.{Has}
 use Rattle.wit_foreign.specs.declared.needs.Need.{Need}
 use Rattle.wit_foreign.specs.View as seen
 use Rattle.wit_foreign.specs.GroupView.{row, rows}

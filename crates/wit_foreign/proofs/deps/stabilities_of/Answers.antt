@@ -1,7 +1,7 @@
 use Rattle.std.proofs.Common.{[], ◌+◌, List, map, take, sym, subst}
 use Rattle.wit_types.specs.declared.stability.Stability.{Stability}
-use Rattle.wit_syntax.specs.AstView as view
-use Rattle.wit_scopes.specs.declared.members.Front.{Front}
+use Rattle.wit_lookups.specs.Passed.wit_syntax-AstView as view
+use Rattle.wit_lookups.specs.Passed.wit_scopes-declared-members-Front.{Front}
 use Rattle.wit_package_types.specs.Stability.{AreGates, IsStabilityOf}
 use Rattle.wit_foreign.specs.View as seen
 use Rattle.wit_foreign.specs.Deps.{AreStabilities, no_stabilities}

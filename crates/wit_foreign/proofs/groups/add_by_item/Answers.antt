@@ -1,9 +1,9 @@
 use Rattle.std.proofs.Common.{◌≡◌, ◌∙◌, List, Some, sym, subst}
 use Rattle.std.specs.Prelude.{slice_get}
 use Rattle.name_places.proofs.Places.{place_names}
-use Rattle.wit_scopes.proofs.Outcomes.{on_ok}
-use Rattle.wit_arena.specs.Tree.{Name}
-use Rattle.wit_arena.specs.Meaning.{Has}
+use Rattle.wit_lookups.proofs.Passed.wit_scopes-Outcomes.{on_ok}
+use Rattle.wit_package_types.specs.Passed.wit_arena-Tree.{Name}
+use Rattle.wit_package_types.specs.Passed.wit_arena-Meaning.{Has}
 use Rattle.wit_foreign.specs.Groups.{item_key}
 use Rattle.wit_foreign.proofs.Grouping.{name_new, within_rows, joins_row, begins_row}
 use Rattle.wit_foreign.proofs.Outcomes.{on_both}

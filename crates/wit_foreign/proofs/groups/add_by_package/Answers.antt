@@ -1,8 +1,8 @@
 use Rattle.std.proofs.Common.{◌≡◌, List, Some, map, subst}
 use Rattle.std.specs.Prelude.{slice_get}
-use Rattle.wit_scopes.proofs.Outcomes.{on_ok}
-use Rattle.wit_arena.specs.Tree.{PackageText}
-use Rattle.wit_arena.specs.Meaning.{Has}
+use Rattle.wit_lookups.proofs.Passed.wit_scopes-Outcomes.{on_ok}
+use Rattle.wit_package_types.specs.Passed.wit_arena-Tree.{PackageText}
+use Rattle.wit_package_types.specs.Passed.wit_arena-Meaning.{Has}
 use Rattle.wit_foreign.specs.View as seen
 use Rattle.wit_foreign.specs.GroupView.{path_text}
 use Rattle.wit_foreign.specs.Groups.{package_key}

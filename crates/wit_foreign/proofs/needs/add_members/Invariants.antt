@@ -1,6 +1,6 @@
 use Rattle.std.proofs.Common.{◌≡◌, ◌++◌, take}
 use Rattle.std.specs.Prelude.{flat_map}
-use Rattle.wit_scopes.specs.View as scope_view
+use Rattle.wit_lookups.specs.Passed.wit_scopes-View as scope_view
 use Rattle.wit_foreign.specs.View as seen
 use Rattle.wit_foreign.specs.Needs as spec
 use Rattle.wit_foreign.proofs.needs.add_members.Given as goal

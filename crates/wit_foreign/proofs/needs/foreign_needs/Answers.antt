@@ -1,5 +1,5 @@
 use Rattle.std.proofs.Common.{map, take, sym, subst}
-use Rattle.wit_scopes.specs.View as scope_view
+use Rattle.wit_lookups.specs.Passed.wit_scopes-View as scope_view
 use Rattle.wit_foreign.specs.Needs.{AreUses}
 use Rattle.wit_foreign.proofs.Uses.{uses_in}
 use Rattle.wit_foreign.proofs.needs.foreign_needs.Goals as goal

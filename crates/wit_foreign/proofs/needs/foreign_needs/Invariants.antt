@@ -1,5 +1,5 @@
 use Rattle.std.proofs.Common.{◌≡◌, map, take}
-use Rattle.wit_scopes.specs.View as scope_view
+use Rattle.wit_lookups.specs.Passed.wit_scopes-View as scope_view
 use Rattle.wit_foreign.specs.View as seen
 use Rattle.wit_foreign.specs.Needs as spec
 use Rattle.wit_foreign.proofs.needs.foreign_needs.Given as goal

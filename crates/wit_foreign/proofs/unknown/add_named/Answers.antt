@@ -1,9 +1,9 @@
 use Rattle.std.proofs.Common.{ℕ, List, [], ◌∷◌, ◌++◌, ◌∙◌, length, ap, sym, subst}
 use Rattle.wit_words.specs.declared.source_map.Span.{Span}
 use Rattle.wit_types.specs.declared.interface.TypeDef.{TypeDef}
-use Rattle.wit_syntax.specs.AstView as view
-use Rattle.wit_scopes.proofs.Outcomes.{on_ok}
-use Rattle.wit_arena.specs.Meaning.{Has}
+use Rattle.wit_lookups.specs.Passed.wit_syntax-AstView as view
+use Rattle.wit_lookups.proofs.Passed.wit_scopes-Outcomes.{on_ok}
+use Rattle.wit_package_types.specs.Passed.wit_arena-Meaning.{Has}
 use Rattle.wit_package_types.specs.Foreign.{ForeignName, foreign_name}
 use Rattle.wit_foreign.specs.View as seen
 use Rattle.wit_foreign.specs.Unknown.{AddsUsed, known_type, new_type}

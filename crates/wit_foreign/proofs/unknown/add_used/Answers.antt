@@ -1,6 +1,6 @@
 use Rattle.std.proofs.Common.{ap}
 use Rattle.std.specs.Prelude.{option_map}
-use Rattle.wit_syntax.specs.AstView as view
+use Rattle.wit_lookups.specs.Passed.wit_syntax-AstView as view
 use Rattle.wit_foreign.specs.Unknown.{no_type}
 use Rattle.wit_foreign.proofs.unknown.add_used.Goals as goal
 

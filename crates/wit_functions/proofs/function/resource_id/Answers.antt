@@ -1,5 +1,5 @@
 use Rattle.std.proofs.Common.{refl}
-use Rattle.wit_syntax.specs.AstView as view
+use Rattle.wit_package_types.specs.Passed.wit_syntax-AstView as view
 use Rattle.wit_functions.proofs.function.resource_id.Goals as goal
 
 pub unreachable-requires : goal.unreachable-requires

@@ -1,13 +1,13 @@
 use Rattle.std.proofs.Common.{Option, Some, map, sym, subst}
 use Rattle.std.specs.Prelude.{option_map}
-use Rattle.wit_productions.specs.NameView.{id}
-use Rattle.wit_productions.specs.TypeTree as written
-use Rattle.wit_productions.specs.TypeTree.{TypeTree, standing}
-use Rattle.wit_productions.specs.TypeView.{type_tree}
-use Rattle.wit_productions.specs.declared.types.«Type».{«Type» as Written}
-use Rattle.wit_syntax.specs.AstView as view
-use Rattle.wit_type_names.specs.TypeNames.{names_in_parts, signature_parts}
-use Rattle.wit_arena.specs.Lower.{lowers_a_type}
+use Rattle.wit_package_types.specs.Passed.wit_productions-NameView.{id}
+use Rattle.wit_package_types.specs.Passed.wit_productions-TypeTree as written
+use Rattle.wit_package_types.specs.Passed.wit_productions-TypeTree.{TypeTree, standing}
+use Rattle.wit_package_types.specs.Passed.wit_productions-TypeView.{type_tree}
+use Rattle.wit_package_types.specs.Passed.wit_productions-declared-types-Type.{«Type» as Written}
+use Rattle.wit_package_types.specs.Passed.wit_syntax-AstView as view
+use Rattle.wit_package_types.specs.Passed.wit_type_names-TypeNames.{names_in_parts, signature_parts}
+use Rattle.wit_package_types.specs.Passed.wit_arena-Lower.{lowers_a_type}
 use Rattle.wit_functions.specs.Signature.{or_resource, LowersSignature}
 use Rattle.wit_functions.proofs.Parts.{there_behind, params_there, signature_is}
 use Rattle.wit_functions.proofs.signature.lower_constructor.Goals as goal

@@ -1,13 +1,13 @@
 use Rattle.std.proofs.Common.{List, map, refl, sym, subst}
 use Rattle.std.specs.Prelude.{option_map}
-use Rattle.wit_productions.specs.NameView.{id}
-use Rattle.wit_productions.specs.TypeView.{type_tree}
-use Rattle.wit_items.specs.declared.items.Param.{Param as Written}
-use Rattle.wit_items.specs.ItemTree.{ParamTree}
-use Rattle.wit_syntax.specs.AstView as view
-use Rattle.wit_type_names.specs.TypeNames.{names_in_parts, param_parts, signature_parts}
-use Rattle.wit_arena.specs.Lower.{AreThere}
-use Rattle.wit_arena.specs.LowerParams.{LowersParams}
+use Rattle.wit_package_types.specs.Passed.wit_productions-NameView.{id}
+use Rattle.wit_package_types.specs.Passed.wit_productions-TypeView.{type_tree}
+use Rattle.wit_package_types.specs.Passed.wit_items-declared-items-Param.{Param as Written}
+use Rattle.wit_package_types.specs.Passed.wit_items-ItemTree.{ParamTree}
+use Rattle.wit_package_types.specs.Passed.wit_syntax-AstView as view
+use Rattle.wit_package_types.specs.Passed.wit_type_names-TypeNames.{names_in_parts, param_parts, signature_parts}
+use Rattle.wit_package_types.specs.Passed.wit_arena-Lower.{AreThere}
+use Rattle.wit_package_types.specs.Passed.wit_arena-LowerParams.{LowersParams}
 use Rattle.wit_functions.proofs.Parts.{there_first, there_behind, params_there, result_there, method_is}
 use Rattle.wit_functions.proofs.signature.lower_method.Goals as goal
 

@@ -1,14 +1,14 @@
 use Rattle.std.proofs.Common.{List, map, subst, sym, ◌∙◌, ap}
 use Rattle.std.specs.Prelude.{option_map}
-use Rattle.wit_items.specs.declared.items.Func.{Func}
-use Rattle.wit_items.specs.declared.items.Param.{Param}
-use Rattle.wit_productions.specs.NameView.{id}
-use Rattle.wit_syntax.specs.AstView as view
-use Rattle.wit_syntax.specs.TypeView.{type_tree}
-use Rattle.wit_scopes.specs.declared.members.MemberKind.{MemberKind}
-use Rattle.wit_scopes.specs.View as scope_view
-use Rattle.wit_type_names.specs.TypeNames.{names_in_parts, signature_parts}
-use Rattle.wit_arena.specs.Lower.{AreThere}
+use Rattle.wit_package_types.specs.Passed.wit_items-declared-items-Func.{Func}
+use Rattle.wit_package_types.specs.Passed.wit_items-declared-items-Param.{Param}
+use Rattle.wit_package_types.specs.Passed.wit_productions-NameView.{id}
+use Rattle.wit_package_types.specs.Passed.wit_syntax-AstView as view
+use Rattle.wit_package_types.specs.Passed.wit_productions-TypeView.{type_tree}
+use Rattle.wit_package_types.specs.Passed.wit_scopes-declared-members-MemberKind.{MemberKind}
+use Rattle.wit_package_types.specs.Passed.wit_scopes-View as scope_view
+use Rattle.wit_package_types.specs.Passed.wit_type_names-TypeNames.{names_in_parts, signature_parts}
+use Rattle.wit_package_types.specs.Passed.wit_arena-Lower.{AreThere}
 use Rattle.wit_functions.specs.Signature.{behind, function_names}
 use Rattle.wit_functions.proofs.Parts.{there_behind}
 use Rattle.wit_functions.proofs.signature.lower_signature.Goals as goal

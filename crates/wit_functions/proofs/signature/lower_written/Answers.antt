@@ -1,7 +1,7 @@
 use Rattle.std.proofs.Common.{map}
 use Rattle.std.specs.Prelude.{option_map}
-use Rattle.wit_productions.specs.TypeView.{type_tree}
-use Rattle.wit_syntax.specs.AstView as view
+use Rattle.wit_package_types.specs.Passed.wit_productions-TypeView.{type_tree}
+use Rattle.wit_package_types.specs.Passed.wit_syntax-AstView as view
 use Rattle.wit_functions.proofs.Parts.{params_there, result_there, signature_is}
 use Rattle.wit_functions.proofs.signature.lower_written.Goals as goal
 

@@ -4,7 +4,7 @@ use Rattle.wit_moves.specs.View.{owners}
 use Rattle.wit_graph.specs.Graph.{items}
 use Rattle.wit_graph_parts.specs.Own.{parts}
 use Rattle.wit_graph_parts.specs.Parts.{AreTypesAdded}
-use Rattle.wit_graph_worlds.proofs.Belonging.{added_named, added_listed, added_nameless}
+use Rattle.wit_graph_parts.proofs.Passed.wit_graph_worlds-Belonging.{added_named, added_listed, added_nameless}
 use Rattle.wit_graph.proofs.Readying.{types_backward, types_below, uses_long, backward_uses, sound, elaborated, among, whole}
 use Rattle.wit_graph.proofs.Refusing.{interfaces_refused, worlds_refused, grown_twice, known_first}
 use Rattle.wit_graph.proofs.push.add_parts.Goals as goal

@@ -8,7 +8,7 @@ use Rattle.std.proofs.lemmas.Result.{on_ok_weaker, on_err_weaker, IfErr-weaker}
 use Rattle.wit_moves.specs.View.{owners}
 use Rattle.wit_types.specs.declared.«package».Package.{Package}
 use Rattle.wit_names.specs.Names.{ArePackagesKnown}
-use Rattle.wit_placed.specs.Found.{ArePackagesThere}
+use Rattle.wit_graph_parts.specs.Passed.wit_placed-Found.{ArePackagesThere}
 use Rattle.wit_graph.specs.Graph.{items, items_of, AreItemsWhole}
 use Rattle.wit_graph_parts.specs.Own.{parts}
 use Rattle.wit_graph.specs.Push.{ArePartsAdded, IsPartsCause}

@@ -3,8 +3,8 @@ use Rattle.std.proofs.lemmas.Result.{err_from_is_err_and, IfErr-weaker}
 use Rattle.wit_types.specs.declared.interface.TypeDef.{TypeDef}
 use Rattle.wit_moves.specs.Breaks.{AnyOf, IsKept}
 use Rattle.wit_moves.specs.View.{owners}
-use Rattle.wit_resources.specs.Natures.{natures as natures_of, natures_from}
-use Rattle.wit_resources.specs.declared.natures.Nature.{Nature}
+use Rattle.wit_shapes.specs.Passed.wit_resources-Natures.{natures as natures_of, natures_from}
+use Rattle.wit_shapes.specs.Passed.wit_resources-declared-natures-Nature.{Nature}
 use Rattle.wit_shapes.specs.Shapes.{TypeBreaks}
 use Rattle.wit_graph_parts.specs.Parts as spec
 use Rattle.wit_graph_parts.proofs.Shaped.{shape_ok, shape_err, natures_append}

@@ -1,5 +1,5 @@
 use Rattle.wit_moves.specs.View.{owners}
-use Rattle.wit_plans.specs.Plans.{standing}
+use Rattle.wit_graph_worlds.specs.Passed.wit_plans-Plans.{standing}
 use Rattle.wit_graph_parts.proofs.worlds.add_interfaces.Goals as goal
 
 pub extend-requires-clause-there : goal.extend-requires-clause-there

@@ -1,6 +1,6 @@
 use Rattle.std.proofs.Common.{length}
 use Rattle.wit_moves.specs.View.{owners}
-use Rattle.wit_plans.specs.Plans.{standing}
+use Rattle.wit_graph_worlds.specs.Passed.wit_plans-Plans.{standing}
 use Rattle.wit_graph_parts.proofs.worlds.add_own_worlds.Goals as goal
 
 pub add_worlds-requires-clause-there : goal.add_worlds-requires-clause-there

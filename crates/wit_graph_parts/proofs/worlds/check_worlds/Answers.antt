@@ -1,7 +1,7 @@
 use Rattle.std.proofs.Common.{◌+◌, ◌∷◌, List, drop, sym, ap, ◌∙◌}
 use Rattle.std.proofs.lemmas.List.{drop_more}
 use Rattle.std.proofs.lemmas.Result.{err_from_is_err_and}
-use Rattle.wit_plans.specs.declared.moves.MovedWorld.{MovedWorld}
+use Rattle.wit_graph_worlds.specs.Passed.wit_plans-declared-moves-MovedWorld.{MovedWorld}
 use Rattle.wit_moves.proofs.Leading.{leads_at, breaks_here}
 use Rattle.wit_graph_parts.specs.Parts as spec
 use Rattle.wit_graph_parts.proofs.worlds.check_worlds.Goals as goal

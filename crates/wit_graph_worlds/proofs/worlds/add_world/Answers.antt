@@ -1,7 +1,7 @@
 use Rattle.std.proofs.Common.{ℕ, List, ap, ◌∙◌, length}
 use Rattle.std.proofs.lemmas.Result.{IfErr-weaker, on_ok_weaker}
 use Rattle.wit_types.specs.declared.world.World.{World}
-use Rattle.wit_joined.specs.Joined.{IsJoinedWorld}
+use Rattle.wit_uses.specs.Passed.wit_joined-Joined.{IsJoinedWorld}
 use Rattle.wit_graph_worlds.specs.Worlds.{state}
 use Rattle.wit_graph_worlds.specs.Added.{IsPutCause, IsAddCause}
 use Rattle.wit_graph_worlds.specs.declared.worlds.WorldFault.{WorldFault}

@@ -1,8 +1,8 @@
 use Rattle.std.proofs.Common.{◌≡◌, List, [], ◌∷◌, ◌++◌, inl, inr, refl, sym, ap, ◌∙◌, subst, length, append_assoc}
 use Rattle.std.proofs.lemmas.List.{append-nil}
 use Rattle.std.proofs.lemmas.Result.{err_from_is_err_and}
-use Rattle.wit_order.specs.Order.{Has}
-use Rattle.wit_plans.specs.declared.moves.MovedWorld.{MovedWorld}
+use Rattle.wit_types.specs.Passed.wit_order-Order.{Has}
+use Rattle.wit_uses.specs.Passed.wit_plans-declared-moves-MovedWorld.{MovedWorld}
 use Rattle.wit_graph_worlds.specs.Worlds.{state}
 use Rattle.wit_graph_worlds.specs.Added.{none_added, one_added}
 use Rattle.wit_graph_worlds.proofs.Adding.{own_grown, grown_more}

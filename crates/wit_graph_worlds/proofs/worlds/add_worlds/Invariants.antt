@@ -1,9 +1,9 @@
 use Rattle.std.proofs.Common.{◌≡◌, ◌++◌, List, length}
-use Rattle.wit_order.specs.Order.{Has}
+use Rattle.wit_types.specs.Passed.wit_order-Order.{Has}
 use Rattle.wit_types.specs.declared.interface.TypeDef.{TypeDef}
 use Rattle.wit_types.specs.declared.world.World.{World}
-use Rattle.wit_plans.specs.declared.moves.MovedWorld.{MovedWorld}
-use Rattle.wit_placed.specs.There.{IsOwnThere}
+use Rattle.wit_uses.specs.Passed.wit_plans-declared-moves-MovedWorld.{MovedWorld}
+use Rattle.wit_uses.specs.Passed.wit_placed-There.{IsOwnThere}
 use Rattle.wit_graph_worlds.specs.Sound.{AreSound, AreElaborated}
 use Rattle.wit_graph_worlds.specs.Worlds.{state}
 use Rattle.wit_graph_worlds.specs.Added.{AreAdded}

@@ -1,8 +1,8 @@
 use Rattle.wit_types.specs.declared.«package».UnresolvedPackage.{UnresolvedPackage}
 use Rattle.wit_types.specs.contracts.«package».PackageNamePartialEq.TheImpl.{eq-value as package_eq}
 use Rattle.wit_order.specs.Order.{Has}
-use Rattle.wit_graph_parts.specs.Own.{IsWellFormed}
-use Rattle.wit_graph_parts.specs.declared.fault.PushFault.{PushFault}
+use Rattle.wit_graph.specs.Passed.wit_graph_parts-Own.{IsWellFormed}
+use Rattle.wit_graph.specs.Passed.wit_graph_parts-declared-fault-PushFault.{PushFault}
 use Rattle.wit_graph.specs.Graph.{Graph}
 use Rattle.wit_graph.specs.Push.{HasMorePackages}
 use Rattle.wit_groups.specs.Pushed.{ArePushed, OneIsRefused}

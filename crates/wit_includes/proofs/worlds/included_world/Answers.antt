@@ -1,5 +1,5 @@
 use Rattle.std.proofs.Common.{subst, sym}
-use Rattle.wit_reach.specs.Types.{AreTypesThere}
+use Rattle.wit_copies.specs.Passed.wit_reach-Types.{AreTypesThere}
 use Rattle.wit_includes.proofs.Own.{own_there}
 use Rattle.wit_includes.proofs.worlds.included_world.Goals as goal
 

@@ -1,5 +1,5 @@
 use Rattle.std.proofs.Common.{◌≡◌, map}
-use Rattle.wit_resources.specs.Natures.{natures as natures_of}
+use Rattle.wit_resolved_scopes.specs.Passed.wit_resources-Natures.{natures as natures_of}
 use Rattle.wit_scopes.specs.View as scope_view
 use Rattle.wit_interfaces.specs.Places.{interfaces_at}
 use Rattle.wit_interfaces.proofs.SoFar.{SoFar}

@@ -2,7 +2,7 @@ use Rattle.std.proofs.Common.{◌≡◌, [], sym, subst}
 use Rattle.wit_scopes.specs.View as scope_view
 use Rattle.wit_arena.specs.Tree.{in_interface}
 use Rattle.wit_types.specs.declared.interface.TypeOwner.TheVariants as belongs
-use Rattle.wit_orders.specs.Needs.{types_of}
+use Rattle.wit_resolved_scopes.specs.Passed.wit_orders-Needs.{types_of}
 use Rattle.wit_arena.specs.Table.{Entries}
 use Rattle.wit_resolved_scopes.specs.Scope.{ResolvesScope}
 use Rattle.wit_interfaces.specs.declared.interface.Made.{Made}

@@ -1,5 +1,5 @@
 use Rattle.std.proofs.Common.{◌≡◌, length}
-use Rattle.wit_resources.specs.Natures.{natures as natures_of}
+use Rattle.wit_resolved_scopes.specs.Passed.wit_resources-Natures.{natures as natures_of}
 use Rattle.wit_scopes.specs.View as scope_view
 use Rattle.wit_arena.proofs.Extending.{Extends}
 use Rattle.wit_resolved_scopes.specs.Texts.{labelled_texts}

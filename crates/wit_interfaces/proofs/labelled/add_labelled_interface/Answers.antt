@@ -4,7 +4,7 @@ use Rattle.wit_types.specs.declared.interface.TypeOwner.TheVariants as belongs
 use Rattle.wit_scopes.specs.Members.{MemberTree}
 use Rattle.wit_scopes.specs.View as scope_view
 use Rattle.wit_rules.specs.Breaks.{IsKept, IsFaultOf}
-use Rattle.wit_orders.specs.Needs.{types_of}
+use Rattle.wit_resolved_scopes.specs.Passed.wit_orders-Needs.{types_of}
 use Rattle.wit_arena.specs.Tree.{Place, in_listed}
 use Rattle.wit_arena.proofs.Extending.{Extends}
 use Rattle.wit_resolved_scopes.specs.Texts.{InterfaceText, listed_text}

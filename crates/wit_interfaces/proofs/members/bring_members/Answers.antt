@@ -4,7 +4,7 @@ use Rattle.wit_scopes.specs.Members.{MemberTree}
 use Rattle.wit_scopes.specs.View as scope_view
 use Rattle.wit_rules.specs.Breaks.{IsKept, IsFaultOf}
 use Rattle.wit_resolved_scopes.specs.Faults.{ScopeBreaks, MayBeFilled}
-use Rattle.wit_orders.specs.Needs.{types_of}
+use Rattle.wit_resolved_scopes.specs.Passed.wit_orders-Needs.{types_of}
 use Rattle.wit_interfaces.proofs.Bringing.{may_fill}
 use Rattle.wit_interfaces.proofs.members.bring_members.Goals as goal
 

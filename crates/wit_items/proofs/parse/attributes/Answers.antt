@@ -4,7 +4,7 @@ use Rattle.std.proofs.lemmas.List.{map_push}
 use Rattle.wit_items.specs.ItemView as view
 use Rattle.wit_items.specs.ItemGrammar.{attribute}
 use Rattle.wit_productions.specs.Production.{sees}
-use Rattle.wit_words.specs.declared.token.Kind.TheVariants as kind
+use Rattle.wit_productions.specs.Passed.wit_words-declared-token-Kind-TheVariants as kind
 use Rattle.wit_items.proofs.ItemLaws.{attribute_takes}
 use Rattle.wit_productions.proofs.Loops.{many_ends, many_fails, many_goes_on}
 use Rattle.wit_productions.proofs.Turns.{after_shorter}

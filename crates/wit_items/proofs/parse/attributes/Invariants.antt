@@ -2,7 +2,7 @@ use Rattle.std.proofs.Common.{◌≡◌, map, length}
 use Rattle.wit_items.specs.ItemView as view
 use Rattle.wit_items.specs.ItemGrammar.{attribute}
 use Rattle.wit_productions.specs.Production.{many, onto}
-use Rattle.wit_words.specs.declared.token.Kind.TheVariants as kind
+use Rattle.wit_productions.specs.Passed.wit_words-declared-token-Kind-TheVariants as kind
 use Rattle.wit_items.proofs.parse.attributes.Given as goal
 
 abbrev pub invariant-loop-found : goal.invariant-loop-found

@@ -1,6 +1,6 @@
 use Rattle.std.proofs.Common.{◌≡◌, ◌++◌, List, take}
 use Rattle.wit_types.specs.declared.interface.TypeDef.{TypeDef}
-use Rattle.wit_reach.specs.Types.{AreTypesBackward}
+use Rattle.wit_copied_trees.specs.Passed.wit_reach-Types.{AreTypesBackward}
 use Rattle.wit_joined.specs.Joined as spec
 use Rattle.wit_joined.proofs.includes.include_all.Given as goal
 

@@ -1,6 +1,6 @@
 use Rattle.std.proofs.Common.{refl}
 use Rattle.std.proofs.lemmas.Result.{IfOk-weaker, IfErr-weaker}
-use Rattle.wit_includes.specs.declared.worlds.Include.{Include}
+use Rattle.wit_copied_trees.specs.Passed.wit_includes-declared-worlds-Include.{Include}
 use Rattle.wit_joined.specs.declared.includes.JoinFault.{JoinFault}
 use Rattle.wit_joined.specs.declared.includes.Sides.{Sides}
 use Rattle.wit_joined.specs.Joined.{state, IsIncludedOne, IsIncludedAt, IsOneCause, IsAtCause}

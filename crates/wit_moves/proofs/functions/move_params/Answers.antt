@@ -1,5 +1,5 @@
 use Rattle.std.proofs.Common.{ap, get_or}
-use Rattle.wit_types.specs.declared.function.Param.{Param}
+use Rattle.wit_features.specs.Passed.wit_types-declared-function-Param.{Param}
 use Rattle.wit_moves.specs.Moved.{moved_param}
 use Rattle.wit_moves.proofs.Mapped.{mapped_more, mapped_all}
 use Rattle.wit_moves.proofs.functions.move_params.Goals as goal

@@ -2,7 +2,7 @@ use Rattle.std.proofs.Common.{◌≡◌, ℕ, true, false, Some, String, sym, su
 use Rattle.std.proofs.lemmas.Option.{same_Some, slice_get_within}
 use Rattle.std.specs.Prelude.{slice_get}
 use Rattle.std.specs.declared.alloc.Global.{Global}
-use Rattle.wit_types.specs.declared.function.Function.{Function}
+use Rattle.wit_features.specs.Passed.wit_types-declared-function-Function.{Function}
 use Rattle.wit_moves.specs.Moved.{is_signature_placed}
 use Rattle.wit_moves.specs.Interfaces.{function_stays}
 use Rattle.wit_moves.proofs.interfaces.check_functions.Goals as goal

@@ -1,7 +1,7 @@
 use Rattle.std.proofs.Common.{◌≡◌, ◌<◌, ℕ, true, false, Some, String}
 use Rattle.std.specs.Prelude.{slice_get}
 use Rattle.std.specs.declared.alloc.Global.{Global}
-use Rattle.wit_types.specs.declared.function.Function.{Function}
+use Rattle.wit_features.specs.Passed.wit_types-declared-function-Function.{Function}
 use Rattle.wit_moves.specs.Moved.{is_signature_placed}
 use Rattle.wit_moves.specs.Interfaces.{function_stays}
 use Rattle.wit_moves.proofs.interfaces.check_functions.Given as goal

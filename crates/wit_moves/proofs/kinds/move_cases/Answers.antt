@@ -1,5 +1,5 @@
 use Rattle.std.proofs.Common.{ap, get_or}
-use Rattle.wit_types.specs.declared.kind.Case.{Case}
+use Rattle.wit_features.specs.Passed.wit_types-declared-kind-Case.{Case}
 use Rattle.wit_moves.specs.Moved.{moved_case}
 use Rattle.wit_moves.proofs.Mapped.{mapped_more, mapped_all}
 use Rattle.wit_moves.proofs.kinds.move_cases.Goals as goal

@@ -1,5 +1,5 @@
 use Rattle.std.proofs.Common.{ap, get_or}
-use Rattle.wit_types.specs.declared.kind.Field.{Field}
+use Rattle.wit_features.specs.Passed.wit_types-declared-kind-Field.{Field}
 use Rattle.wit_moves.specs.Moved.{moved_field}
 use Rattle.wit_moves.proofs.Mapped.{mapped_more, mapped_all}
 use Rattle.wit_moves.proofs.kinds.move_fields.Goals as goal

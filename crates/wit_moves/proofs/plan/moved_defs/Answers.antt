@@ -3,7 +3,7 @@ use Rattle.std.proofs.Math.Seq.{take-length}
 use Rattle.std.proofs.lemmas.List.{length_push}
 use Rattle.std.proofs.lemmas.Iterator.Adapters.{YieldsList-from_vec}
 use Rattle.std.proofs.lemmas.Iterator.Consumers.{YieldsList-turn, YieldsList-end}
-use Rattle.wit_types.specs.declared.interface.TypeDef.{TypeDef}
+use Rattle.wit_features.specs.Passed.wit_types-declared-interface-TypeDef.{TypeDef}
 use Rattle.wit_moves.specs.Plan.{AreMovedDefs, no_defs}
 use Rattle.wit_moves.specs.View as seen
 use Rattle.wit_moves.proofs.Planning.{next_moved}

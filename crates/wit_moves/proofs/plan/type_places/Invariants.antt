@@ -1,5 +1,5 @@
 use Rattle.std.proofs.Common.{◌≡◌, ℕ, ◌<◌, ◌≤◌, ◌+◌, take}
-use Rattle.wit_types.specs.declared.interface.TypeDef.{TypeDef}
+use Rattle.wit_features.specs.Passed.wit_types-declared-interface-TypeDef.{TypeDef}
 use Rattle.wit_moves.specs.Plan as spec
 use Rattle.wit_moves.specs.View as seen
 use Rattle.wit_moves.proofs.plan.type_places.Given as goal

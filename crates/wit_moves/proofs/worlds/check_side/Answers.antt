@@ -1,8 +1,8 @@
 use Rattle.std.proofs.Common.{◌≡◌, ℕ, true, false, Some, sym, subst, ap, ◌∙◌, arith, below_more}
 use Rattle.std.proofs.lemmas.Option.{same_Some, slice_get_within}
 use Rattle.std.specs.Prelude.{slice_get}
-use Rattle.wit_types.specs.declared.world.WorldItem.{WorldItem}
-use Rattle.wit_types.specs.declared.world_key.WorldKey.{WorldKey}
+use Rattle.wit_features.specs.Passed.wit_types-declared-world-WorldItem.{WorldItem}
+use Rattle.wit_features.specs.Passed.wit_types-declared-world_key-WorldKey.{WorldKey}
 use Rattle.wit_moves.specs.Worlds.{item_stays, is_item_placed}
 use Rattle.wit_moves.proofs.worlds.check_side.Goals as goal
 use Rattle.wit_moves.proofs.worlds.check_side.Goals.{else-item_stays-via-then-item_stays+else-not-has_item, else-item_stays-via-else-item_stays}

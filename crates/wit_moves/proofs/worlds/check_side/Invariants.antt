@@ -1,7 +1,7 @@
 use Rattle.std.proofs.Common.{◌≡◌, ◌<◌, ℕ, true, false, Some}
 use Rattle.std.specs.Prelude.{slice_get}
-use Rattle.wit_types.specs.declared.world.WorldItem.{WorldItem}
-use Rattle.wit_types.specs.declared.world_key.WorldKey.{WorldKey}
+use Rattle.wit_features.specs.Passed.wit_types-declared-world-WorldItem.{WorldItem}
+use Rattle.wit_features.specs.Passed.wit_types-declared-world_key-WorldKey.{WorldKey}
 use Rattle.wit_moves.specs.Worlds.{item_stays, is_item_placed}
 use Rattle.wit_moves.proofs.worlds.check_side.Given as goal
 

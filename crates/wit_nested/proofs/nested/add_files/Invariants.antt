@@ -1,5 +1,5 @@
 use Rattle.std.proofs.Common.{map, take, length}
-use Rattle.wit_syntax.specs.AstView as view
+use Rattle.wit_scopes.specs.Passed.wit_syntax-AstView as view
 use Rattle.wit_nested.specs.View as seen
 use Rattle.wit_nested.proofs.nested.add_files.Given as goal
 

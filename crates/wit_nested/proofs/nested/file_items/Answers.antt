@@ -3,7 +3,7 @@ use Rattle.std.proofs.lemmas.Result.{IfOk-weaker}
 use Rattle.std.proofs.lemmas.Iterator.{YieldsList-from_map_by}
 use Rattle.std.proofs.lemmas.Iterator.Adapters.{YieldsList-from_vec}
 use Rattle.std.proofs.lemmas.Iterator.Consumers.{YieldsList-at, map_from_collect}
-use Rattle.wit_syntax.specs.AstView as view
+use Rattle.wit_scopes.specs.Passed.wit_syntax-AstView as view
 use Rattle.wit_nested.specs.Nested as spec
 use Rattle.wit_nested.proofs.nested.file_items.Goals as goal
 

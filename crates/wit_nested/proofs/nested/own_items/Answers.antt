@@ -4,8 +4,8 @@ use Rattle.std.proofs.lemmas.List.{length_push}
 use Rattle.std.proofs.lemmas.Iterator.Adapters.{YieldsList-from_vec}
 use Rattle.std.proofs.lemmas.Iterator.Consumers.{YieldsList-turn, YieldsList-end}
 use Rattle.std.specs.Prelude.{flat_map}
-use Rattle.wit_syntax.specs.Ast.{GatedTree, FileItemTree, FileTree}
-use Rattle.wit_syntax.specs.AstView as view
+use Rattle.wit_scopes.specs.Passed.wit_syntax-Ast.{GatedTree, FileItemTree, FileTree}
+use Rattle.wit_scopes.specs.Passed.wit_syntax-AstView as view
 use Rattle.wit_scopes.proofs.Lists.{flat_map-more}
 use Rattle.wit_nested.specs.Nested as spec
 use Rattle.wit_nested.proofs.nested.own_items.Goals as goal

@@ -1,6 +1,6 @@
 use Rattle.std.proofs.Common.{◌≡◌, ◌++◌, map, take, length}
 use Rattle.std.specs.Prelude.{flat_map}
-use Rattle.wit_syntax.specs.AstView as view
+use Rattle.wit_scopes.specs.Passed.wit_syntax-AstView as view
 use Rattle.wit_nested.specs.Nested as spec
 use Rattle.wit_nested.proofs.nested.own_items.Given as goal
 

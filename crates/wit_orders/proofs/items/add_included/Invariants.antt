@@ -1,7 +1,7 @@
 use Rattle.std.proofs.Common.{◌≡◌, ◌++◌, map, take}
 use Rattle.std.specs.Prelude.{flat_map}
-use Rattle.wit_syntax.specs.AstView as view
-use Rattle.wit_scopes.specs.View as scope_view
+use Rattle.wit_type_names.specs.Passed.wit_syntax-AstView as view
+use Rattle.wit_type_names.specs.Passed.wit_scopes-View as scope_view
 use Rattle.wit_orders.specs.Needs.{included_item}
 use Rattle.wit_orders.proofs.items.add_included.Given as goal
 

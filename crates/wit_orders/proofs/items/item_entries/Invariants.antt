@@ -1,5 +1,5 @@
 use Rattle.std.proofs.Common.{◌≡◌, map, take}
-use Rattle.wit_scopes.specs.View as scope_view
+use Rattle.wit_type_names.specs.Passed.wit_scopes-View as scope_view
 use Rattle.wit_orders.specs.Needs.{item_entry}
 use Rattle.wit_orders.specs.View as seen
 use Rattle.wit_orders.proofs.items.item_entries.Given as goal

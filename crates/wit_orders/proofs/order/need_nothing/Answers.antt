@@ -4,7 +4,7 @@ use Rattle.std.proofs.lemmas.List.{length-map}
 use Rattle.std.proofs.lemmas.Option.{slice_get-map, slice_get_within, same_Some}
 use Rattle.wit_rules.proofs.Places.{read_at}
 use Rattle.wit_orders.specs.Needs.{Entry}
-use Rattle.wit_syntax.specs.AstView as view
+use Rattle.wit_type_names.specs.Passed.wit_syntax-AstView as view
 use Rattle.wit_orders.specs.View as seen
 use Rattle.wit_orders.proofs.Rows.{none_of, some_of}
 use Rattle.wit_orders.proofs.order.need_nothing.Goals as goal

@@ -1,5 +1,5 @@
 use Rattle.std.proofs.Common.{◌≡◌, map, take}
-use Rattle.wit_syntax.specs.AstView as view
+use Rattle.wit_type_names.specs.Passed.wit_syntax-AstView as view
 use Rattle.wit_orders.specs.Rows.{places_in}
 use Rattle.wit_orders.proofs.order.places_of.Given as goal
 

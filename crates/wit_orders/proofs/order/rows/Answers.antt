@@ -3,7 +3,7 @@ use Rattle.std.specs.Prelude.{slice_get, option_map}
 use Rattle.std.proofs.lemmas.List.{map_push}
 use Rattle.std.proofs.lemmas.Option.{slice_get-map}
 use Rattle.wit_rules.proofs.Places.{read_at, taken}
-use Rattle.wit_syntax.specs.AstView as view
+use Rattle.wit_type_names.specs.Passed.wit_syntax-AstView as view
 use Rattle.wit_orders.specs.Needs.{labels}
 use Rattle.wit_orders.specs.Rows.{row_of, places_in}
 use Rattle.wit_orders.specs.declared.order.Entry.{Entry as Named}

@@ -3,9 +3,9 @@ use Rattle.std.specs.Prelude.{slice_get, option_map}
 use Rattle.std.proofs.lemmas.List.{length-map}
 use Rattle.std.proofs.lemmas.Option.{slice_get-map, same_Some}
 use Rattle.wit_rules.proofs.Places.{read_at}
-use Rattle.wit_scopes.specs.Members.{MemberKind, MemberTree, used, defined, function, method, static, constructor}
-use Rattle.wit_scopes.specs.declared.members.Member.{Member}
-use Rattle.wit_scopes.specs.View as scope_view
+use Rattle.wit_type_names.specs.Passed.wit_scopes-Members.{MemberKind, MemberTree, used, defined, function, method, static, constructor}
+use Rattle.wit_type_names.specs.Passed.wit_scopes-declared-members-Member.{Member}
+use Rattle.wit_type_names.specs.Passed.wit_scopes-View as scope_view
 use Rattle.wit_orders.specs.Needs.{type_of, member_type, types_of}
 use Rattle.wit_orders.proofs.types.are_types.Goals as goal
 

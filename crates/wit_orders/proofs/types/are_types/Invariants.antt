@@ -1,7 +1,7 @@
 use Rattle.std.proofs.Common.{◌≡◌, ◌<◌, ℕ, [], ◌∷◌, Some}
 use Rattle.std.specs.Prelude.{slice_get}
-use Rattle.wit_scopes.specs.Members.{MemberTree}
-use Rattle.wit_scopes.specs.View as scope_view
+use Rattle.wit_type_names.specs.Passed.wit_scopes-Members.{MemberTree}
+use Rattle.wit_type_names.specs.Passed.wit_scopes-View as scope_view
 use Rattle.wit_orders.specs.Needs.{member_type}
 use Rattle.wit_orders.proofs.types.are_types.Given as goal
 

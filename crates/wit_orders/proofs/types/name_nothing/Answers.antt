@@ -3,9 +3,9 @@ use Rattle.std.specs.Prelude.{◌==◌, slice_get, option_map}
 use Rattle.std.proofs.lemmas.List.{length-map}
 use Rattle.std.proofs.lemmas.Option.{slice_get-map, slice_get_within, same_Some}
 use Rattle.wit_rules.proofs.Places.{read_at}
-use Rattle.wit_scopes.specs.declared.members.Member.{Member}
-use Rattle.wit_scopes.specs.View as scope_view
-use Rattle.wit_syntax.specs.AstView as view
+use Rattle.wit_type_names.specs.Passed.wit_scopes-declared-members-Member.{Member}
+use Rattle.wit_type_names.specs.Passed.wit_scopes-View as scope_view
+use Rattle.wit_type_names.specs.Passed.wit_syntax-AstView as view
 use Rattle.wit_orders.specs.Needs.{Entry, type_entry}
 use Rattle.wit_orders.proofs.Rows.{none_of, some_of}
 use Rattle.wit_orders.proofs.Turns.{sorted_in_turn}

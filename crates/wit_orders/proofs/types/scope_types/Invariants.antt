@@ -1,5 +1,5 @@
 use Rattle.std.proofs.Common.{◌≡◌, take}
-use Rattle.wit_scopes.specs.View as scope_view
+use Rattle.wit_type_names.specs.Passed.wit_scopes-View as scope_view
 use Rattle.wit_orders.specs.Needs.{types_of}
 use Rattle.wit_orders.proofs.types.scope_types.Given as goal
 

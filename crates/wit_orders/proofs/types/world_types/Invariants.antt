@@ -1,5 +1,5 @@
 use Rattle.std.proofs.Common.{◌≡◌, map, take}
-use Rattle.wit_scopes.specs.View as scope_view
+use Rattle.wit_type_names.specs.Passed.wit_scopes-View as scope_view
 use Rattle.wit_orders.specs.Needs as spec
 use Rattle.wit_orders.proofs.types.world_types.Given as goal
 

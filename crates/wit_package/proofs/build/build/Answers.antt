@@ -4,8 +4,8 @@ use Rattle.wit_scopes.proofs.Outcomes.{if_err, on_ok}
 use Rattle.wit_scopes.specs.Scopes.{InterfaceScope}
 use Rattle.wit_scopes.specs.View as scope_view
 use Rattle.wit_rules.specs.Breaks.{IsFaultOf}
-use Rattle.wit_interfaces.specs.Places.{interfaces_at}
-use Rattle.wit_interfaces.proofs.Viewing.{so_many_interfaces}
+use Rattle.wit_built_worlds.specs.Passed.wit_interfaces-Places.{interfaces_at}
+use Rattle.wit_built_worlds.proofs.Passed.wit_interfaces-Viewing.{so_many_interfaces}
 use Rattle.wit_built_worlds.specs.Adding.{WorldsBreak}
 use Rattle.wit_built_worlds.specs.Places.{worlds_at}
 use Rattle.wit_package.specs.Built.{ItemsBreak}

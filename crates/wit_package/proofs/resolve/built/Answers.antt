@@ -3,8 +3,8 @@ use Rattle.wit_scopes.specs.Scopes.{ItemScope}
 use Rattle.wit_scopes.specs.declared.scopes.ItemScope.{ItemScope as Scope}
 use Rattle.wit_scopes.specs.View as scope_view
 use Rattle.wit_rules.specs.Breaks.{IsKept, IsFaultOf}
-use Rattle.wit_foreign.specs.View as asked
-use Rattle.wit_interfaces.specs.Places.{interfaces_at, AreInterfacePlaces}
+use Rattle.wit_placeholders.specs.Passed.wit_foreign-View as asked
+use Rattle.wit_built_worlds.specs.Passed.wit_interfaces-Places.{interfaces_at, AreInterfacePlaces}
 use Rattle.wit_built_worlds.specs.Places.{worlds_at, AreWorldPlaces}
 use Rattle.wit_package.specs.Built.{AreReadyTogether, MayBuild, Builds, ItemsBreak}
 use Rattle.wit_package.specs.Resolved.{context_of}

@@ -3,9 +3,9 @@ use Rattle.std.proofs.lemmas.Result.{IfOk-weaker}
 use Rattle.std.specs.declared.alloc.Global.{Global}
 use Rattle.wit_syntax.specs.AstView as view
 use Rattle.wit_scopes.specs.View as scope_view
-use Rattle.wit_foreign.specs.declared.needs.Need.{Need}
-use Rattle.wit_foreign.specs.Needs.{AreUses}
-use Rattle.wit_foreign.specs.View as asked
+use Rattle.wit_placeholders.specs.Passed.wit_foreign-declared-needs-Need.{Need}
+use Rattle.wit_placeholders.specs.Passed.wit_foreign-Needs.{AreUses}
+use Rattle.wit_placeholders.specs.Passed.wit_foreign-View as asked
 use Rattle.wit_package.specs.TopUses.{with_top_uses}
 use Rattle.wit_package.proofs.Among.{all_uses}
 use Rattle.wit_package.proofs.resolve.needs_of.Goals as goal

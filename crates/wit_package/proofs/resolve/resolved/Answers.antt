@@ -5,12 +5,12 @@ use Rattle.wit_scopes.specs.declared.scopes.ItemScope.{ItemScope as Scope}
 use Rattle.wit_scopes.specs.View as scope_view
 use Rattle.wit_scopes.proofs.Outcomes.{if_err, if_ok}
 use Rattle.wit_rules.specs.Breaks.{IsKept, IsFaultOf}
-use Rattle.wit_lookups.specs.Lookups.{LookupsBreak}
-use Rattle.wit_orders.specs.Needs.{item_entry, IsOrderOf, CircleBreaks}
+use Rattle.wit_checked_lookups.specs.Passed.wit_lookups-Lookups.{LookupsBreak}
+use Rattle.wit_built_worlds.specs.Passed.wit_orders-Needs.{item_entry, IsOrderOf, CircleBreaks}
 use Rattle.wit_arena.specs.Meaning.{package_text}
-use Rattle.wit_foreign.specs.declared.needs.Need.{Need}
-use Rattle.wit_foreign.specs.Needs.{NeedTree}
-use Rattle.wit_foreign.specs.View as asked
+use Rattle.wit_placeholders.specs.Passed.wit_foreign-declared-needs-Need.{Need}
+use Rattle.wit_placeholders.specs.Passed.wit_foreign-Needs.{NeedTree}
+use Rattle.wit_placeholders.specs.Passed.wit_foreign-View as asked
 use Rattle.wit_package.specs.Faults.{VersionsBreak, packages_in, OneScopeBreaks}
 use Rattle.wit_package.specs.Steps.{AreChecked, IsResolvedIn, Resolves, Refuses}
 use Rattle.wit_package.proofs.Stepping.{lookups_refused, needs_same, versions_refused, circle_refused, scope_refused_whole, checked_with, resolves}

@@ -1,7 +1,7 @@
 use Rattle.std.proofs.Common.{List, map, sym, subst}
 use Rattle.wit_scopes.specs.declared.scopes.ItemScope.{ItemScope as Scope}
 use Rattle.wit_scopes.specs.View as scope_view
-use Rattle.wit_foreign.specs.View as asked
+use Rattle.wit_placeholders.specs.Passed.wit_foreign-View as asked
 use Rattle.wit_package.specs.Places.{AreAt}
 use Rattle.wit_package.proofs.Stepping.{sorted_there, set_with, placed_as}
 use Rattle.wit_package.proofs.resolve.resolved_in.Goals as goal

@@ -1,5 +1,5 @@
 use Rattle.wit_syntax.specs.AstView as view
-use Rattle.wit_foreign.specs.View as asked
+use Rattle.wit_placeholders.specs.Passed.wit_foreign-View as asked
 use Rattle.wit_package.specs.TopUses.{top_needs}
 use Rattle.wit_package.proofs.Among.{row_more}
 use Rattle.wit_package.proofs.top_uses.add_needs.Goals as goal

@@ -1,9 +1,9 @@
 use Rattle.std.proofs.Common.{◌≡◌, ◌++◌, List, map, take}
 use Rattle.std.specs.Prelude.{flat_map}
 use Rattle.wit_syntax.specs.AstView as view
-use Rattle.wit_foreign.specs.Needs.{NeedTree}
-use Rattle.wit_foreign.specs.Items.{AreItemsOf}
-use Rattle.wit_foreign.specs.View as asked
+use Rattle.wit_placeholders.specs.Passed.wit_foreign-Needs.{NeedTree}
+use Rattle.wit_placeholders.specs.Passed.wit_foreign-Items.{AreItemsOf}
+use Rattle.wit_placeholders.specs.Passed.wit_foreign-View as asked
 use Rattle.wit_package.specs.TopUses as spec
 use Rattle.wit_package.proofs.top_uses.add_needs.Given as goal
 

@@ -1,7 +1,7 @@
 use Rattle.std.proofs.Common.{◌≡◌, take}
 use Rattle.wit_syntax.specs.AstView as view
 use Rattle.wit_scopes.specs.View as scope_view
-use Rattle.wit_foreign.specs.View as asked
+use Rattle.wit_placeholders.specs.Passed.wit_foreign-View as asked
 use Rattle.wit_package.specs.TopUses as spec
 use Rattle.wit_package.proofs.top_uses.top_needs.Given as goal
 

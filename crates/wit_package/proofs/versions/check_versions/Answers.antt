@@ -1,7 +1,7 @@
 use Rattle.std.proofs.Common.{◌∷◌}
 use Rattle.wit_syntax.specs.AstView as view
 use Rattle.wit_scopes.proofs.Outcomes.{if_err, on_ok}
-use Rattle.wit_foreign.specs.View as asked
+use Rattle.wit_placeholders.specs.Passed.wit_foreign-View as asked
 use Rattle.wit_rules.specs.Breaks.{IsFaultOf}
 use Rattle.wit_package.specs.Faults.{VersionsBreak, packages_in}
 use Rattle.wit_package.proofs.Naming.{first_breaks, others_break, names_kept}

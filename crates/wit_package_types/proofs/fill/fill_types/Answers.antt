@@ -1,5 +1,5 @@
 use Rattle.std.proofs.Common.{[], ◌+◌, take, sym, subst}
-use Rattle.wit_scopes.specs.View as scope_view
+use Rattle.wit_rules.specs.Passed.wit_scopes-View as scope_view
 use Rattle.wit_arena.specs.Table.{Entries}
 use Rattle.wit_package_types.specs.Fill.{Fills, fills_none}
 use Rattle.wit_package_types.proofs.Filling.{next_found, next_gates, next_new, next_filled}

@@ -1,5 +1,5 @@
 use Rattle.std.proofs.Common.{take}
-use Rattle.wit_scopes.specs.View as scope_view
+use Rattle.wit_rules.specs.Passed.wit_scopes-View as scope_view
 use Rattle.wit_package_types.specs.Fill.{Fills}
 use Rattle.wit_package_types.proofs.fill.fill_types.Given as goal
 

@@ -1,9 +1,9 @@
 use Rattle.std.proofs.Common.{sym, subst}
 use Rattle.wit_types.specs.declared.kind.«Type».TheVariants.{Id}
 use Rattle.wit_types.specs.declared.kind.TypeDefKind.TheVariants as kind
-use Rattle.wit_syntax.specs.AstView as view
-use Rattle.wit_scopes.specs.declared.members.MemberKind.{MemberKind}
-use Rattle.wit_scopes.specs.View as scope_view
+use Rattle.wit_rules.specs.Passed.wit_syntax-AstView as view
+use Rattle.wit_rules.specs.Passed.wit_scopes-declared-members-MemberKind.{MemberKind}
+use Rattle.wit_rules.specs.Passed.wit_scopes-View as scope_view
 use Rattle.wit_package_types.specs.Fill.{names_of, IsFound, GivesKind, gives_defined, gives_used}
 use Rattle.wit_package_types.proofs.Finding.{named_entry}
 use Rattle.wit_package_types.proofs.fill.kind_in.Goals as goal

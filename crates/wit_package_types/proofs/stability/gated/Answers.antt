@@ -1,6 +1,6 @@
 use Rattle.std.proofs.Common.{sym, subst}
 use Rattle.std.specs.Prelude.{option_map}
-use Rattle.wit_syntax.specs.AstView as view
+use Rattle.wit_rules.specs.Passed.wit_syntax-AstView as view
 use Rattle.wit_rules.specs.declared.gates.Gates.{Gates}
 use Rattle.wit_rules.specs.View as rule_view
 use Rattle.wit_types.specs.declared.stability.Stability.TheVariants.{Unknown, Unstable, Stable}

@@ -1,7 +1,7 @@
 use Rattle.std.proofs.Common.{Option, Some, None, sym, subst}
 use Rattle.std.specs.Prelude.{option_map}
-use Rattle.wit_productions.specs.declared.names.Version.{Version}
-use Rattle.wit_syntax.specs.AstView as view
+use Rattle.wit_rules.specs.Passed.wit_productions-declared-names-Version.{Version}
+use Rattle.wit_rules.specs.Passed.wit_syntax-AstView as view
 use Rattle.wit_package_types.specs.Stability.{IsVersionWhere, no_version, a_version}
 use Rattle.wit_package_types.proofs.stability.optional_version.Goals as goal
 

@@ -1,4 +1,4 @@
-use Rattle.wit_moves.proofs.Leading.{leads_at}
+use Rattle.wit_finding.proofs.Passed.wit_moves-Leading.{leads_at}
 use Rattle.wit_plans.specs.Checks as spec
 use Rattle.wit_plans.proofs.checks.check_includes.Goals as goal
 

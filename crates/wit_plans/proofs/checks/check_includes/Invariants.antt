@@ -1,5 +1,5 @@
 use Rattle.std.proofs.Math.ListN.{drop}
-use Rattle.wit_moves.proofs.Leading.{Leads}
+use Rattle.wit_finding.proofs.Passed.wit_moves-Leading.{Leads}
 use Rattle.wit_plans.specs.Checks as spec
 use Rattle.wit_plans.proofs.checks.check_includes.Given as goal
 

@@ -1,6 +1,6 @@
 use Rattle.std.proofs.Common.{sym, subst}
 use Rattle.std.proofs.lemmas.Result.{on_ok_weaker}
-use Rattle.wit_moves.specs.Interfaces.{FunctionsBreak}
+use Rattle.wit_finding.specs.Passed.wit_moves-Interfaces.{FunctionsBreak}
 use Rattle.wit_plans.specs.Checks.{Standing}
 use Rattle.wit_plans.proofs.checks.check_interface.Goals as goal
 

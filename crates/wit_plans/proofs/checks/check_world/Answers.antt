@@ -1,7 +1,7 @@
 use Rattle.std.proofs.Common.{inl, inr, List, sym, subst}
 use Rattle.std.proofs.lemmas.Result.{on_ok_weaker}
-use Rattle.wit_types.specs.declared.world.WorldInclude.{WorldInclude}
-use Rattle.wit_moves.specs.Breaks.{AnyOf}
+use Rattle.wit_finding.specs.Passed.wit_types-declared-world-WorldInclude.{WorldInclude}
+use Rattle.wit_finding.specs.Passed.wit_moves-Breaks.{AnyOf}
 use Rattle.wit_plans.specs.Checks.{IncludeBreaks}
 use Rattle.wit_plans.proofs.checks.check_world.Goals as goal
 

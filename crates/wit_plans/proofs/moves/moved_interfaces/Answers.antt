@@ -1,6 +1,6 @@
 use Rattle.std.proofs.Common.{◌≡◌, List, [], ◌++◌, sym, ap, ◌∙◌, subst, arith}
 use Rattle.std.proofs.lemmas.List.{append_assoc, append-nil, nil_from_length}
-use Rattle.wit_types.specs.declared.interface.Interface.{Interface}
+use Rattle.wit_finding.specs.Passed.wit_types-declared-interface-Interface.{Interface}
 use Rattle.wit_plans.specs.Moves.{AreMovedInterfaces, no_interfaces}
 use Rattle.wit_plans.proofs.Adding.{one_interface}
 use Rattle.wit_plans.proofs.moves.moved_interfaces.Goals as goal

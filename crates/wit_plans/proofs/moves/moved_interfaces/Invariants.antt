@@ -1,5 +1,5 @@
 use Rattle.std.proofs.Common.{List, ◌++◌}
-use Rattle.wit_types.specs.declared.interface.Interface.{Interface}
+use Rattle.wit_finding.specs.Passed.wit_types-declared-interface-Interface.{Interface}
 use Rattle.wit_plans.specs.Moves as spec
 use Rattle.wit_plans.proofs.moves.moved_interfaces.Given as goal
 

@@ -1,5 +1,5 @@
 use Rattle.std.proofs.Common.{refl, subst}
-use Rattle.wit_moves.specs.Worlds.{IsMovedSide}
+use Rattle.wit_finding.specs.Passed.wit_moves-Worlds.{IsMovedSide}
 use Rattle.wit_plans.specs.Checks.{Standing}
 use Rattle.wit_plans.proofs.moves.put_sides.Goals as goal
 

@@ -1,5 +1,5 @@
 use Rattle.std.proofs.lemmas.Result.{err_from_is_err_and}
-use Rattle.wit_moves.specs.View.{owners}
+use Rattle.wit_finding.specs.Passed.wit_moves-View.{owners}
 use Rattle.wit_plans.specs.View as seen
 use Rattle.wit_plans.proofs.Causes.{part_cause}
 use Rattle.wit_plans.proofs.plans.plan_of.Goals as goal

@@ -1,7 +1,7 @@
 use Rattle.std.proofs.Common.{◌≡◌, ◌∷◌, ◌++◌, [], map, length, arith, false, sym, refl, ap}
 use Rattle.std.proofs.lemmas.Result.{err_from_is_err_and}
 use Rattle.std.proofs.lemmas.List.{map_push}
-use Rattle.wit_words.specs.declared.token.Kind.TheVariants as kind
+use Rattle.wit_tokens.specs.Passed.wit_words-declared-token-Kind-TheVariants as kind
 use Rattle.wit_productions.specs.Production.{sees}
 use Rattle.wit_productions.specs.TypeGrammar.{type_in}
 use Rattle.wit_productions.specs.TypeView.{type_tree}

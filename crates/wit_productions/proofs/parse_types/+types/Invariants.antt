@@ -1,5 +1,5 @@
 use Rattle.std.proofs.Common.{◌≡◌, map, length, ◌+◌, ◌*◌}
-use Rattle.wit_words.specs.declared.token.Kind.TheVariants as kind
+use Rattle.wit_tokens.specs.Passed.wit_words-declared-token-Kind-TheVariants as kind
 use Rattle.wit_productions.specs.Production.{commas, onto}
 use Rattle.wit_productions.specs.TypeGrammar.{type_in}
 use Rattle.wit_productions.specs.TypeView.{type_tree}

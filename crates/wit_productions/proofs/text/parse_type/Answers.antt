@@ -2,7 +2,7 @@ use Rattle.std.proofs.Common.{◌+◌, length}
 use Rattle.std.proofs.lemmas.Result.{err_from_is_err_and}
 use Rattle.wit_productions.specs.TypeView.{type_tree}
 use Rattle.wit_productions.specs.TypeGrammar.{whole_type}
-use Rattle.wit_words.specs.Token.{toks}
+use Rattle.wit_tokens.specs.Passed.wit_words-Token.{toks}
 use Rattle.wit_productions.specs.WholeText.{GivesTree}
 use Rattle.wit_productions.proofs.TreeBreaks.{broken_tree}
 use Rattle.wit_productions.proofs.TypeLaws.{whole_type_law}

@@ -1,5 +1,5 @@
 use Rattle.std.proofs.Common.{ℕ, ◌⊎◌, inl, inr, List, subst}
-use Rattle.wit_order.specs.Order.{Has}
+use Rattle.wit_types.specs.Passed.wit_order-Order.{Has}
 use Rattle.wit_types.specs.declared.interface.TypeDef.{TypeDef}
 use Rattle.wit_reach.specs.Deps.{IsDepOf, AreUsed}
 use Rattle.wit_reach.proofs.Lists.{item_has, item_more}

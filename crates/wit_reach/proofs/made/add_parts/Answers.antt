@@ -1,6 +1,6 @@
 use Rattle.std.proofs.Common.{◌≡◌, ℕ, List, ◌∙◌, ◌++◌, ◌⊎◌, inl, inr, true, sym, subst, ap}
 use Rattle.std.proofs.lemmas.Result.{on_ok_weaker}
-use Rattle.wit_order.specs.Order.{Has}
+use Rattle.wit_types.specs.Passed.wit_order-Order.{Has}
 use Rattle.wit_reach.specs.Ids.{kind_ids}
 use Rattle.wit_reach.specs.Made.{sees_into, Sees}
 use Rattle.wit_reach.proofs.Seen.{seen, seen_into}

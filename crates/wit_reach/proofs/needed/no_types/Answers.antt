@@ -1,6 +1,6 @@
 use Rattle.std.proofs.Common.{◌≡◌, ◌+◌, ◌∷◌, [], ◌∙◌, sym, subst, ap, arith, length, length-append}
-use Rattle.wit_order.specs.Places.{row, Rows}
-use Rattle.wit_order.proofs.Lists.{row_more}
+use Rattle.wit_types.specs.Passed.wit_order-Places.{row, Rows}
+use Rattle.wit_types.proofs.Passed.wit_order-Lists.{row_more}
 use Rattle.wit_reach.proofs.needed.no_types.Goals as goal
 
 pub loop-interface-preserved : goal.loop-interface-preserved

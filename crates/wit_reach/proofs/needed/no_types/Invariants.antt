@@ -1,5 +1,5 @@
 use Rattle.std.proofs.Common.{◌≡◌, ℕ, [], length}
-use Rattle.wit_order.specs.Places.{row}
+use Rattle.wit_types.specs.Passed.wit_order-Places.{row}
 use Rattle.wit_reach.proofs.needed.no_types.Given as goal
 
 abbrev pub invariant-loop-interface : goal.invariant-loop-interface

@@ -1,7 +1,7 @@
 use Rattle.std.proofs.Common.{◌≡◌, ℕ, ◌<◌, ◌∙◌, ◌∷◌, ◌++◌, [], List, Some, sym, subst, ap, length, set}
 use Rattle.std.proofs.lemmas.Option.{same_Some}
-use Rattle.wit_order.specs.Places.{row}
-use Rattle.wit_order.proofs.Lists.{row_read, row_set_same, row_set_other}
+use Rattle.wit_types.specs.Passed.wit_order-Places.{row}
+use Rattle.wit_types.proofs.Passed.wit_order-Lists.{row_read, row_set_same, row_set_other}
 use Rattle.wit_reach.proofs.Sorting.{belongs_one}
 use Rattle.wit_reach.proofs.needed.put.Goals as goal
 

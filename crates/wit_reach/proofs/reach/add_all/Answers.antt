@@ -1,6 +1,6 @@
 use Rattle.std.proofs.Common.{◌≡◌, ℕ, ◌⊎◌, ◌∷◌, ◌++◌, [], inl, inr, List, sym, subst, ap, length, ◌∙◌, append_assoc}
-use Rattle.wit_order.specs.Order.{Has}
-use Rattle.wit_order.proofs.Lists.{has_insert, has_inserted, has_more, has_was, has_last}
+use Rattle.wit_types.specs.Passed.wit_order-Order.{Has}
+use Rattle.wit_types.proofs.Passed.wit_order-Lists.{has_insert, has_inserted, has_more, has_was, has_last}
 use Rattle.wit_reach.proofs.Lists.{has_parts, copied_next, copied_none}
 use Rattle.wit_reach.proofs.reach.add_all.Goals as goal
 

@@ -1,8 +1,8 @@
 use Rattle.std.proofs.Common.{◌≡◌, ℕ, ◌⊎◌, inl, inr, List, sym, subst, ◌∙◌, ◌++◌, ◌∷◌, [], ap, true}
 use Rattle.std.specs.Prelude.{Vec}
 use Rattle.std.specs.declared.alloc.Global.{Global}
-use Rattle.wit_order.specs.Order.{Has}
-use Rattle.wit_order.proofs.Lists.{has_was, has_last, has_more}
+use Rattle.wit_types.specs.Passed.wit_order-Order.{Has}
+use Rattle.wit_types.proofs.Passed.wit_order-Lists.{has_was, has_last, has_more}
 use Rattle.wit_reach.proofs.Lists.{item_has, item_more}
 use Rattle.wit_reach.proofs.reach.add_others.Goals as goal
 use Rattle.wit_reach.proofs.reach.add_others.Goals.{then-not-has+in_ok-push, else-not-has}

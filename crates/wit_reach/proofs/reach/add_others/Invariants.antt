@@ -1,5 +1,5 @@
 use Rattle.std.proofs.Common.{ℕ, ◌⊎◌, take}
-use Rattle.wit_order.specs.Order.{Has}
+use Rattle.wit_types.specs.Passed.wit_order-Order.{Has}
 use Rattle.wit_reach.proofs.reach.add_others.Given as goal
 
 abbrev pub invariant-loop-interface : goal.invariant-loop-interface

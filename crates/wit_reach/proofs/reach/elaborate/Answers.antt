@@ -1,5 +1,5 @@
 use Rattle.std.proofs.Common.{◌≡◌, ℕ, List, sym, subst, ◌++◌, ◌↔◌}
-use Rattle.wit_order.specs.Order.{Has}
+use Rattle.wit_types.specs.Passed.wit_order-Order.{Has}
 use Rattle.wit_reach.specs.Reach.{lists_of, Lists, IsNeededOutside, Uses}
 use Rattle.wit_reach.specs.Paths.{AreEnds}
 use Rattle.wit_reach.proofs.Ends.{start_list, no_conflict, elaborates}

@@ -1,5 +1,5 @@
 use Rattle.std.proofs.Common.{◌≡◌, ℕ, inl, inr, subst, true, false}
-use Rattle.wit_order.specs.Order.{Has}
+use Rattle.wit_types.specs.Passed.wit_order-Order.{Has}
 use Rattle.wit_reach.proofs.Lists.{item_has, item_more}
 use Rattle.wit_reach.proofs.reach.first_in.Goals as goal
 

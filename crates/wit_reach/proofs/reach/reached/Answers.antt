@@ -1,11 +1,11 @@
 use Rattle.std.proofs.Common.{◌≡◌, ◌<◌, ℕ, List, sym, subst, ◌∙◌, ap, length, ◌++◌, ◌∷◌, [], ◌⊎◌, rules}
-use Rattle.wit_order.specs.Order.{Has}
-use Rattle.wit_order.specs.Places.{row}
+use Rattle.wit_types.specs.Passed.wit_order-Order.{Has}
+use Rattle.wit_types.specs.Passed.wit_order-Places.{row}
 use Rattle.std.specs.Prelude.{reverse}
 use Rattle.wit_reach.specs.Paths.{AreEnds}
 use Rattle.wit_reach.specs.Reach.{Uses}
 use Rattle.wit_reach.specs.Walk.{Walk, bottom}
-use Rattle.wit_order.proofs.Lists.{row_read}
+use Rattle.wit_types.proofs.Passed.wit_order-Lists.{row_read}
 use Rattle.wit_reach.proofs.Lists.{none_left}
 use Rattle.wit_reach.proofs.Ends.{walk_begins, walk_step, walk_falls, walk_ends}
 use Rattle.wit_reach.proofs.reach.reached.Goals as goal

@@ -1,7 +1,7 @@
 use Rattle.std.proofs.Common.{◌≡◌, ◌<◌, ◌⊎◌, ℕ, inl, inr, List, sym, subst, ◌∙◌, ap, length, rules}
-use Rattle.wit_order.specs.Order.{Has}
-use Rattle.wit_order.specs.Places.{row}
-use Rattle.wit_order.proofs.Lists.{row_read}
+use Rattle.wit_types.specs.Passed.wit_order-Order.{Has}
+use Rattle.wit_types.specs.Passed.wit_order-Places.{row}
+use Rattle.wit_types.proofs.Passed.wit_order-Lists.{row_read}
 use Rattle.wit_reach.specs.Reach.{Uses}
 use Rattle.wit_reach.proofs.Lists.{item_has, item_more}
 use Rattle.wit_reach.proofs.world.add_uses.Goals as goal

@@ -1,5 +1,5 @@
 use Rattle.std.proofs.Common.{ℕ, ◌<◌, List, inl, inr, subst, length, arith}
-use Rattle.wit_order.specs.Order.{Has}
+use Rattle.wit_types.specs.Passed.wit_order-Order.{Has}
 use Rattle.wit_reach.specs.Lists.{item_types}
 use Rattle.wit_reach.proofs.There.{used_within, labelled_has, listed_has}
 use Rattle.wit_reach.proofs.world.law_lists_are_there.Goals as goal

@@ -1,9 +1,9 @@
 use Rattle.std.proofs.lemmas.Result.{err_from_is_err_and}
 use Rattle.std.proofs.Common.{◌∷◌, ◌++◌, [], ◌≡◌}
 use Rattle.std.specs.Prelude.{IfErr, OnOk}
-use Rattle.wit_package.specs.GroupView.{texts}
-use Rattle.wit_package.specs.declared.group.UnresolvedPackageGroup.{UnresolvedPackageGroup}
-use Rattle.wit_package.specs.Group.{of_nowhere}
+use Rattle.wit_well_formed.specs.Passed.wit_package-GroupView.{texts}
+use Rattle.wit_well_formed.specs.Passed.wit_package-declared-group-UnresolvedPackageGroup.{UnresolvedPackageGroup}
+use Rattle.wit_well_formed.specs.Passed.wit_package-Group.{of_nowhere}
 use Rattle.wit_resolution.specs.Texts.{IsGroupOf, IsUnread}
 use Rattle.wit_resolution.proofs.texts.add_group_of.Goals as goal
 use Rattle.wit_resolution.proofs.texts.add_group_of.Goals.{in-Ok, in-Err}

@@ -1,7 +1,7 @@
 use Rattle.std.proofs.Common.{◌≤◌, length, drop, arith, inr}
 use Rattle.std.proofs.lemmas.List.{drop_all}
 use Rattle.std.proofs.lemmas.Result.{err_from_is_err_and}
-use Rattle.wit_package.specs.GroupView.{texts}
+use Rattle.wit_well_formed.specs.Passed.wit_package-GroupView.{texts}
 use Rattle.wit_resolution.proofs.Coming.{has_alone, all_came}
 use Rattle.wit_resolution.proofs.texts.groups_of_texts.Goals as goal
 

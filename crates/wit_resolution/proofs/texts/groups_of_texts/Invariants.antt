@@ -1,5 +1,5 @@
 use Rattle.std.proofs.Common.{drop}
-use Rattle.wit_package.specs.GroupView.{texts}
+use Rattle.wit_well_formed.specs.Passed.wit_package-GroupView.{texts}
 use Rattle.wit_resolution.proofs.Coming.{Coming}
 use Rattle.wit_resolution.proofs.texts.groups_of_texts.Given as goal
 

@@ -1,5 +1,5 @@
-use Rattle.wit_scopes.specs.View as scope_view
-use Rattle.wit_scopes.proofs.Outcomes.{on_ok}
+use Rattle.wit_lookups.specs.Passed.wit_scopes-View as scope_view
+use Rattle.wit_lookups.proofs.Passed.wit_scopes-Outcomes.{on_ok}
 use Rattle.wit_resolved_scopes.proofs.Keeping.{none_fails}
 use Rattle.wit_resolved_scopes.proofs.checks.check_member.Goals as goal
 

@@ -1,4 +1,4 @@
-use Rattle.wit_scopes.specs.View as scope_view
+use Rattle.wit_lookups.specs.Passed.wit_scopes-View as scope_view
 use Rattle.wit_lookups.proofs.Loops.{AreKeptTo}
 use Rattle.wit_resolved_scopes.specs.Faults.{MemberFails}
 use Rattle.wit_resolved_scopes.proofs.checks.check_members.Given as goal

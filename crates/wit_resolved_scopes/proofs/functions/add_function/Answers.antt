@@ -1,7 +1,7 @@
 use Rattle.std.proofs.Common.{◌≡◌, List, [], ◌∷◌, ◌++◌, sym, subst}
 use Rattle.wit_types.specs.declared.function.Function.{Function}
-use Rattle.wit_scopes.specs.View as scope_view
-use Rattle.wit_scopes.proofs.Outcomes.{on_ok}
+use Rattle.wit_lookups.specs.Passed.wit_scopes-View as scope_view
+use Rattle.wit_lookups.proofs.Passed.wit_scopes-Outcomes.{on_ok}
 use Rattle.wit_resolved_scopes.specs.Scope.{AddsFunction, adds_function, passes_type}
 use Rattle.wit_resolved_scopes.proofs.functions.add_function.Goals as goal
 

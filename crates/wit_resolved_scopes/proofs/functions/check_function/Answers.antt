@@ -1,6 +1,6 @@
 use Rattle.std.proofs.Common.{sym, ◌∙◌}
-use Rattle.wit_scopes.specs.View as scope_view
-use Rattle.wit_scopes.proofs.Outcomes.{on_ok}
+use Rattle.wit_lookups.specs.Passed.wit_scopes-View as scope_view
+use Rattle.wit_lookups.proofs.Passed.wit_scopes-Outcomes.{on_ok}
 use Rattle.wit_resources.specs.Failing.{ResultFails}
 use Rattle.wit_resources.specs.Rules.{declared_result}
 use Rattle.wit_resolved_scopes.proofs.Results.{placed_kept}

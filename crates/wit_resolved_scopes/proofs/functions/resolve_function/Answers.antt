@@ -1,10 +1,10 @@
 use Rattle.std.proofs.Common.{List, Option, subst}
 use Rattle.std.specs.Prelude.{OnOk, IfErr}
-use Rattle.wit_productions.specs.TypeTree.{TypeTree}
-use Rattle.wit_scopes.specs.Members.{MemberTree}
-use Rattle.wit_scopes.specs.View as scope_view
-use Rattle.wit_scopes.proofs.Outcomes.{and_err, if_err}
-use Rattle.wit_rules.specs.Breaks.{Breaks, IsKept, IsFaultOf}
+use Rattle.wit_lookups.specs.Passed.wit_productions-TypeTree.{TypeTree}
+use Rattle.wit_lookups.specs.Passed.wit_scopes-Members.{MemberTree}
+use Rattle.wit_lookups.specs.Passed.wit_scopes-View as scope_view
+use Rattle.wit_lookups.proofs.Passed.wit_scopes-Outcomes.{and_err, if_err}
+use Rattle.wit_lookups.specs.Passed.wit_rules-Breaks.{Breaks, IsKept, IsFaultOf}
 use Rattle.wit_resources.specs.Natures.{natures}
 use Rattle.wit_resources.specs.declared.natures.Nature.{Nature}
 use Rattle.wit_resources.specs.Failing.{ResultFails}

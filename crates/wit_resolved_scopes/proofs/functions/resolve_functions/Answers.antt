@@ -2,10 +2,10 @@ use Rattle.std.proofs.Common.{◌≡◌, List, [], Some, take, sym, ap, subst, �
 use Rattle.std.specs.Prelude.{slice_get, option_map}
 use Rattle.std.proofs.lemmas.Option.{slice_get-map}
 use Rattle.wit_types.specs.declared.function.Function.{Function}
-use Rattle.wit_scopes.specs.Members.{MemberTree}
-use Rattle.wit_scopes.specs.View as scope_view
-use Rattle.wit_rules.specs.Breaks.{Breaks}
-use Rattle.wit_rules.proofs.Places.{read_at, taken}
+use Rattle.wit_lookups.specs.Passed.wit_scopes-Members.{MemberTree}
+use Rattle.wit_lookups.specs.Passed.wit_scopes-View as scope_view
+use Rattle.wit_lookups.specs.Passed.wit_rules-Breaks.{Breaks}
+use Rattle.wit_lookups.proofs.Passed.wit_rules-Places.{read_at, taken}
 use Rattle.wit_resources.specs.Rules.{declared_result, PartBreaks, ResultBreaks}
 use Rattle.wit_lookups.proofs.Loops.{kept_on, kept_through, refused_at}
 use Rattle.wit_resolved_scopes.specs.Scope.{LowersFunctions, no_members, one_more}

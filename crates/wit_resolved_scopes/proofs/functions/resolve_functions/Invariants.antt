@@ -1,8 +1,8 @@
 use Rattle.std.proofs.Common.{◌≡◌, List, take}
-use Rattle.wit_scopes.specs.Scopes.{ItemScope}
-use Rattle.wit_scopes.specs.View as scope_view
-use Rattle.wit_arena.specs.Tree.{PackageText, Place}
-use Rattle.wit_arena.specs.Unfold.{Owners}
+use Rattle.wit_lookups.specs.Passed.wit_scopes-Scopes.{ItemScope}
+use Rattle.wit_lookups.specs.Passed.wit_scopes-View as scope_view
+use Rattle.wit_resources.specs.Passed.wit_arena-Tree.{PackageText, Place}
+use Rattle.wit_resources.specs.Passed.wit_arena-Unfold.{Owners}
 use Rattle.wit_resources.specs.Natures.{natures}
 use Rattle.wit_resources.specs.Rules.{declared_result, PartBreaks, ResultBreaks}
 use Rattle.wit_lookups.proofs.Loops.{AreKeptTo}

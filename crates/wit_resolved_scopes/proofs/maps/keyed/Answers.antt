@@ -5,7 +5,7 @@ use Rattle.std.proofs.lemmas.List.{length_push}
 use Rattle.std.specs.Prelude.{slice_get}
 use Rattle.std.specs.Map.{lookup}
 use Rattle.indexmap.proofs.CallerLemmas.{insert_entry-new}
-use Rattle.wit_rules.proofs.Places.{read_at, taken}
+use Rattle.wit_lookups.proofs.Passed.wit_rules-Places.{read_at, taken}
 use Rattle.wit_resolved_scopes.proofs.Keying.{new_key}
 use Rattle.wit_resolved_scopes.proofs.maps.keyed.Goals as goal
 

@@ -1,5 +1,5 @@
-use Rattle.wit_scopes.specs.View as scope_view
-use Rattle.wit_package_types.proofs.Filling.{filled_extends}
+use Rattle.wit_lookups.specs.Passed.wit_scopes-View as scope_view
+use Rattle.wit_functions.proofs.Passed.wit_package_types-Filling.{filled_extends}
 use Rattle.wit_resolved_scopes.proofs.Results.{first_known}
 use Rattle.wit_resolved_scopes.proofs.scope.fill_in_order.Goals as goal
 

@@ -1,7 +1,7 @@
 use Rattle.std.proofs.Common.{List, subst}
-use Rattle.wit_scopes.specs.Members.{MemberTree}
-use Rattle.wit_scopes.specs.View as scope_view
-use Rattle.wit_rules.specs.Breaks.{IsKept, IsFaultOf}
+use Rattle.wit_lookups.specs.Passed.wit_scopes-Members.{MemberTree}
+use Rattle.wit_lookups.specs.Passed.wit_scopes-View as scope_view
+use Rattle.wit_lookups.specs.Passed.wit_rules-Breaks.{IsKept, IsFaultOf}
 use Rattle.wit_resources.specs.declared.natures.Nature.{Nature}
 use Rattle.wit_resolved_scopes.specs.Faults.{MembersFail}
 use Rattle.wit_resolved_scopes.proofs.Readying.{fillable, names_there, handles_there, table_distinct}

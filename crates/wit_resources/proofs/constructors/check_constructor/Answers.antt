@@ -1,11 +1,11 @@
 use Rattle.std.proofs.Common.{Option, ap, sym, subst, ◌∙◌}
 use Rattle.std.specs.Prelude.{OnOk, option_map}
-use Rattle.wit_items.specs.declared.items.Func.{Func}
-use Rattle.wit_productions.specs.declared.types.«Type».{«Type» as Written}
-use Rattle.wit_productions.specs.TypeView.{type_tree}
-use Rattle.wit_syntax.specs.AstView as view
-use Rattle.wit_scopes.specs.declared.members.MemberKind.{MemberKind}
-use Rattle.wit_scopes.specs.View as scope_view
+use Rattle.wit_rules.specs.Passed.wit_items-declared-items-Func.{Func}
+use Rattle.wit_rules.specs.Passed.wit_productions-declared-types-Type.{«Type» as Written}
+use Rattle.wit_rules.specs.Passed.wit_productions-TypeView.{type_tree}
+use Rattle.wit_rules.specs.Passed.wit_syntax-AstView as view
+use Rattle.wit_rules.specs.Passed.wit_scopes-declared-members-MemberKind.{MemberKind}
+use Rattle.wit_rules.specs.Passed.wit_scopes-View as scope_view
 use Rattle.wit_rules.specs.Breaks.{IsKept}
 use Rattle.wit_resources.specs.Rules.{PartBreaks, ConstructorBreaks, DeclaresOther}
 use Rattle.wit_resources.proofs.constructors.check_constructor.Goals as goal

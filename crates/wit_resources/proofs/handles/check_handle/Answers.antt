@@ -1,6 +1,6 @@
 use Rattle.std.proofs.Common.{◌≡◌, ℕ, true, false, refl, subst}
 use Rattle.wit_types.specs.declared.kind.«Type».TheVariants.{Id}
-use Rattle.wit_syntax.specs.AstView as view
+use Rattle.wit_rules.specs.Passed.wit_syntax-AstView as view
 use Rattle.wit_resources.specs.Natures.{ref_nature}
 use Rattle.wit_resources.specs.declared.natures.Nature.{Nature}
 use Rattle.wit_resources.proofs.handles.check_handle.Goals as goal

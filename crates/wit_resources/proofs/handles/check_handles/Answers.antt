@@ -2,8 +2,8 @@ use Rattle.std.proofs.Common.{◌≡◌, [], List, Some, map, get_or, subst, ap,
 use Rattle.std.proofs.lemmas.Option.{slice_get-get_or}
 use Rattle.std.specs.Prelude.{slice_get}
 use Rattle.wit_words.specs.Slice.{Slice}
-use Rattle.wit_productions.specs.declared.names.Id.{Id}
-use Rattle.wit_syntax.specs.AstView as view
+use Rattle.wit_rules.specs.Passed.wit_productions-declared-names-Id.{Id}
+use Rattle.wit_rules.specs.Passed.wit_syntax-AstView as view
 use Rattle.wit_rules.specs.Breaks.{Breaks, IsKept, AnyBreaks}
 use Rattle.wit_rules.proofs.Breaking.{kept_more, all_kept, viewed_kept}
 use Rattle.wit_resources.specs.Failing.{HandleFails}

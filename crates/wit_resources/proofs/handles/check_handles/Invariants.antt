@@ -1,4 +1,4 @@
-use Rattle.wit_syntax.specs.AstView as view
+use Rattle.wit_rules.specs.Passed.wit_syntax-AstView as view
 use Rattle.wit_rules.proofs.Breaking.{AreKept}
 use Rattle.wit_resources.specs.Failing.{HandleFails}
 use Rattle.wit_resources.proofs.handles.check_handles.Given as goal

@@ -1,7 +1,7 @@
 use Rattle.std.proofs.Common.{List, map, subst}
 use Rattle.std.specs.Prelude.{OnOk}
-use Rattle.wit_items.specs.declared.items.Attribute.{Attribute}
-use Rattle.wit_syntax.specs.AstView as view
+use Rattle.wit_scopes.specs.Passed.wit_items-declared-items-Attribute.{Attribute}
+use Rattle.wit_scopes.specs.Passed.wit_syntax-AstView as view
 use Rattle.wit_rules.specs.Breaks.{IsKept, GatesBreak}
 use Rattle.wit_rules.proofs.gates.check_front.Goals as goal
 

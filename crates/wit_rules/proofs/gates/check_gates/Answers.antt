@@ -1,7 +1,7 @@
 use Rattle.std.proofs.Common.{◌≡◌, List, Some, map, sym, ap, ◌∙◌}
 use Rattle.std.specs.Prelude.{option_map}
-use Rattle.wit_items.specs.ItemTree.{AttributeTree}
-use Rattle.wit_syntax.specs.AstView as view
+use Rattle.wit_scopes.specs.Passed.wit_items-ItemTree.{AttributeTree}
+use Rattle.wit_scopes.specs.Passed.wit_syntax-AstView as view
 use Rattle.wit_scopes.proofs.Outcomes.{if_err, on_ok}
 use Rattle.wit_rules.specs.Gates.{GatesTree, gates_in}
 use Rattle.wit_rules.specs.View as seen

@@ -1,7 +1,7 @@
 use Rattle.std.proofs.Common.{Option, sym, subst}
 use Rattle.std.specs.Prelude.{OnOk, option_map}
-use Rattle.wit_productions.specs.declared.names.Version.{Version}
-use Rattle.wit_syntax.specs.AstView as view
+use Rattle.wit_scopes.specs.Passed.wit_productions-declared-names-Version.{Version}
+use Rattle.wit_scopes.specs.Passed.wit_syntax-AstView as view
 use Rattle.wit_rules.specs.Breaks.{IsKept, VersionWhereBreaks}
 use Rattle.wit_rules.proofs.gates.check_version_where.Goals as goal
 

@@ -1,8 +1,8 @@
 use Rattle.std.proofs.Common.{◌<◌, ◌++◌, List, map, take, length, append_assoc, sym, ap, ◌∙◌}
-use Rattle.wit_words.specs.Slice.{Slice}
-use Rattle.wit_syntax.specs.AstView as view
-use Rattle.wit_productions.specs.TypeTree.{row}
-use Rattle.wit_productions.specs.TypeView.{type_tree}
+use Rattle.wit_scopes.specs.Passed.wit_words-Slice.{Slice}
+use Rattle.wit_scopes.specs.Passed.wit_syntax-AstView as view
+use Rattle.wit_scopes.specs.Passed.wit_productions-TypeTree.{row}
+use Rattle.wit_scopes.specs.Passed.wit_productions-TypeView.{type_tree}
 use Rattle.wit_type_names.specs.TypeNames.{names_in, names_in_row, handles_in, handles_in_row}
 use Rattle.wit_type_names.proofs.Rows.{row_more, row_handles_more}
 use Rattle.wit_type_names.proofs.type_names.+type_names.Goals as goal

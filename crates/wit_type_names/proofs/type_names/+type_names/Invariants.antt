@@ -1,7 +1,7 @@
 use Rattle.std.proofs.Common.{◌≡◌, ◌++◌, map, take}
-use Rattle.wit_syntax.specs.AstView as view
-use Rattle.wit_productions.specs.TypeTree.{row}
-use Rattle.wit_productions.specs.TypeView.{type_tree}
+use Rattle.wit_scopes.specs.Passed.wit_syntax-AstView as view
+use Rattle.wit_scopes.specs.Passed.wit_productions-TypeTree.{row}
+use Rattle.wit_scopes.specs.Passed.wit_productions-TypeView.{type_tree}
 use Rattle.wit_type_names.specs.TypeNames.{names_in_row, handles_in_row}
 use Rattle.wit_type_names.proofs.type_names.+type_names.Given as goal
 

@@ -1,5 +1,5 @@
 use Rattle.std.proofs.Common.{◌≡◌, ◌++◌, map, take}
-use Rattle.wit_syntax.specs.AstView as view
+use Rattle.wit_scopes.specs.Passed.wit_syntax-AstView as view
 use Rattle.wit_type_names.specs.TypeNames.{names_in_parts, handles_in_parts}
 use Rattle.wit_type_names.proofs.type_names.add_all.Given as goal
 

@@ -1,13 +1,13 @@
 use Rattle.std.proofs.Common.{◌≡◌, ◌++◌, List, map, sym, ap, subst, ◌∙◌}
 use Rattle.std.proofs.lemmas.Simd.{map-map}
 use Rattle.std.specs.Prelude.{OnOk, option_map}
-use Rattle.wit_items.specs.declared.items.Field.{Field}
-use Rattle.wit_items.specs.declared.items.Case.{Case}
-use Rattle.wit_items.specs.declared.items.TypeDefKind.{TypeDefKind}
-use Rattle.wit_items.specs.ItemTree.{FieldTree, CaseTree}
-use Rattle.wit_syntax.specs.AstView as view
-use Rattle.wit_productions.specs.TypeTree.{TypeOption, opt, a_type}
-use Rattle.wit_productions.specs.TypeView.{type_tree}
+use Rattle.wit_scopes.specs.Passed.wit_items-declared-items-Field.{Field}
+use Rattle.wit_scopes.specs.Passed.wit_items-declared-items-Case.{Case}
+use Rattle.wit_scopes.specs.Passed.wit_items-declared-items-TypeDefKind.{TypeDefKind}
+use Rattle.wit_scopes.specs.Passed.wit_items-ItemTree.{FieldTree, CaseTree}
+use Rattle.wit_scopes.specs.Passed.wit_syntax-AstView as view
+use Rattle.wit_scopes.specs.Passed.wit_productions-TypeTree.{TypeOption, opt, a_type}
+use Rattle.wit_scopes.specs.Passed.wit_productions-TypeView.{type_tree}
 use Rattle.wit_type_names.specs.TypeNames.{names_in_parts, handles_in_parts, definition_parts}
 use Rattle.wit_type_names.proofs.type_names.add_definition_names.Goals as goal
 

@@ -1,11 +1,11 @@
 use Rattle.std.proofs.Common.{◌≡◌, ◌++◌, List, map, sym, ap, ◌∙◌, append_assoc}
 use Rattle.std.proofs.lemmas.Simd.{map-map}
 use Rattle.std.specs.Prelude.{option_map}
-use Rattle.wit_words.specs.Slice.{Slice}
-use Rattle.wit_items.specs.ItemTree.{ParamTree}
-use Rattle.wit_syntax.specs.AstView as view
-use Rattle.wit_productions.specs.TypeTree.{TypeOption, opt, a_type}
-use Rattle.wit_productions.specs.TypeView.{type_tree}
+use Rattle.wit_scopes.specs.Passed.wit_words-Slice.{Slice}
+use Rattle.wit_scopes.specs.Passed.wit_items-ItemTree.{ParamTree}
+use Rattle.wit_scopes.specs.Passed.wit_syntax-AstView as view
+use Rattle.wit_scopes.specs.Passed.wit_productions-TypeTree.{TypeOption, opt, a_type}
+use Rattle.wit_scopes.specs.Passed.wit_productions-TypeView.{type_tree}
 use Rattle.wit_type_names.specs.TypeNames.{names_in_part, names_in_parts, handles_in_part, handles_in_parts, param_parts}
 use Rattle.wit_scopes.proofs.Lists.{flat_map-push}
 use Rattle.wit_scopes.proofs.Outcomes.{on_ok}

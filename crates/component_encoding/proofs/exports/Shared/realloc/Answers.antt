@@ -1,8 +1,8 @@
 use Rattle.std.proofs.Common.{◌≡◌, Some, sym, ◌∙◌, ap}
 use Rattle.std.specs.Prelude.{map, option_and_then}
 use Rattle.wasm_types.specs.Entries.{export_value}
-use Rattle.component_meaning.specs.Spaces.{meaning}
-use Rattle.link_table.specs.View.{name_at}
+use Rattle.linked_imports.specs.Passed.component_meaning-Spaces.{meaning}
+use Rattle.linked_imports.specs.Passed.link_table-View.{name_at}
 use Rattle.component_encoding.proofs.Growth.{grows}
 use Rattle.component_encoding.proofs.Optioned.{found_at, realloc_option, with_realloc}
 use Rattle.component_encoding.proofs.exports.Shared.realloc.Goals as goal

@@ -1,5 +1,5 @@
 use Rattle.std.proofs.Common.{rules}
-use Rattle.component_value_types.specs.Types.{defined_type, defined_type_value}
+use Rattle.component_definitions.specs.Passed.component_value_types-Types.{defined_type, defined_type_value}
 use Rattle.component_instances.specs.TypeDefinitions.{type_definition, form_of}
 use Rattle.component_instances.proofs.Forms.{is_no_resource, is_no_instance}
 use Rattle.component_instances.proofs.type_definitions.TypeDefinitionPart.put.Goals as goal

@@ -1,5 +1,5 @@
 use Rattle.std.proofs.Common.{ap, ◌∙◌}
-use Rattle.link_table.specs.Linking.{linking_value}
+use Rattle.linked_components.specs.Passed.link_table-Linking.{linking_value}
 use Rattle.component_session.specs.Refusals.{OptionsBeyond}
 use Rattle.component_session.proofs.Linked.{some_pairs}
 use Rattle.component_session.proofs.Refusals.{options_cause_is}

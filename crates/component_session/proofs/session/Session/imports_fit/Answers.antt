@@ -2,7 +2,7 @@ use Rattle.std.proofs.Common.{refl, sym, ap, ◌∙◌}
 use Rattle.std.proofs.lemmas.Option.{same_Some}
 use Rattle.std.specs.Prelude.{slice_get}
 use Rattle.wit_component.proofs.Results.{ok_map}
-use Rattle.wit_resolution.specs.Names.{known_of}
+use Rattle.text_graphs.specs.Passed.wit_resolution-Names.{known_of}
 use Rattle.component_session.specs.Input.{worlds_of}
 use Rattle.component_session.proofs.Linked.{beyond_moved}
 use Rattle.component_session.proofs.session.Session.imports_fit.Goals as goal

@@ -1,5 +1,5 @@
-use Rattle.wit_resolution.specs.GroupView.{texts}
-use Rattle.wit_resolution.specs.Texts.{files_of}
+use Rattle.text_graphs.specs.Passed.wit_package-GroupView.{texts}
+use Rattle.text_graphs.specs.Passed.wit_resolution-Texts.{files_of}
 use Rattle.wit_types.specs.contracts.«package».PackageNamePartialEq.TheImpl.{eq-value as package_eq}
 use Rattle.component_session.proofs.Keeping.{kept_after}
 use Rattle.component_session.proofs.session.Session.push_texts.Goals as goal

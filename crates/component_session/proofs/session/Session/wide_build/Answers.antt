@@ -1,6 +1,6 @@
 use Rattle.std.proofs.Common.{sym, ap, subst, ◌∙◌}
 use Rattle.std.proofs.lemmas.Option.{same_Some}
-use Rattle.link_table.specs.Linking.{linking_value}
+use Rattle.linked_components.specs.Passed.link_table-Linking.{linking_value}
 use Rattle.linked_components.specs.Build.{IsComponentOf, AreNamesOf}
 use Rattle.wit_component.proofs.Results.{moved_up}
 use Rattle.wit_types.specs.contracts.«package».PackageNamePartialEq.TheImpl.{eq-value as package_eq}

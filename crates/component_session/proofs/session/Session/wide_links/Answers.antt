@@ -1,6 +1,6 @@
 use Rattle.std.proofs.Common.{map}
 use Rattle.link_lines.specs.Line.{link_value}
-use Rattle.link_table.specs.Linking.{linking_value}
+use Rattle.linked_components.specs.Passed.link_table-Linking.{linking_value}
 use Rattle.wit_component.proofs.Results.{moved_up}
 use Rattle.component_session.specs.Refusals.{IsCause}
 use Rattle.component_session.specs.Faults.{of_table}

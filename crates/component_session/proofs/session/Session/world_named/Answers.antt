@@ -1,7 +1,7 @@
 use Rattle.std.proofs.Common.{subst}
 use Rattle.std.specs.Prelude.{option_map}
 use Rattle.wit_component.proofs.Results.{ok_map}
-use Rattle.wit_resolution.specs.Graph.{IsGraph}
+use Rattle.linked_components.specs.Passed.wit_graph-Graph.{IsGraph}
 use Rattle.component_session.proofs.Chosen.{chosen_there}
 use Rattle.component_session.proofs.session.Session.world_named.Goals as goal
 

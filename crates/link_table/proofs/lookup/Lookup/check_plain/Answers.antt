@@ -1,6 +1,6 @@
 use Rattle.std.proofs.Common.{inl, sym, ap, ◌∙◌}
 use Rattle.std.proofs.lemmas.Result.{err_from_is_err_and}
-use Rattle.flat_types.specs.View.{required_value}
+use Rattle.canonical_options.specs.Passed.flat_types-View.{required_value}
 use Rattle.link_table.specs.Options.{asks}
 use Rattle.link_table.proofs.lookup.Lookup.check_plain.Goals as goal
 

@@ -1,7 +1,7 @@
 use Rattle.std.proofs.Common.{refl, ap}
 use Rattle.std.specs.Prelude.{option_map}
 use Rattle.wasm_types.specs.Entries.{ExportValue}
-use Rattle.flat_types.specs.View.{required_value}
+use Rattle.canonical_options.specs.Passed.flat_types-View.{required_value}
 use Rattle.link_table.specs.Linking.{linking_value}
 use Rattle.link_table.specs.View.{options_value}
 use Rattle.link_table.proofs.lookup.Lookup.export_link.Goals as goal

@@ -1,4 +1,4 @@
-use Rattle.flat_types.specs.View.{signature_value}
+use Rattle.canonical_options.specs.Passed.flat_types-View.{signature_value}
 use Rattle.link_table.specs.Linking.{linking_value, types_of}
 use Rattle.link_table.proofs.Typed.{is_mistyped}
 use Rattle.link_table.proofs.lookup.Lookup.is_of_type.Goals as goal

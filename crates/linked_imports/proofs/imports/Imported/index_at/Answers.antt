@@ -1,5 +1,5 @@
 use Rattle.std.proofs.lemmas.Result.{IfOk-weaker}
-use Rattle.link_table.specs.Linking.{linking_value, types_of}
+use Rattle.right_components.specs.Passed.link_table-Linking.{linking_value, types_of}
 use Rattle.linked_imports.proofs.Entries.{entry_there, entry_within, entry_at, found_there, entry_index}
 use Rattle.linked_imports.proofs.imports.Imported.index_at.Goals as goal
 

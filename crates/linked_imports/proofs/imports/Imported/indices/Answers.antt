@@ -1,7 +1,7 @@
 use Rattle.std.proofs.Common.{length, ap, arith, ◌≡◌}
 use Rattle.std.proofs.lemmas.List.{length-map}
 use Rattle.wasm_types.specs.Entries.{import_value}
-use Rattle.link_table.specs.Linking.{linking_value, types_of}
+use Rattle.right_components.specs.Passed.link_table-Linking.{linking_value, types_of}
 use Rattle.linked_imports.proofs.Entries.{all_there, entry_got, entries_next}
 use Rattle.linked_imports.proofs.Taken.{keeps_on, beside_on}
 use Rattle.linked_imports.proofs.imports.Imported.indices.Goals as goal

@@ -1,8 +1,8 @@
 use Rattle.std.proofs.Common.{take}
-use Rattle.link_table.specs.Linking.{linking_value, types_of}
-use Rattle.link_table.specs.Pairwise.{Pairwise}
-use Rattle.link_table.specs.Table.{Table, IsTable}
-use Rattle.type_sinks.specs.Views.{RootIsPlaced}
+use Rattle.right_components.specs.Passed.link_table-Linking.{linking_value, types_of}
+use Rattle.right_components.specs.Passed.link_table-Pairwise.{Pairwise}
+use Rattle.right_components.specs.Passed.link_table-Table.{Table, IsTable}
+use Rattle.component_imports.specs.Passed.type_sinks-Views.{RootIsPlaced}
 use Rattle.linked_imports.specs.Roots.{Keeps, StaysBeside, IsIndexOfEntry}
 use Rattle.linked_imports.proofs.imports.Imported.indices.Given as goal
 

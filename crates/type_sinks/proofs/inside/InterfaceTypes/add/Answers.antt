@@ -1,6 +1,6 @@
 use Rattle.std.proofs.Common.{◌++◌, ◌∙◌, sym, ap}
 use Rattle.std.proofs.lemmas.List.{append-nil}
-use Rattle.component_instances.specs.Declarators.{declarator_value}
+use Rattle.component_sections.specs.Passed.component_instances-Declarators.{declarator_value}
 use Rattle.type_sinks.specs.Views.{declarator_values}
 use Rattle.type_sinks.proofs.Insides.{declarators_push, counted_push, named_push}
 use Rattle.type_sinks.proofs.inside.InterfaceTypes.add.Goals as goal

@@ -3,7 +3,7 @@ use Rattle.std.proofs.lemmas.List.{append-nil}
 use Rattle.std.proofs.lemmas.Result.{IfOk-weaker, IfErr-weaker, on_err_weaker, err_from_is_err_and}
 use Rattle.component_value_types.specs.Types.{function, function_type_value}
 use Rattle.component_definitions.specs.declared.externs.Description.TheVariants as descriptions
-use Rattle.component_instances.specs.Declarators.{declared_type, declared_export}
+use Rattle.component_sections.specs.Passed.component_instances-Declarators.{declared_type, declared_export}
 use Rattle.distinct_names.specs.Names.{is_new}
 use Rattle.type_sinks.specs.Inside.{exported_names}
 use Rattle.type_sinks.specs.Views.{inside, inside_names, inside_setting, IsSameInside}

@@ -1,6 +1,6 @@
 use Rattle.std.proofs.Common.{refl, sym, ap, ◌∙◌, map}
 use Rattle.component_definitions.specs.declared.externs.Description.TheVariants as descriptions
-use Rattle.component_instances.specs.Declarators.{declarator_value, declared_export}
+use Rattle.component_sections.specs.Passed.component_instances-Declarators.{declarator_value, declared_export}
 use Rattle.type_sinks.specs.Inside.{type_count, exported_names}
 use Rattle.type_sinks.specs.Views.{declarator_values}
 use Rattle.type_sinks.proofs.Insides.{counted_same, named_push, either_way}

@@ -1,6 +1,6 @@
 use Rattle.std.proofs.Common.{refl}
 use Rattle.component_definitions.specs.declared.externs.Description.TheVariants as descriptions
-use Rattle.component_instances.specs.Declarators.{declared_export}
+use Rattle.component_sections.specs.Passed.component_instances-Declarators.{declared_export}
 use Rattle.type_sinks.specs.Views.{declarator_values}
 use Rattle.type_sinks.proofs.Insides.{counted_push, named_push}
 use Rattle.type_sinks.proofs.inside.InterfaceTypes.export_type.Goals as goal

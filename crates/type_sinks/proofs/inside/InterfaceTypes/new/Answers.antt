@@ -1,6 +1,6 @@
 use Rattle.std.proofs.Common.{ap}
 use Rattle.std.specs.Prelude.{map}
-use Rattle.component_instances.specs.Declarators.{declarator_value}
+use Rattle.component_sections.specs.Passed.component_instances-Declarators.{declarator_value}
 use Rattle.type_sinks.proofs.Insides.{nothing_counted, nothing_named, inside_nothing}
 use Rattle.type_sinks.proofs.PlacedInside.{nothing_placed}
 use Rattle.type_sinks.proofs.inside.InterfaceTypes.new.Goals as goal

@@ -2,7 +2,7 @@ use Rattle.std.proofs.Common.{◌≡◌, List, Some, ap, [], ◌∷◌, ◌++◌
 use Rattle.std.specs.Prelude.{slice_get, option_map, string_bytes}
 use Rattle.std.proofs.lemmas.Result.{IfOk-weaker, IfErr-weaker, on_err_weaker}
 use Rattle.component_definitions.specs.declared.externs.Description.TheVariants as descriptions
-use Rattle.component_instances.specs.Declarators.{declared_export}
+use Rattle.component_sections.specs.Passed.component_instances-Declarators.{declared_export}
 use Rattle.type_writing.specs.Writing.{KindStands}
 use Rattle.type_writing.proofs.Standing.{in_either}
 use Rattle.type_writing.proofs.Refusals.{cause_weaker}

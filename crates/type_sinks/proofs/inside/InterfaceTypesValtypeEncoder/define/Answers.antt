@@ -2,7 +2,7 @@ use Rattle.std.proofs.Common.{refl, ap, ◌∙◌, inl}
 use Rattle.std.proofs.lemmas.List.{append-nil}
 use Rattle.std.proofs.lemmas.Result.{IfOk-weaker, IfErr-weaker, on_err_weaker}
 use Rattle.component_value_types.specs.Types.{defined_type_value}
-use Rattle.component_instances.specs.Declarators.{declared_type}
+use Rattle.component_sections.specs.Passed.component_instances-Declarators.{declared_type}
 use Rattle.type_writing.proofs.Standing.{in_either}
 use Rattle.type_writing.proofs.Refusals.{cause_weaker}
 use Rattle.type_sinks.specs.Kept.{index_of}

@@ -1,7 +1,7 @@
 use Rattle.std.proofs.Common.{ap, sym, ◌∙◌, ◌++◌}
 use Rattle.std.proofs.lemmas.List.{append-nil}
-use Rattle.component_entries.specs.Entries.{entry_value}
-use Rattle.type_meaning.specs.Scope.{Scope, adds}
+use Rattle.component_sections.specs.Passed.component_entries-Entries.{entry_value}
+use Rattle.type_writing.specs.Passed.type_meaning-Scope.{Scope, adds}
 use Rattle.type_sinks.specs.Views.{root_scope, entry_values}
 use Rattle.type_sinks.proofs.Rooted.{scope_push, values_push, one_more, no_more, imported_after}
 use Rattle.type_sinks.proofs.root.Root.add_type.Goals as goal

@@ -1,7 +1,7 @@
 use Rattle.std.proofs.Common.{ap, ◌∙◌, ◌++◌, ◌∷◌, [], inl, inr, refl, sym}
 use Rattle.std.proofs.lemmas.Result.{IfOk-weaker, IfErr-weaker, on_err_weaker, err_from_is_err_and}
 use Rattle.component_definitions.specs.declared.externs.Description.TheVariants as descriptions
-use Rattle.component_entries.specs.Entries.{an_import}
+use Rattle.component_sections.specs.Passed.component_entries-Entries.{an_import}
 use Rattle.distinct_names.specs.Names.{is_new}
 use Rattle.type_writing.specs.Writing.{Setting}
 use Rattle.type_writing.proofs.Standing.{begins_same, begins_on, in_either}

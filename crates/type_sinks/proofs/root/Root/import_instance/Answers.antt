@@ -1,6 +1,6 @@
 use Rattle.std.proofs.Common.{sym, ◌∙◌, ap, map, inr}
 use Rattle.std.proofs.lemmas.Result.{err_from_is_err_and}
-use Rattle.component_instances.specs.Declarators.{declarator_value}
+use Rattle.component_sections.specs.Passed.component_instances-Declarators.{declarator_value}
 use Rattle.distinct_names.specs.Names.{is_new}
 use Rattle.type_writing.proofs.Refusals.{cause_weaker}
 use Rattle.type_sinks.specs.Views.{root_names}

@@ -1,6 +1,6 @@
 use Rattle.std.proofs.Common.{sym, subst, ◌∙◌, ◌≤◌, ◌^◌, ◌+◌, map, inr}
 use Rattle.std.proofs.lemmas.Result.{IfOk-weaker, IfErr-weaker}
-use Rattle.component_instances.specs.Declarators.{declarator_value}
+use Rattle.component_sections.specs.Passed.component_instances-Declarators.{declarator_value}
 use Rattle.type_writing.proofs.Refusals.{cause_weaker}
 use Rattle.type_sinks.proofs.Imported.{written_by, unnamed_there, unplaced_there}
 use Rattle.type_sinks.proofs.root.Root.import_named.Goals as goal

@@ -1,7 +1,7 @@
 use Rattle.std.proofs.Common.{refl, ap}
 use Rattle.component_definitions.specs.declared.externs.Description.TheVariants as descriptions
-use Rattle.component_entries.specs.Entries.{an_import}
-use Rattle.type_meaning.specs.Scope.{Scope, adds}
+use Rattle.component_sections.specs.Passed.component_entries-Entries.{an_import}
+use Rattle.type_writing.specs.Passed.type_meaning-Scope.{Scope, adds}
 use Rattle.type_sinks.specs.Views.{root_scope, entry_values}
 use Rattle.type_sinks.proofs.Rooted.{scope_after, one_more, no_more, imported_after}
 use Rattle.type_sinks.proofs.root.Root.import_type.Goals as goal

@@ -1,5 +1,5 @@
 use Rattle.std.proofs.Common.{ap, sym, length}
-use Rattle.type_meaning.specs.Scope.{Scope}
+use Rattle.type_writing.specs.Passed.type_meaning-Scope.{Scope}
 use Rattle.type_sinks.proofs.Rooted.{nothing_good, nothing_written, nothing_imported}
 use Rattle.type_sinks.proofs.PlacedRoot.{none_placed}
 use Rattle.type_sinks.proofs.root.Root.new.Goals as goal

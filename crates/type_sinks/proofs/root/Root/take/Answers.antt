@@ -4,9 +4,9 @@ use Rattle.std.proofs.lemmas.Result.{IfOk-weaker}
 use Rattle.component_value_types.specs.declared.values.ValueType.TheVariants.{Index}
 use Rattle.component_definitions.specs.declared.sorts.ComponentSort.TheVariants as sorts
 use Rattle.component_definitions.specs.Aliases.{instance_export}
-use Rattle.component_entries.specs.Entries.{an_alias}
+use Rattle.component_sections.specs.Passed.component_entries-Entries.{an_alias}
 use Rattle.wit_types.specs.declared.kind.«Type».TheVariants.{Id}
-use Rattle.type_meaning.specs.Scope.{adds}
+use Rattle.type_writing.specs.Passed.type_meaning-Scope.{adds}
 use Rattle.type_sinks.specs.Root.{root_label}
 use Rattle.type_writing.specs.Writing.{Stands}
 use Rattle.type_sinks.specs.Views.{root_scope, root_names, interface_names}

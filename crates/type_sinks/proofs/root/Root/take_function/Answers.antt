@@ -1,7 +1,7 @@
 use Rattle.std.proofs.lemmas.Result.{IfOk-weaker}
 use Rattle.component_definitions.specs.declared.sorts.ComponentSort.TheVariants as sorts
 use Rattle.component_definitions.specs.Aliases.{instance_export}
-use Rattle.component_entries.specs.Entries.{an_alias}
+use Rattle.component_sections.specs.Passed.component_entries-Entries.{an_alias}
 use Rattle.type_writing.proofs.Standing.{in_either}
 use Rattle.type_sinks.specs.Views.{root_scope}
 use Rattle.type_sinks.proofs.RootImports.{take_function_keeps}

@@ -2,7 +2,7 @@ use Rattle.std.proofs.Common.{◌≡◌, List, Some, refl, [], ◌∷◌, ◌++�
 use Rattle.std.specs.Prelude.{slice_get, option_map, string_bytes}
 use Rattle.std.proofs.lemmas.Result.{IfOk-weaker, on_err_weaker}
 use Rattle.component_definitions.specs.declared.externs.Description.TheVariants as descriptions
-use Rattle.component_entries.specs.Entries.{an_import}
+use Rattle.component_sections.specs.Passed.component_entries-Entries.{an_import}
 use Rattle.wit_types.specs.declared.interface.TypeDef.{TypeDef}
 use Rattle.type_writing.specs.Writing.{KindStands}
 use Rattle.type_writing.proofs.Standing.{begins_here, in_either}

@@ -2,8 +2,8 @@ use Rattle.std.proofs.Common.{refl, [], ap, ◌∙◌}
 use Rattle.std.proofs.lemmas.List.{append-nil}
 use Rattle.std.proofs.lemmas.Result.{IfOk-weaker, on_err_weaker}
 use Rattle.component_value_types.specs.Types.{defined_type_value}
-use Rattle.component_instances.specs.TypeDefinitions.{defined}
-use Rattle.component_entries.specs.Entries.{a_type}
+use Rattle.component_sections.specs.Passed.component_instances-TypeDefinitions.{defined}
+use Rattle.component_sections.specs.Passed.component_entries-Entries.{a_type}
 use Rattle.type_writing.proofs.Standing.{begins_here, in_either}
 use Rattle.type_sinks.specs.Kept.{index_of}
 use Rattle.type_sinks.specs.Views.{root_names, root_scope}

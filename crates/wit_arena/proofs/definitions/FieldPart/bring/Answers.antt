@@ -1,4 +1,4 @@
-use Rattle.wit_productions.specs.TypeView.{type_tree}
+use Rattle.wit_type_names.specs.Passed.wit_productions-TypeView.{type_tree}
 use Rattle.wit_arena.specs.Lower.{lowers_a_type}
 use Rattle.wit_arena.proofs.definitions.FieldPart.bring.Goals as goal
 

@@ -1,6 +1,6 @@
 use Rattle.std.proofs.Common.{◌∙◌, sym, subst}
 use Rattle.wit_types.specs.declared.«package».AstItem.{AstItem}
-use Rattle.wit_arena.specs.Meaning.{Has}
+use Rattle.wit_package_types.specs.Passed.wit_arena-Meaning.{Has}
 use Rattle.wit_foreign.specs.ItemView.{path_owner}
 use Rattle.wit_package_types.proofs.Finding.{none_if}
 use Rattle.wit_foreign.proofs.ItemPaths.{path_eq}

@@ -1,8 +1,8 @@
 use Rattle.std.proofs.Common.{◌++◌, ◌∙◌, ◌∷◌, [], ap, sym, subst}
 use Rattle.wit_types.specs.declared.«package».AstItem.{AstItem}
-use Rattle.wit_scopes.proofs.Outcomes.{on_ok}
-use Rattle.wit_arena.specs.Tree.{Owner}
-use Rattle.wit_arena.specs.Meaning.{Has}
+use Rattle.wit_lookups.proofs.Passed.wit_scopes-Outcomes.{on_ok}
+use Rattle.wit_package_types.specs.Passed.wit_arena-Tree.{Owner}
+use Rattle.wit_package_types.specs.Passed.wit_arena-Meaning.{Has}
 use Rattle.wit_foreign.specs.View as seen
 use Rattle.wit_foreign.specs.Items.{IsNext, TakesNeed, is_there, goes_last}
 use Rattle.wit_foreign.proofs.items.ForeignItems.take.Goals as goal

@@ -1,10 +1,10 @@
 use Rattle.std.proofs.Common.{List, ap, ◌∙◌}
 use Rattle.wit_types.specs.declared.interface.TypeDef.{TypeDef}
-use Rattle.wit_arena.specs.Tree.{resource_leaf}
-use Rattle.wit_arena.specs.Unfold.{trees}
-use Rattle.wit_resources.specs.Natures.{ref_nature, natures}
-use Rattle.wit_resources.specs.declared.natures.Nature.{Nature}
-use Rattle.wit_resources.proofs.Agreeing.{value_is_valid, all_agree}
+use Rattle.wit_graph_parts.specs.Passed.wit_arena-Tree.{resource_leaf}
+use Rattle.wit_graph_parts.specs.Passed.wit_arena-Unfold.{trees}
+use Rattle.wit_graph_parts.specs.Passed.wit_resources-Natures.{ref_nature, natures}
+use Rattle.wit_graph_parts.specs.Passed.wit_resources-declared-natures-Nature.{Nature}
+use Rattle.wit_graph_parts.proofs.Passed.wit_resources-Agreeing.{value_is_valid, all_agree}
 use Rattle.wit_graph.specs.Graph.{Graph}
 use Rattle.wit_graph.proofs.graph.Graph.all_bits_valid.Goals as goal
 

@@ -4,7 +4,7 @@ use Rattle.wit_types.specs.contracts.«package».PackageNamePartialEq.TheImpl.{e
 use Rattle.wit_types.specs.declared.«package».PackageName.{PackageName}
 use Rattle.wit_moves.specs.View.{owners}
 use Rattle.wit_graph.specs.Graph.{Graph, IsGraph, AreWhole}
-use Rattle.wit_graph_worlds.specs.Names.{IsSameName}
+use Rattle.wit_graph_parts.specs.Passed.wit_graph_worlds-Names.{IsSameName}
 use Rattle.wit_graph_parts.specs.Own.{parts}
 use Rattle.wit_graph.specs.Push.{IsAdded, HasMore}
 use Rattle.wit_graph.specs.declared.tables.Tables.{Tables}

@@ -1,7 +1,7 @@
 use Rattle.std.proofs.Common.{ℕ, IfNone, sym, subst}
-use Rattle.wit_syntax.specs.AstView as view
-use Rattle.wit_scopes.specs.declared.paths.Target.{Target}
-use Rattle.wit_scopes.specs.View as scope_view
+use Rattle.wit_rules.specs.Passed.wit_syntax-AstView as view
+use Rattle.wit_rules.specs.Passed.wit_scopes-declared-paths-Target.{Target}
+use Rattle.wit_rules.specs.Passed.wit_scopes-View as scope_view
 use Rattle.wit_arena.specs.Meaning.{Has}
 use Rattle.wit_package_types.specs.Foreign.{ForeignName, foreign_name}
 use Rattle.wit_package_types.specs.Known.{KnownTypes, Finds}

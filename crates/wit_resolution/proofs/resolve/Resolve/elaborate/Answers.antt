@@ -1,5 +1,5 @@
 use Rattle.std.proofs.Common.{subst}
-use Rattle.wit_graph.specs.Graph.{IsGraph}
+use Rattle.wit_resolve_errors.specs.Passed.wit_graph-Graph.{IsGraph}
 use Rattle.wit_resolution.specs.Pushes.{Resolved}
 use Rattle.wit_resolution.proofs.Worlds.{elaborated_at}
 use Rattle.wit_resolution.proofs.resolve.Resolve.elaborate.Goals as goal

@@ -1,6 +1,6 @@
 use Rattle.std.proofs.Common.{subst}
 use Rattle.std.specs.Prelude.{IfOk}
-use Rattle.wit_graph.specs.Packages.{ArePackageDeps}
+use Rattle.wit_resolve_errors.specs.Passed.wit_graph-Packages.{ArePackageDeps}
 use Rattle.wit_resolution.specs.Pushes.{Resolved}
 use Rattle.wit_resolution.proofs.resolve.Resolve.package_direct_deps.Goals as goal
 

@@ -2,7 +2,7 @@ use Rattle.std.proofs.Common.{refl, subst}
 use Rattle.std.proofs.lemmas.Result.{err_from_is_err_and}
 use Rattle.wit_types.specs.declared.«package».UnresolvedPackage.{UnresolvedPackage}
 use Rattle.wit_types.specs.contracts.«package».PackageNamePartialEq.TheImpl.{eq-value as package_eq}
-use Rattle.wit_graph.specs.Push.{IsPushCause}
+use Rattle.wit_resolve_errors.specs.Passed.wit_graph-Push.{IsPushCause}
 use Rattle.wit_resolution.specs.Pushes.{IsPackageError}
 use Rattle.wit_resolution.proofs.resolve.Resolve.push.Goals as goal
 

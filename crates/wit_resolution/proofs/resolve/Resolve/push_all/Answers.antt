@@ -3,8 +3,8 @@ use Rattle.wit_order.specs.Order.{Has}
 use Rattle.wit_types.specs.declared.«package».UnresolvedPackage.{UnresolvedPackage}
 use Rattle.wit_types.specs.contracts.«package».PackageNamePartialEq.TheImpl.{eq-value as package_eq}
 use Rattle.wit_scopes.proofs.Outcomes.{if_err}
-use Rattle.wit_groups.specs.Pushed.{IsTogetherCause}
-use Rattle.wit_groups.specs.declared.fault.GroupFault.{GroupFault}
+use Rattle.wit_resolve_errors.specs.Passed.wit_groups-Pushed.{IsTogetherCause}
+use Rattle.wit_resolve_errors.specs.Passed.wit_groups-declared-fault-GroupFault.{GroupFault}
 use Rattle.wit_resolve_errors.specs.Errors.{of_group}
 use Rattle.wit_resolution.specs.Pushes.{Resolved, IsGroupsError, AreGroupTextsKept}
 use Rattle.wit_resolve_errors.specs.declared.error.ResolveErrorKind.{ResolveErrorKind}

@@ -1,7 +1,7 @@
 use Rattle.std.proofs.Common.{◌≡◌, ◌∷◌, ◌++◌, [], List, inl, inr, subst, ap, ◌∙◌}
 use Rattle.wit_order.specs.Order.{Has}
-use Rattle.wit_graph_parts.specs.Own.{IsWellFormed}
-use Rattle.wit_package.specs.declared.group.UnresolvedPackageGroup.{UnresolvedPackageGroup}
+use Rattle.wit_well_formed.specs.Passed.wit_graph_parts-Own.{IsWellFormed}
+use Rattle.wit_well_formed.specs.Passed.wit_package-declared-group-UnresolvedPackageGroup.{UnresolvedPackageGroup}
 use Rattle.wit_resolution.specs.Groups.{packages_of}
 use Rattle.wit_resolution.proofs.resolve.Resolve.push_groups.Goals as goal
 

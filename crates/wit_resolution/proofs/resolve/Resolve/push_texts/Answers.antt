@@ -1,4 +1,4 @@
-use Rattle.wit_package.specs.GroupView.{texts}
+use Rattle.wit_well_formed.specs.Passed.wit_package-GroupView.{texts}
 use Rattle.wit_scopes.proofs.Outcomes.{if_err}
 use Rattle.wit_types.specs.contracts.«package».PackageNamePartialEq.TheImpl.{eq-value as package_eq}
 use Rattle.wit_resolution.specs.Pushes.{IsGroupsError, AreGroupsRefused, AreTextsError, AreTextsRefused, AreGroupTextsKept, AreTextsKept}

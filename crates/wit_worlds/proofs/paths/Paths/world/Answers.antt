@@ -5,7 +5,7 @@ use Rattle.wit_syntax.specs.AstView as view
 use Rattle.wit_scopes.specs.declared.paths.Target.{Target}
 use Rattle.wit_scopes.specs.View as scope_view
 use Rattle.wit_types.specs.declared.«package».AstItem.TheVariants as ids
-use Rattle.wit_lookups.specs.declared.asks.Asked.TheVariants.{World}
+use Rattle.wit_foreign.specs.Passed.wit_lookups-declared-asks-Asked-TheVariants.{World}
 use Rattle.wit_foreign.specs.Items.{owner_asked}
 use Rattle.wit_resolved_scopes.proofs.Orders.{named_place}
 use Rattle.wit_worlds.specs.Paths.{IsWorldThere}

@@ -1,0 +1,27 @@
+-- What crates above name of those below.
+pub use Rattle.component_definitions.specs.Aliases as component_definitions-Aliases
+pub use Rattle.component_definitions.specs.Canonical as component_definitions-Canonical
+pub use Rattle.component_definitions.specs.Counting as component_definitions-Counting
+pub use Rattle.component_definitions.specs.Passed.component_value_types-Combinators as component_value_types-Combinators
+pub use Rattle.component_definitions.specs.Passed.component_value_types-Names as component_value_types-Names
+pub use Rattle.component_definitions.specs.Passed.component_value_types-Types as component_value_types-Types
+pub use Rattle.component_definitions.specs.Passed.component_value_types-declared-named-Named as component_value_types-declared-named-Named
+pub use Rattle.component_definitions.specs.Passed.component_value_types-declared-types-CaseType as component_value_types-declared-types-CaseType
+pub use Rattle.component_definitions.specs.Passed.component_value_types-declared-values-PrimitiveValueType as component_value_types-declared-values-PrimitiveValueType
+pub use Rattle.component_definitions.specs.Passed.component_value_types-declared-values-PrimitiveValueType-TheVariants as component_value_types-declared-values-PrimitiveValueType-TheVariants
+pub use Rattle.component_definitions.specs.Passed.component_value_types-declared-values-ValueType as component_value_types-declared-values-ValueType
+pub use Rattle.component_definitions.specs.Passed.component_value_types-declared-values-ValueType-TheVariants as component_value_types-declared-values-ValueType-TheVariants
+pub use Rattle.component_definitions.specs.declared.canonical.CanonicalOption as component_definitions-declared-canonical-CanonicalOption
+pub use Rattle.component_definitions.specs.declared.counting.IndexSpace as component_definitions-declared-counting-IndexSpace
+pub use Rattle.component_definitions.specs.declared.counting.IndexSpace.TheVariants as component_definitions-declared-counting-IndexSpace-TheVariants
+pub use Rattle.component_definitions.specs.declared.externs.Description as component_definitions-declared-externs-Description
+pub use Rattle.component_definitions.specs.declared.externs.Description.TheVariants as component_definitions-declared-externs-Description-TheVariants
+pub use Rattle.component_definitions.specs.declared.sorts.ComponentSort as component_definitions-declared-sorts-ComponentSort
+pub use Rattle.component_definitions.specs.declared.sorts.ComponentSort.TheVariants as component_definitions-declared-sorts-ComponentSort-TheVariants
+pub use Rattle.component_definitions.specs.declared.sorts.Sort as component_definitions-declared-sorts-Sort
+pub use Rattle.component_definitions.specs.declared.sorts.Sort.TheVariants as component_definitions-declared-sorts-Sort-TheVariants
+pub use Rattle.component_instances.specs.Declarators as component_instances-Declarators
+pub use Rattle.component_instances.specs.Instances as component_instances-Instances
+pub use Rattle.component_instances.specs.TypeDefinitions as component_instances-TypeDefinitions
+pub use Rattle.component_instances.specs.declared.declarators.Declarator as component_instances-declared-declarators-Declarator
+pub use Rattle.component_instances.specs.declared.instances.CoreItem as component_instances-declared-instances-CoreItem

@@ -1,0 +1,22 @@
+-- What crates above name of those below.
+pub use Rattle.component_encoding.specs.Component as component_encoding-Component
+pub use Rattle.component_encoding.specs.Passed.component_meaning-Spaces as component_meaning-Spaces
+pub use Rattle.component_encoding.specs.Passed.link_table-Cause as link_table-Cause
+pub use Rattle.component_encoding.specs.Passed.link_table-Lines as link_table-Lines
+pub use Rattle.component_encoding.specs.Passed.link_table-Linking as link_table-Linking
+pub use Rattle.component_encoding.specs.Passed.link_table-Table as link_table-Table
+pub use Rattle.component_encoding.specs.Passed.link_table-View as link_table-View
+pub use Rattle.component_encoding.specs.Passed.link_table-declared-fault-TableFault as link_table-declared-fault-TableFault
+pub use Rattle.component_encoding.specs.Passed.link_table-declared-fault-TableFault-TheVariants as link_table-declared-fault-TableFault-TheVariants
+pub use Rattle.component_encoding.specs.Passed.linked_imports-Imports as linked_imports-Imports
+pub use Rattle.component_imports.specs.Functions as component_imports-Functions
+pub use Rattle.component_imports.specs.Passed.type_sinks-Root as type_sinks-Root
+pub use Rattle.linked_worlds.specs.Linked as linked_worlds-Linked
+pub use Rattle.linked_worlds.specs.Named as linked_worlds-Named
+pub use Rattle.linked_worlds.specs.Passed.right_components-Main as right_components-Main
+pub use Rattle.linked_worlds.specs.Passed.right_components-Needed as right_components-Needed
+pub use Rattle.linked_worlds.specs.Passed.right_components-Outside as right_components-Outside
+pub use Rattle.linked_worlds.specs.Passed.wit_graph-Graph as wit_graph-Graph
+pub use Rattle.linked_worlds.specs.Passed.wit_graph-Push as wit_graph-Push
+pub use Rattle.linked_worlds.specs.Passed.wit_graph-declared-tables-Tables as wit_graph-declared-tables-Tables
+pub use Rattle.linked_worlds.specs.Passed.wit_graph_parts-Own as wit_graph_parts-Own

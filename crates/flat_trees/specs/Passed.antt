@@ -1,0 +1,6 @@
+-- What crates above name of those below.
+pub use Rattle.type_writing.specs.Functions as type_writing-Functions
+pub use Rattle.type_writing.specs.Passed.type_meaning-Items as type_meaning-Items
+pub use Rattle.type_writing.specs.Passed.type_meaning-Scope as type_meaning-Scope
+pub use Rattle.type_writing.specs.Passed.type_meaning-Words as type_meaning-Words
+pub use Rattle.type_writing.specs.Unfolding as type_writing-Unfolding

@@ -1,0 +1,2 @@
+-- What crates above name of those below.
+pub use Rattle.flat_trees.proofs.Unready as flat_trees-Unready

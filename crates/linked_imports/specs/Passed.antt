@@ -1,0 +1,24 @@
+-- What crates above name of those below.
+pub use Rattle.component_imports.specs.Functions as component_imports-Functions
+pub use Rattle.component_imports.specs.Interfaces as component_imports-Interfaces
+pub use Rattle.component_imports.specs.Passed.type_sinks-Imports as type_sinks-Imports
+pub use Rattle.component_imports.specs.Passed.type_sinks-Placing as type_sinks-Placing
+pub use Rattle.component_imports.specs.Passed.type_sinks-Root as type_sinks-Root
+pub use Rattle.right_components.specs.Ends as right_components-Ends
+pub use Rattle.right_components.specs.Main as right_components-Main
+pub use Rattle.right_components.specs.Needed as right_components-Needed
+pub use Rattle.right_components.specs.Outside as right_components-Outside
+pub use Rattle.right_components.specs.Passed.component_meaning-Core as component_meaning-Core
+pub use Rattle.right_components.specs.Passed.component_meaning-Spaces as component_meaning-Spaces
+pub use Rattle.right_components.specs.Passed.link_table-Cause as link_table-Cause
+pub use Rattle.right_components.specs.Passed.link_table-Lines as link_table-Lines
+pub use Rattle.right_components.specs.Passed.link_table-Linking as link_table-Linking
+pub use Rattle.right_components.specs.Passed.link_table-Options as link_table-Options
+pub use Rattle.right_components.specs.Passed.link_table-Pairwise as link_table-Pairwise
+pub use Rattle.right_components.specs.Passed.link_table-Table as link_table-Table
+pub use Rattle.right_components.specs.Passed.link_table-Types as link_table-Types
+pub use Rattle.right_components.specs.Passed.link_table-View as link_table-View
+pub use Rattle.right_components.specs.Passed.link_table-declared-exports-ExportLink as link_table-declared-exports-ExportLink
+pub use Rattle.right_components.specs.Passed.link_table-declared-fault-TableFault as link_table-declared-fault-TableFault
+pub use Rattle.right_components.specs.Passed.link_table-declared-fault-TableFault-TheVariants as link_table-declared-fault-TableFault-TheVariants
+pub use Rattle.right_components.specs.Right as right_components-Right

@@ -1,0 +1,21 @@
+-- What crates above name of those below.
+pub use Rattle.component_meaning.specs.Core as component_meaning-Core
+pub use Rattle.component_meaning.specs.Spaces as component_meaning-Spaces
+pub use Rattle.link_table.specs.Cause as link_table-Cause
+pub use Rattle.link_table.specs.Lines as link_table-Lines
+pub use Rattle.link_table.specs.Linking as link_table-Linking
+pub use Rattle.link_table.specs.Options as link_table-Options
+pub use Rattle.link_table.specs.Pairwise as link_table-Pairwise
+pub use Rattle.link_table.specs.Passed.core_links-Names as core_links-Names
+pub use Rattle.link_table.specs.Passed.core_links-Needed as core_links-Needed
+pub use Rattle.link_table.specs.Table as link_table-Table
+pub use Rattle.link_table.specs.Types as link_table-Types
+pub use Rattle.link_table.specs.View as link_table-View
+pub use Rattle.link_table.specs.declared.exports.ExportLink as link_table-declared-exports-ExportLink
+pub use Rattle.link_table.specs.declared.fault.TableFault as link_table-declared-fault-TableFault
+pub use Rattle.link_table.specs.declared.fault.TableFault.TheVariants as link_table-declared-fault-TableFault-TheVariants
+pub use Rattle.type_sinks.specs.Kept as type_sinks-Kept
+pub use Rattle.type_sinks.specs.Passed.type_writing-Writing as type_writing-Writing
+pub use Rattle.type_sinks.specs.Root as type_sinks-Root
+pub use Rattle.type_sinks.specs.Views as type_sinks-Views
+pub use Rattle.type_sinks.specs.declared.root.Root as type_sinks-declared-root-Root

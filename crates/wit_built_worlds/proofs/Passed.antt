@@ -1,0 +1,20 @@
+-- What crates above name of those below.
+pub use Rattle.wit_interfaces.proofs.Behind as wit_interfaces-Behind
+pub use Rattle.wit_interfaces.proofs.Growing as wit_interfaces-Growing
+pub use Rattle.wit_interfaces.proofs.Labelling as wit_interfaces-Labelling
+pub use Rattle.wit_interfaces.proofs.Listing as wit_interfaces-Listing
+pub use Rattle.wit_interfaces.proofs.Passed.wit_resolved_scopes-Eaches as wit_resolved_scopes-Eaches
+pub use Rattle.wit_interfaces.proofs.Passed.wit_resolved_scopes-Orders as wit_resolved_scopes-Orders
+pub use Rattle.wit_interfaces.proofs.Passed.wit_resolved_scopes-Readying as wit_resolved_scopes-Readying
+pub use Rattle.wit_interfaces.proofs.Viewing as wit_interfaces-Viewing
+pub use Rattle.wit_readiness.proofs.Flat as wit_readiness-Flat
+pub use Rattle.wit_readiness.proofs.Interfaces as wit_readiness-Interfaces
+pub use Rattle.wit_readiness.proofs.Labelled as wit_readiness-Labelled
+pub use Rattle.wit_readiness.proofs.Members as wit_readiness-Members
+pub use Rattle.wit_readiness.proofs.Named as wit_readiness-Named
+pub use Rattle.wit_readiness.proofs.Needing as wit_readiness-Needing
+pub use Rattle.wit_readiness.proofs.Parts as wit_readiness-Parts
+pub use Rattle.wit_readiness.proofs.Ready as wit_readiness-Ready
+pub use Rattle.wit_readiness.proofs.Sorted as wit_readiness-Sorted
+pub use Rattle.wit_readiness.proofs.Worlds as wit_readiness-Worlds
+pub use Rattle.wit_worlds.proofs.Keys as wit_worlds-Keys

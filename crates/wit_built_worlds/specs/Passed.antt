@@ -1,0 +1,19 @@
+-- What crates above name of those below.
+pub use Rattle.wit_interfaces.specs.Adding as wit_interfaces-Adding
+pub use Rattle.wit_interfaces.specs.Interfaces as wit_interfaces-Interfaces
+pub use Rattle.wit_interfaces.specs.Listed as wit_interfaces-Listed
+pub use Rattle.wit_interfaces.specs.Passed.wit_functions-Signature as wit_functions-Signature
+pub use Rattle.wit_interfaces.specs.Passed.wit_orders-Needs as wit_orders-Needs
+pub use Rattle.wit_interfaces.specs.Passed.wit_resolved_scopes-Each as wit_resolved_scopes-Each
+pub use Rattle.wit_interfaces.specs.Passed.wit_resolved_scopes-Faults as wit_resolved_scopes-Faults
+pub use Rattle.wit_interfaces.specs.Passed.wit_resolved_scopes-Fit as wit_resolved_scopes-Fit
+pub use Rattle.wit_interfaces.specs.Passed.wit_resolved_scopes-InArena as wit_resolved_scopes-InArena
+pub use Rattle.wit_interfaces.specs.Passed.wit_resolved_scopes-Meaning as wit_resolved_scopes-Meaning
+pub use Rattle.wit_interfaces.specs.Passed.wit_resolved_scopes-Scope as wit_resolved_scopes-Scope
+pub use Rattle.wit_interfaces.specs.Passed.wit_resolved_scopes-Texts as wit_resolved_scopes-Texts
+pub use Rattle.wit_interfaces.specs.Passed.wit_resources-Natures as wit_resources-Natures
+pub use Rattle.wit_interfaces.specs.Passed.wit_resources-Rules as wit_resources-Rules
+pub use Rattle.wit_interfaces.specs.Passed.wit_resources-declared-natures-Nature as wit_resources-declared-natures-Nature
+pub use Rattle.wit_interfaces.specs.Places as wit_interfaces-Places
+pub use Rattle.wit_readiness.specs.Readiness as wit_readiness-Readiness
+pub use Rattle.wit_worlds.specs.Worlds as wit_worlds-Worlds

@@ -1,0 +1,2 @@
+-- What crates above name of those below.
+pub use Rattle.known_definitions.proofs.Laws as known_definitions-Laws

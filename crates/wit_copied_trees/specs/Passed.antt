@@ -1,0 +1,24 @@
+-- What crates above name of those below.
+pub use Rattle.wit_arena.specs.Passed.wit_type_names-TypeNames as wit_type_names-TypeNames
+pub use Rattle.wit_arena.specs.Shape as wit_arena-Shape
+pub use Rattle.wit_arena.specs.Tree as wit_arena-Tree
+pub use Rattle.wit_arena.specs.Unfold as wit_arena-Unfold
+pub use Rattle.wit_includes.specs.Included as wit_includes-Included
+pub use Rattle.wit_includes.specs.Passed.wit_copies-Copies as wit_copies-Copies
+pub use Rattle.wit_includes.specs.Passed.wit_copies-Same as wit_copies-Same
+pub use Rattle.wit_includes.specs.Passed.wit_reach-Deps as wit_reach-Deps
+pub use Rattle.wit_includes.specs.Passed.wit_reach-Holding as wit_reach-Holding
+pub use Rattle.wit_includes.specs.Passed.wit_reach-Ids as wit_reach-Ids
+pub use Rattle.wit_includes.specs.Passed.wit_reach-Lists as wit_reach-Lists
+pub use Rattle.wit_includes.specs.Passed.wit_reach-Made as wit_reach-Made
+pub use Rattle.wit_includes.specs.Passed.wit_reach-Paths as wit_reach-Paths
+pub use Rattle.wit_includes.specs.Passed.wit_reach-Types as wit_reach-Types
+pub use Rattle.wit_includes.specs.Passed.wit_sides-Known as wit_sides-Known
+pub use Rattle.wit_includes.specs.Passed.wit_sides-Renames as wit_sides-Renames
+pub use Rattle.wit_includes.specs.Passed.wit_sides-Sides as wit_sides-Sides
+pub use Rattle.wit_includes.specs.Passed.wit_sides-declared-sides-SideFault as wit_sides-declared-sides-SideFault
+pub use Rattle.wit_includes.specs.Passed.wit_sides-declared-sides-SideFault-TheVariants as wit_sides-declared-sides-SideFault-TheVariants
+pub use Rattle.wit_includes.specs.declared.worlds.Include as wit_includes-declared-worlds-Include
+pub use Rattle.wit_includes.specs.declared.worlds.IncludeFault as wit_includes-declared-worlds-IncludeFault
+pub use Rattle.wit_includes.specs.declared.worlds.IncludeFault.TheVariants as wit_includes-declared-worlds-IncludeFault-TheVariants
+pub use Rattle.wit_includes.specs.declared.worlds.Included as wit_includes-declared-worlds-Included

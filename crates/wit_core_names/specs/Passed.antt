@@ -1,0 +1,2 @@
+-- What crates above name of those below.
+pub use Rattle.wit_names.specs.Names as wit_names-Names

@@ -1,0 +1,2 @@
+-- What crates above name of those below.
+pub use Rattle.wit_moves.proofs.Leading as wit_moves-Leading

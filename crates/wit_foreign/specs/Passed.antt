@@ -1,0 +1,24 @@
+-- What crates above name of those below.
+pub use Rattle.wit_lookups.specs.Lookups as wit_lookups-Lookups
+pub use Rattle.wit_lookups.specs.Names as wit_lookups-Names
+pub use Rattle.wit_lookups.specs.Passed.wit_rules-Breaks as wit_rules-Breaks
+pub use Rattle.wit_lookups.specs.Passed.wit_rules-Facts as wit_rules-Facts
+pub use Rattle.wit_lookups.specs.Passed.wit_rules-Labels as wit_rules-Labels
+pub use Rattle.wit_lookups.specs.Passed.wit_rules-declared-fault-PackageRule-TheVariants as wit_rules-declared-fault-PackageRule-TheVariants
+pub use Rattle.wit_lookups.specs.Passed.wit_scopes-Members as wit_scopes-Members
+pub use Rattle.wit_lookups.specs.Passed.wit_scopes-Paths as wit_scopes-Paths
+pub use Rattle.wit_lookups.specs.Passed.wit_scopes-Scopes as wit_scopes-Scopes
+pub use Rattle.wit_lookups.specs.Passed.wit_scopes-declared-worlds-Side as wit_scopes-declared-worlds-Side
+pub use Rattle.wit_lookups.specs.Passed.wit_scopes-declared-worlds-Side-TheVariants as wit_scopes-declared-worlds-Side-TheVariants
+pub use Rattle.wit_lookups.specs.Passed.wit_syntax-Ast as wit_syntax-Ast
+pub use Rattle.wit_lookups.specs.Passed.wit_type_names-TypeNames as wit_type_names-TypeNames
+pub use Rattle.wit_lookups.specs.declared.asks.Asked as wit_lookups-declared-asks-Asked
+pub use Rattle.wit_lookups.specs.declared.asks.Asked.TheVariants as wit_lookups-declared-asks-Asked-TheVariants
+pub use Rattle.wit_package_types.specs.Fill as wit_package_types-Fill
+pub use Rattle.wit_package_types.specs.Foreign as wit_package_types-Foreign
+pub use Rattle.wit_package_types.specs.Known as wit_package_types-Known
+pub use Rattle.wit_package_types.specs.Passed.wit_arena-Meaning as wit_arena-Meaning
+pub use Rattle.wit_package_types.specs.Passed.wit_arena-Standing as wit_arena-Standing
+pub use Rattle.wit_package_types.specs.Passed.wit_arena-Tree as wit_arena-Tree
+pub use Rattle.wit_package_types.specs.Stability as wit_package_types-Stability
+pub use Rattle.wit_package_types.specs.Standing as wit_package_types-Standing

@@ -1,0 +1,21 @@
+-- What crates above name of those below.
+pub use Rattle.wit_graph_worlds.specs.Added as wit_graph_worlds-Added
+pub use Rattle.wit_graph_worlds.specs.Copies as wit_graph_worlds-Copies
+pub use Rattle.wit_graph_worlds.specs.Names as wit_graph_worlds-Names
+pub use Rattle.wit_graph_worlds.specs.Passed.wit_arena-Tree as wit_arena-Tree
+pub use Rattle.wit_graph_worlds.specs.Passed.wit_arena-Unfold as wit_arena-Unfold
+pub use Rattle.wit_graph_worlds.specs.Passed.wit_joined-Joined as wit_joined-Joined
+pub use Rattle.wit_graph_worlds.specs.Passed.wit_moved_trees-There as wit_moved_trees-There
+pub use Rattle.wit_graph_worlds.specs.Passed.wit_placed-Found as wit_placed-Found
+pub use Rattle.wit_graph_worlds.specs.Passed.wit_placed-Listed as wit_placed-Listed
+pub use Rattle.wit_graph_worlds.specs.Passed.wit_placed-Naming as wit_placed-Naming
+pub use Rattle.wit_graph_worlds.specs.Passed.wit_placed-Order as wit_placed-Order
+pub use Rattle.wit_graph_worlds.specs.Passed.wit_placed-There as wit_placed-There
+pub use Rattle.wit_graph_worlds.specs.Passed.wit_placed-Worlds as wit_placed-Worlds
+pub use Rattle.wit_graph_worlds.specs.Sound as wit_graph_worlds-Sound
+pub use Rattle.wit_graph_worlds.specs.Worlds as wit_graph_worlds-Worlds
+pub use Rattle.wit_graph_worlds.specs.declared.worlds.WorldFault as wit_graph_worlds-declared-worlds-WorldFault
+pub use Rattle.wit_graph_worlds.specs.declared.worlds.WorldFault.TheVariants as wit_graph_worlds-declared-worlds-WorldFault-TheVariants
+pub use Rattle.wit_shapes.specs.Passed.wit_resources-Holding as wit_resources-Holding
+pub use Rattle.wit_shapes.specs.Passed.wit_resources-Natures as wit_resources-Natures
+pub use Rattle.wit_shapes.specs.Passed.wit_resources-declared-natures-Nature as wit_resources-declared-natures-Nature

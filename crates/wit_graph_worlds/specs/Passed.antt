@@ -1,0 +1,24 @@
+-- What crates above name of those below.
+pub use Rattle.wit_elaborated.specs.Worlds as wit_elaborated-Worlds
+pub use Rattle.wit_uses.specs.Included as wit_uses-Included
+pub use Rattle.wit_uses.specs.Moved as wit_uses-Moved
+pub use Rattle.wit_uses.specs.Passed.wit_arena-Tree as wit_arena-Tree
+pub use Rattle.wit_uses.specs.Passed.wit_arena-Unfold as wit_arena-Unfold
+pub use Rattle.wit_uses.specs.Passed.wit_finding-Asks as wit_finding-Asks
+pub use Rattle.wit_uses.specs.Passed.wit_finding-Foreign as wit_finding-Foreign
+pub use Rattle.wit_uses.specs.Passed.wit_finding-declared-counts-Counts as wit_finding-declared-counts-Counts
+pub use Rattle.wit_uses.specs.Passed.wit_finding-declared-fault-FindFault as wit_finding-declared-fault-FindFault
+pub use Rattle.wit_uses.specs.Passed.wit_finding-declared-fault-FindFault-TheVariants as wit_finding-declared-fault-FindFault-TheVariants
+pub use Rattle.wit_uses.specs.Passed.wit_joined-Joined as wit_joined-Joined
+pub use Rattle.wit_uses.specs.Passed.wit_moved_trees-There as wit_moved_trees-There
+pub use Rattle.wit_uses.specs.Passed.wit_placed-Found as wit_placed-Found
+pub use Rattle.wit_uses.specs.Passed.wit_placed-Listed as wit_placed-Listed
+pub use Rattle.wit_uses.specs.Passed.wit_placed-Naming as wit_placed-Naming
+pub use Rattle.wit_uses.specs.Passed.wit_placed-Order as wit_placed-Order
+pub use Rattle.wit_uses.specs.Passed.wit_placed-There as wit_placed-There
+pub use Rattle.wit_uses.specs.Passed.wit_placed-Worlds as wit_placed-Worlds
+pub use Rattle.wit_uses.specs.Passed.wit_plans-Checks as wit_plans-Checks
+pub use Rattle.wit_uses.specs.Passed.wit_plans-Moves as wit_plans-Moves
+pub use Rattle.wit_uses.specs.Passed.wit_plans-Plans as wit_plans-Plans
+pub use Rattle.wit_uses.specs.Passed.wit_plans-declared-moves-MovedWorld as wit_plans-declared-moves-MovedWorld
+pub use Rattle.wit_uses.specs.Uses as wit_uses-Uses

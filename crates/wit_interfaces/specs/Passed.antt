@@ -1,0 +1,22 @@
+-- What crates above name of those below.
+pub use Rattle.wit_arena.specs.Meaning as wit_arena-Meaning
+pub use Rattle.wit_arena.specs.Standing as wit_arena-Standing
+pub use Rattle.wit_arena.specs.Table as wit_arena-Table
+pub use Rattle.wit_arena.specs.Tree as wit_arena-Tree
+pub use Rattle.wit_arena.specs.Unfold as wit_arena-Unfold
+pub use Rattle.wit_resolved_scopes.specs.Each as wit_resolved_scopes-Each
+pub use Rattle.wit_resolved_scopes.specs.Faults as wit_resolved_scopes-Faults
+pub use Rattle.wit_resolved_scopes.specs.Fit as wit_resolved_scopes-Fit
+pub use Rattle.wit_resolved_scopes.specs.InArena as wit_resolved_scopes-InArena
+pub use Rattle.wit_resolved_scopes.specs.Listed as wit_resolved_scopes-Listed
+pub use Rattle.wit_resolved_scopes.specs.Meaning as wit_resolved_scopes-Meaning
+pub use Rattle.wit_resolved_scopes.specs.Passed.wit_functions-Signature as wit_functions-Signature
+pub use Rattle.wit_resolved_scopes.specs.Passed.wit_orders-Needs as wit_orders-Needs
+pub use Rattle.wit_resolved_scopes.specs.Passed.wit_package_types-Fill as wit_package_types-Fill
+pub use Rattle.wit_resolved_scopes.specs.Passed.wit_package_types-Known as wit_package_types-Known
+pub use Rattle.wit_resolved_scopes.specs.Passed.wit_package_types-Stability as wit_package_types-Stability
+pub use Rattle.wit_resolved_scopes.specs.Passed.wit_resources-Natures as wit_resources-Natures
+pub use Rattle.wit_resolved_scopes.specs.Passed.wit_resources-Rules as wit_resources-Rules
+pub use Rattle.wit_resolved_scopes.specs.Passed.wit_resources-declared-natures-Nature as wit_resources-declared-natures-Nature
+pub use Rattle.wit_resolved_scopes.specs.Scope as wit_resolved_scopes-Scope
+pub use Rattle.wit_resolved_scopes.specs.Texts as wit_resolved_scopes-Texts

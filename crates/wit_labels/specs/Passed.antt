@@ -1,0 +1,24 @@
+-- What crates above name of those below.
+pub use Rattle.wit_joined.specs.Joined as wit_joined-Joined
+pub use Rattle.wit_joined.specs.Passed.wit_copied_trees-There as wit_copied_trees-There
+pub use Rattle.wit_joined.specs.Passed.wit_copies-Copies as wit_copies-Copies
+pub use Rattle.wit_joined.specs.Passed.wit_copies-Same as wit_copies-Same
+pub use Rattle.wit_joined.specs.Passed.wit_finding-Foreign as wit_finding-Foreign
+pub use Rattle.wit_joined.specs.Passed.wit_finding-Types as wit_finding-Types
+pub use Rattle.wit_joined.specs.Passed.wit_includes-Included as wit_includes-Included
+pub use Rattle.wit_joined.specs.Passed.wit_includes-declared-worlds-Included as wit_includes-declared-worlds-Included
+pub use Rattle.wit_joined.specs.Passed.wit_plans-Checks as wit_plans-Checks
+pub use Rattle.wit_joined.specs.Passed.wit_plans-Moves as wit_plans-Moves
+pub use Rattle.wit_joined.specs.Passed.wit_plans-declared-moves-MovedWorld as wit_plans-declared-moves-MovedWorld
+pub use Rattle.wit_joined.specs.Passed.wit_sides-Renames as wit_sides-Renames
+pub use Rattle.wit_joined.specs.Passed.wit_sides-Sides as wit_sides-Sides
+pub use Rattle.wit_joined.specs.Passed.wit_type_names-TypeNames as wit_type_names-TypeNames
+pub use Rattle.wit_placed.specs.Listed as wit_placed-Listed
+pub use Rattle.wit_placed.specs.Naming as wit_placed-Naming
+pub use Rattle.wit_placed.specs.Order as wit_placed-Order
+pub use Rattle.wit_placed.specs.There as wit_placed-There
+pub use Rattle.wit_placed.specs.Worlds as wit_placed-Worlds
+pub use Rattle.wit_plain_texts.specs.Law as wit_plain_texts-Law
+pub use Rattle.wit_plain_texts.specs.Plain as wit_plain_texts-Plain
+pub use Rattle.wit_plain_texts.specs.Scopes as wit_plain_texts-Scopes
+pub use Rattle.wit_plain_texts.specs.Trees as wit_plain_texts-Trees

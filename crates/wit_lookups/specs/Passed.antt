@@ -1,0 +1,21 @@
+-- What crates above name of those below.
+pub use Rattle.wit_rules.specs.Breaks as wit_rules-Breaks
+pub use Rattle.wit_rules.specs.Facts as wit_rules-Facts
+pub use Rattle.wit_rules.specs.Labels as wit_rules-Labels
+pub use Rattle.wit_rules.specs.declared.fault.PackageFault as wit_rules-declared-fault-PackageFault
+pub use Rattle.wit_rules.specs.declared.fault.PackageFault.TheVariants as wit_rules-declared-fault-PackageFault-TheVariants
+pub use Rattle.wit_rules.specs.declared.fault.PackageRule as wit_rules-declared-fault-PackageRule
+pub use Rattle.wit_rules.specs.declared.fault.PackageRule.TheVariants as wit_rules-declared-fault-PackageRule-TheVariants
+pub use Rattle.wit_type_names.specs.Passed.wit_items-ItemTree as wit_items-ItemTree
+pub use Rattle.wit_type_names.specs.Passed.wit_productions-TypeTree as wit_productions-TypeTree
+pub use Rattle.wit_type_names.specs.Passed.wit_productions-TypeView as wit_productions-TypeView
+pub use Rattle.wit_type_names.specs.Passed.wit_scopes-Members as wit_scopes-Members
+pub use Rattle.wit_type_names.specs.Passed.wit_scopes-Paths as wit_scopes-Paths
+pub use Rattle.wit_type_names.specs.Passed.wit_scopes-Scopes as wit_scopes-Scopes
+pub use Rattle.wit_type_names.specs.Passed.wit_scopes-View as wit_scopes-View
+pub use Rattle.wit_type_names.specs.Passed.wit_scopes-declared-members-Front as wit_scopes-declared-members-Front
+pub use Rattle.wit_type_names.specs.Passed.wit_scopes-declared-worlds-Side as wit_scopes-declared-worlds-Side
+pub use Rattle.wit_type_names.specs.Passed.wit_scopes-declared-worlds-Side-TheVariants as wit_scopes-declared-worlds-Side-TheVariants
+pub use Rattle.wit_type_names.specs.Passed.wit_syntax-Ast as wit_syntax-Ast
+pub use Rattle.wit_type_names.specs.Passed.wit_syntax-AstView as wit_syntax-AstView
+pub use Rattle.wit_type_names.specs.TypeNames as wit_type_names-TypeNames

@@ -1,0 +1,20 @@
+-- What crates above name of those below.
+pub use Rattle.wit_features.specs.Features as wit_features-Features
+pub use Rattle.wit_features.specs.Passed.wit_order-Order as wit_order-Order
+pub use Rattle.wit_features.specs.Passed.wit_types-World as wit_types-World
+pub use Rattle.wit_features.specs.Passed.wit_types-declared-function-Function as wit_types-declared-function-Function
+pub use Rattle.wit_features.specs.Passed.wit_types-declared-interface-Interface as wit_types-declared-interface-Interface
+pub use Rattle.wit_features.specs.Passed.wit_types-declared-interface-TypeDef as wit_types-declared-interface-TypeDef
+pub use Rattle.wit_features.specs.Passed.wit_types-declared-interface-TypeOwner as wit_types-declared-interface-TypeOwner
+pub use Rattle.wit_features.specs.Passed.wit_types-declared-interface-TypeOwner-TheVariants as wit_types-declared-interface-TypeOwner-TheVariants
+pub use Rattle.wit_features.specs.Passed.wit_types-declared-package-AstItem as wit_types-declared-package-AstItem
+pub use Rattle.wit_features.specs.Passed.wit_types-declared-package-AstItem-TheVariants as wit_types-declared-package-AstItem-TheVariants
+pub use Rattle.wit_features.specs.Passed.wit_types-declared-package-Package as wit_types-declared-package-Package
+pub use Rattle.wit_features.specs.Passed.wit_types-declared-package-PackageName as wit_types-declared-package-PackageName
+pub use Rattle.wit_features.specs.Passed.wit_types-declared-package-UnresolvedPackage as wit_types-declared-package-UnresolvedPackage
+pub use Rattle.wit_features.specs.Passed.wit_types-declared-stability-Stability as wit_types-declared-stability-Stability
+pub use Rattle.wit_features.specs.Passed.wit_types-declared-world-World as wit_types-declared-world-World
+pub use Rattle.wit_features.specs.Passed.wit_types-declared-world-WorldInclude as wit_types-declared-world-WorldInclude
+pub use Rattle.wit_features.specs.Passed.wit_types-declared-world-WorldItem as wit_types-declared-world-WorldItem
+pub use Rattle.wit_features.specs.Passed.wit_types-declared-world_key-WorldKey as wit_types-declared-world_key-WorldKey
+pub use Rattle.wit_features.specs.Passed.wit_types-declared-world_key-WorldKey-TheVariants as wit_types-declared-world_key-WorldKey-TheVariants

@@ -1,0 +1,23 @@
+-- What crates above name of those below.
+pub use Rattle.wit_arena.specs.Docs as wit_arena-Docs
+pub use Rattle.wit_arena.specs.Lower as wit_arena-Lower
+pub use Rattle.wit_arena.specs.LowerKind as wit_arena-LowerKind
+pub use Rattle.wit_arena.specs.LowerParams as wit_arena-LowerParams
+pub use Rattle.wit_arena.specs.Meaning as wit_arena-Meaning
+pub use Rattle.wit_arena.specs.Passed.wit_type_names-TypeNames as wit_type_names-TypeNames
+pub use Rattle.wit_arena.specs.Standing as wit_arena-Standing
+pub use Rattle.wit_arena.specs.Table as wit_arena-Table
+pub use Rattle.wit_arena.specs.Tree as wit_arena-Tree
+pub use Rattle.wit_arena.specs.Unfold as wit_arena-Unfold
+pub use Rattle.wit_rules.specs.Labels as wit_rules-Labels
+pub use Rattle.wit_rules.specs.Passed.wit_items-ItemTree as wit_items-ItemTree
+pub use Rattle.wit_rules.specs.Passed.wit_items-declared-items-Func as wit_items-declared-items-Func
+pub use Rattle.wit_rules.specs.Passed.wit_items-declared-items-Param as wit_items-declared-items-Param
+pub use Rattle.wit_rules.specs.Passed.wit_productions-NameView as wit_productions-NameView
+pub use Rattle.wit_rules.specs.Passed.wit_productions-TypeTree as wit_productions-TypeTree
+pub use Rattle.wit_rules.specs.Passed.wit_productions-TypeView as wit_productions-TypeView
+pub use Rattle.wit_rules.specs.Passed.wit_productions-declared-types-Type as wit_productions-declared-types-Type
+pub use Rattle.wit_rules.specs.Passed.wit_scopes-Members as wit_scopes-Members
+pub use Rattle.wit_rules.specs.Passed.wit_scopes-View as wit_scopes-View
+pub use Rattle.wit_rules.specs.Passed.wit_scopes-declared-members-MemberKind as wit_scopes-declared-members-MemberKind
+pub use Rattle.wit_rules.specs.Passed.wit_syntax-AstView as wit_syntax-AstView

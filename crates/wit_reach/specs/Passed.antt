@@ -1,0 +1,27 @@
+-- What crates above name of those below.
+pub use Rattle.wit_types.specs.Passed.wit_order-Order as wit_order-Order
+pub use Rattle.wit_types.specs.Passed.wit_order-Places as wit_order-Places
+pub use Rattle.wit_types.specs.Passed.wit_words-declared-source_map-Span as wit_words-declared-source_map-Span
+pub use Rattle.wit_types.specs.WorldKey as wit_types-WorldKey
+pub use Rattle.wit_types.specs.declared.function.Function as wit_types-declared-function-Function
+pub use Rattle.wit_types.specs.declared.function.FunctionKind as wit_types-declared-function-FunctionKind
+pub use Rattle.wit_types.specs.declared.function.FunctionKind.TheVariants as wit_types-declared-function-FunctionKind-TheVariants
+pub use Rattle.wit_types.specs.declared.function.Param as wit_types-declared-function-Param
+pub use Rattle.wit_types.specs.declared.interface.Interface as wit_types-declared-interface-Interface
+pub use Rattle.wit_types.specs.declared.interface.TypeDef as wit_types-declared-interface-TypeDef
+pub use Rattle.wit_types.specs.declared.interface.TypeOwner as wit_types-declared-interface-TypeOwner
+pub use Rattle.wit_types.specs.declared.interface.TypeOwner.TheVariants as wit_types-declared-interface-TypeOwner-TheVariants
+pub use Rattle.wit_types.specs.declared.kind.Case as wit_types-declared-kind-Case
+pub use Rattle.wit_types.specs.declared.kind.Field as wit_types-declared-kind-Field
+pub use Rattle.wit_types.specs.declared.kind.Handle as wit_types-declared-kind-Handle
+pub use Rattle.wit_types.specs.declared.kind.Handle.TheVariants as wit_types-declared-kind-Handle-TheVariants
+pub use Rattle.wit_types.specs.declared.kind.TypeDefKind as wit_types-declared-kind-TypeDefKind
+pub use Rattle.wit_types.specs.declared.kind.TypeDefKind.TheVariants as wit_types-declared-kind-TypeDefKind-TheVariants
+pub use Rattle.wit_types.specs.declared.kind.«Type» as wit_types-declared-kind-Type
+pub use Rattle.wit_types.specs.declared.kind.«Type».TheVariants as wit_types-declared-kind-Type-TheVariants
+pub use Rattle.wit_types.specs.declared.stability.Stability.TheVariants as wit_types-declared-stability-Stability-TheVariants
+pub use Rattle.wit_types.specs.declared.world.World as wit_types-declared-world-World
+pub use Rattle.wit_types.specs.declared.world.WorldItem as wit_types-declared-world-WorldItem
+pub use Rattle.wit_types.specs.declared.world.WorldItem.TheVariants as wit_types-declared-world-WorldItem-TheVariants
+pub use Rattle.wit_types.specs.declared.world_key.WorldKey as wit_types-declared-world_key-WorldKey
+pub use Rattle.wit_types.specs.declared.world_key.WorldKey.TheVariants as wit_types-declared-world_key-WorldKey-TheVariants

@@ -1,0 +1,21 @@
+-- What crates above name of those below.
+pub use Rattle.wit_scopes.specs.Members as wit_scopes-Members
+pub use Rattle.wit_scopes.specs.Passed.wit_items-ItemTree as wit_items-ItemTree
+pub use Rattle.wit_scopes.specs.Passed.wit_items-declared-items-Func as wit_items-declared-items-Func
+pub use Rattle.wit_scopes.specs.Passed.wit_items-declared-items-Param as wit_items-declared-items-Param
+pub use Rattle.wit_scopes.specs.Passed.wit_productions-NameView as wit_productions-NameView
+pub use Rattle.wit_scopes.specs.Passed.wit_productions-TypeTree as wit_productions-TypeTree
+pub use Rattle.wit_scopes.specs.Passed.wit_productions-TypeView as wit_productions-TypeView
+pub use Rattle.wit_scopes.specs.Passed.wit_productions-declared-names-Id as wit_productions-declared-names-Id
+pub use Rattle.wit_scopes.specs.Passed.wit_productions-declared-names-Version as wit_productions-declared-names-Version
+pub use Rattle.wit_scopes.specs.Passed.wit_productions-declared-types-Type as wit_productions-declared-types-Type
+pub use Rattle.wit_scopes.specs.Passed.wit_syntax-Ast as wit_syntax-Ast
+pub use Rattle.wit_scopes.specs.Passed.wit_syntax-AstView as wit_syntax-AstView
+pub use Rattle.wit_scopes.specs.Paths as wit_scopes-Paths
+pub use Rattle.wit_scopes.specs.Scopes as wit_scopes-Scopes
+pub use Rattle.wit_scopes.specs.View as wit_scopes-View
+pub use Rattle.wit_scopes.specs.declared.members.Member as wit_scopes-declared-members-Member
+pub use Rattle.wit_scopes.specs.declared.members.MemberKind as wit_scopes-declared-members-MemberKind
+pub use Rattle.wit_scopes.specs.declared.paths.Target as wit_scopes-declared-paths-Target
+pub use Rattle.wit_scopes.specs.declared.worlds.Side as wit_scopes-declared-worlds-Side
+pub use Rattle.wit_scopes.specs.declared.worlds.Side.TheVariants as wit_scopes-declared-worlds-Side-TheVariants

@@ -1,0 +1,2 @@
+-- What crates above name of those below.
+pub use Rattle.wit_words.proofs.SameKinds as wit_words-SameKinds

@@ -1,0 +1,26 @@
+-- What crates above name of those below.
+pub use Rattle.wit_graph_parts.specs.Own as wit_graph_parts-Own
+pub use Rattle.wit_graph_parts.specs.Passed.wit_resources-Holding as wit_resources-Holding
+pub use Rattle.wit_graph_parts.specs.Passed.wit_resources-Natures as wit_resources-Natures
+pub use Rattle.wit_graph_parts.specs.declared.fault.PushFault as wit_graph_parts-declared-fault-PushFault
+pub use Rattle.wit_labels.specs.Labels as wit_labels-Labels
+pub use Rattle.wit_labels.specs.Named as wit_labels-Named
+pub use Rattle.wit_package.specs.Group as wit_package-Group
+pub use Rattle.wit_package.specs.GroupView as wit_package-GroupView
+pub use Rattle.wit_package.specs.Passed.wit_foreign-Deps as wit_foreign-Deps
+pub use Rattle.wit_package.specs.Passed.wit_foreign-Groups as wit_foreign-Groups
+pub use Rattle.wit_package.specs.Passed.wit_foreign-Items as wit_foreign-Items
+pub use Rattle.wit_package.specs.Passed.wit_foreign-Needs as wit_foreign-Needs
+pub use Rattle.wit_package.specs.Passed.wit_functions-Signature as wit_functions-Signature
+pub use Rattle.wit_package.specs.Passed.wit_interfaces-Interfaces as wit_interfaces-Interfaces
+pub use Rattle.wit_package.specs.Passed.wit_interfaces-Listed as wit_interfaces-Listed
+pub use Rattle.wit_package.specs.Passed.wit_resolved_scopes-Each as wit_resolved_scopes-Each
+pub use Rattle.wit_package.specs.Passed.wit_resolved_scopes-InArena as wit_resolved_scopes-InArena
+pub use Rattle.wit_package.specs.Passed.wit_resolved_scopes-Meaning as wit_resolved_scopes-Meaning
+pub use Rattle.wit_package.specs.Passed.wit_resolved_scopes-Scope as wit_resolved_scopes-Scope
+pub use Rattle.wit_package.specs.Passed.wit_resolved_scopes-Texts as wit_resolved_scopes-Texts
+pub use Rattle.wit_package.specs.Passed.wit_worlds-Worlds as wit_worlds-Worlds
+pub use Rattle.wit_package.specs.Resolved as wit_package-Resolved
+pub use Rattle.wit_package.specs.Steps as wit_package-Steps
+pub use Rattle.wit_package.specs.TopUses as wit_package-TopUses
+pub use Rattle.wit_package.specs.declared.group.UnresolvedPackageGroup as wit_package-declared-group-UnresolvedPackageGroup
