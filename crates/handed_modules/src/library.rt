@@ -32,10 +32,3 @@ pub enum Instance {
     /// One that is made of these exports.
     Items(Vec<Item>),
 }
-
-/// What a library is instantiated with, beside what its imports stand for in its world.
-#[derive(Debug, Drop)]
-pub struct LibraryInfo {
-    /// Instances, each under the text by which the library's core imports name it.
-    pub arguments: Vec<(String, Instance)>,
-}
