@@ -1,11 +1,11 @@
 #!/bin/sh
 # checks/memory.sh
 #
-# Refuses each request for memory in turn, from the first on, until a run meets no refusal: in the rows of `linking_rows`
-# that are made for it (src/memory.rt), which are to be answered as ever each time, or not at all where the refused request
-# isn't one of a session; and in the program, which is to give its whole answer, or `error: out of memory`, status 1 and no
-# answer. It needs a C compiler, cc, for the library that refuses, and the kit's command `rt` where the program isn't
-# built yet.
+# Refuses each request for memory in turn, from the first on, until a run meets no refusal: in a block of rows of `linking_rows`,
+# whose session is asked once more where memory was refused, so that they are to be answered as ever each time, or not at all
+# where the refused request isn't one of a session; and in the program, which is to give its whole answer, or
+# `error: out of memory`, status 1 and no answer. It needs a C compiler, cc, for the library that refuses, and the kit's
+# command `rt` where the program isn't built yet.
 set -u
 
 top=$(CDPATH='' cd -- "$(dirname -- "$0")/.." && pwd) || exit 2
@@ -31,26 +31,28 @@ refused() {
     [ -e "$folder/note" ]
 }
 
-# check_row WHAT
-check_row() {
-    printf 'memory %s\n' "$1" >"$folder/row"
-    printf 'memory %s\n  that is all\n' "$1" >"$folder/wanted"
+# check_rows HEADING: the first block of rows under this heading
+check_rows() {
+    for file in stdin stdout; do
+        awk -v RS= -v heading="## $1" 'index($0, heading "\n") == 1 { print; exit }' "$crates/linking_rows/$file" >"$folder/$file"
+    done
+    [ -s "$folder/stdin" ] || fail "there are no rows under $1"
     at=1
     answered=0
-    while refused "$at" "$rows" <"$folder/row"; do
+    while refused "$at" "$rows" <"$folder/stdin"; do
         if [ "$status" -eq 0 ]; then
-            cmp -s "$folder/wanted" "$folder/out" || fail "memory $1, where request $at is refused: $(cat "$folder/out")"
+            cmp -s "$folder/stdout" "$folder/out" || fail "$1, where request $at is refused: $(cat "$folder/out")"
             answered=$((answered + 1))
         else
-            [ "$status" -eq 1 ] || fail "memory $1: status $status where request $at is refused"
-            [ ! -s "$folder/out" ] || fail "memory $1: a part of the answer where request $at is refused"
+            [ "$status" -eq 1 ] || fail "$1: status $status where request $at is refused"
+            [ ! -s "$folder/out" ] || fail "$1: a part of the answer where request $at is refused"
         fi
         at=$((at + 1))
     done
-    [ "$status" -eq 0 ] || fail "memory $1: status $status where nothing is refused"
-    cmp -s "$folder/wanted" "$folder/out" || fail "memory $1, where nothing is refused: $(cat "$folder/out")"
-    [ "$answered" -gt 0 ] || fail "memory $1: no request of a session was refused"
-    echo "memory $1: $((at - 1)) requests, $answered of them a session's, ok"
+    [ "$status" -eq 0 ] || fail "$1: status $status where nothing is refused"
+    cmp -s "$folder/stdout" "$folder/out" || fail "$1, where nothing is refused: $(cat "$folder/out")"
+    [ "$answered" -gt 0 ] || fail "$1: no request of a session was refused"
+    echo "$1: $((at - 1)) requests, $answered of them a session's, ok"
 }
 
 # check_program ANSWER WORD..: the answer is a file
@@ -78,9 +80,8 @@ cc -O1 -shared -fPIC -o "$folder/refuse.so" "$top/checks/refuse.c" -ldl || exit 
 "$top/component_linker" >"$folder/log" || exit 2
 (cd "$crates/linking_rows" && rt run </dev/null) >"$folder/log" 2>&1 || fail "$(tail -n 20 "$folder/log")"
 
-for what in inputs links build audit; do
-    check_row "$what"
-done
+check_rows 'An imported function'
+check_rows 'An exported function'
 
 printf 'import main $root f lower $root f - - - - -\n' >"$folder/links"
 printf 'yes\n' >"$folder/audit"

@@ -181,7 +181,7 @@ fn start<R: Env + Files + AllocGlobal, O: Write, E: Write>(
 ) -> io::Result<u8> {
     let words = words_of(rt)?;
     if words.is_empty() {
-        return Ok(example(rt.alloc(), out));
+        return Ok(example(rt.alloc(), out, err));
     }
     run_words(rt, &words, out, err)
 }

@@ -1,1 +1,2 @@
 pub mod Sorted
+mod Worked

@@ -1,15 +1,17 @@
-//! Rows of linking: reads blocks of cases from standard input, and prints each line with its answer behind it.
+//! Rows of the linker, by its session and by the program's words: reads blocks of cases from standard input, and prints each
+//! line with its answer behind it.
 //!
-//! A block ends at a blank line, and has a session of its own. What each line asks is said at the head of the input.
+//! A block ends at a blank line, and has a session and files of its own. What each line asks is said at the head of the input.
 #![tactic(auto)]
 
 mod block;
-mod memory;
+mod command;
 mod question;
 mod refusals;
 mod row;
 mod setup;
 mod signature;
+mod stopping;
 
 use std::io;
 use std::io::{BufRead, BufReader};

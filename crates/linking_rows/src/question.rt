@@ -2,7 +2,7 @@
 
 use crate::refusals::{write_fault, write_unresolved};
 use crate::signature::write_signatures;
-use component_session::{Link, PackageId, Session, audit};
+use component_linker::{Link, PackageId, Session, audit};
 use row_pages::{Page, RowFault, UNREADABLE, bytes_of, quoted, readable};
 use std::alloc::Global;
 use wit_types::Package;

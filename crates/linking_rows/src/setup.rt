@@ -1,7 +1,7 @@
 //! Rows that hand a session its input; they are answered where they are refused.
 
 use crate::refusals::{write_fault, write_unresolved};
-use component_session::{Fault, PackageId, Session, StringEncoding, WorldId};
+use component_linker::{Fault, PackageId, Session, StringEncoding, WorldId};
 use row_pages::{Page, RowFault, UNREADABLE, bytes_of, readable, unescaped};
 use std::alloc::Global;
 
@@ -54,14 +54,18 @@ impl Texts {
         }
     }
 
-    /// The path of the next one, which is counted.
-    fn next_path(&mut self) -> &'static str {
-        let place = self.count;
-        self.count = place.saturating_add(1);
-        match PATHS.get(place) {
+    /// The path of the next one.
+    fn next_path(&self) -> &'static str {
+        match PATHS.get(self.count) {
             Some(path) => path,
             None => LATER,
         }
+    }
+
+    /// Counts one more, whose package is there unless it was refused.
+    fn add(&mut self, package: Option<PackageId>) {
+        self.count = self.count.saturating_add(1);
+        self.main = self.main.or(package);
     }
 }
 
@@ -99,15 +103,16 @@ pub fn setup_of<'t>(alloc: Global, word: &str, rest: &'t str) -> Result<Setup<'t
     }
 }
 
-/// Pushes a text, under the next path.
+/// Pushes a text, under the next path, and counts it unless memory was refused.
 fn push(session: &mut Session, texts: &mut Texts, text: &str, page: &mut Page) {
     match session.push_source(texts.next_path(), text) {
-        Ok(id) => {
-            if texts.main.is_none() {
-                texts.main = Some(id);
+        Ok(id) => texts.add(Some(id)),
+        Err(error) => {
+            write_unresolved(page, session, &error);
+            if !page.is_refused() {
+                texts.add(None);
             }
         }
-        Err(error) => write_unresolved(page, session, &error),
     }
 }
 

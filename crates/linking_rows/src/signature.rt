@@ -1,6 +1,6 @@
 //! Rows that ask for core types of functions.
 
-use component_session::Session;
+use component_linker::Session;
 use component_types::{WasmSignature, wasm_signature};
 use indexmap::IndexMap;
 use row_pages::Page;

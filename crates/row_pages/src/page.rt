@@ -42,6 +42,11 @@ impl Page {
         self.refused = true;
     }
 
+    /// Whether a request for memory was refused.
+    pub fn is_refused(&self) -> bool {
+        self.refused
+    }
+
     /// Words, wherever they stand in a line.
     pub fn words(&mut self, words: &str) {
         let written = self.out.push_str(words);

@@ -77,14 +77,6 @@ pub fn quoted(alloc: Global, word: &str) -> Result<String, RowFault> {
     unescaped(alloc, readable(inside_quotes(word))?)
 }
 
-/// The text that a word spells between quotation marks, or none for `-`.
-pub fn quoted_or_absent(alloc: Global, word: &str) -> Result<Option<String>, RowFault> {
-    if word == "-" {
-        return Ok(None);
-    }
-    Ok(Some(quoted(alloc, word)?))
-}
-
 /// The bytes that a row spells in hexadecimal.
 pub fn bytes_of(alloc: Global, digits: &str) -> Result<Vec<u8>, RowFault> {
     match hex::decode(alloc, digits) {

@@ -22,7 +22,7 @@ extends_self a = ([], sym (append-nil a))
 pub extends_through : (a b c : List TypeDef) → Extends a b → Extends b c → Extends a c
 extends_through a b c (m, e) (n, f) = (m ++ n, f ∙ ap (λ (x : List TypeDef). x ++ n) e ∙ append_assoc a m n)
 
-interned_extends : (a b : List TypeDef) (k : ShapeTree) (s : Span) (r : Ref) → Interns a k s b r → Extends a b
+pub interned_extends : (a b : List TypeDef) (k : ShapeTree) (s : Span) (r : Ref) → Interns a k s b r → Extends a b
 interned_extends a b k s r (there i d at unn same) = subst (Extends a) (sym same) (extends_self a)
 interned_extends a b k s r (fresh d unn stands last none) = (d ∷ [], last)
 
@@ -44,7 +44,7 @@ module _ (table : Entries) where
     shape_extends a b sh k (lowers_future a2 b2 e r low) = part_extends a2 b2 e r low
     shape_extends a b sh k (lowers_stream a2 b2 e r low) = part_extends a2 b2 e r low
 
-    part_extends : (a b : List TypeDef) (e : TypeOption) (r : Option Ref) → LowersPart table a e b r → Extends a b
+    pub part_extends : (a b : List TypeDef) (e : TypeOption) (r : Option Ref) → LowersPart table a e b r → Extends a b
     part_extends a b e r (lowers_nothing a2) = extends_self a2
     part_extends a b e r (lowers_a_type a2 b2 f q low) = lowered_extends a2 b2 f q low
 

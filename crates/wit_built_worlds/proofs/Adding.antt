@@ -16,10 +16,11 @@ use Rattle.wit_interfaces.specs.Passed.wit_package_types-Known.{KnownTypes}
 use Rattle.wit_interfaces.specs.Passed.wit_resolved_scopes-Scope.{ResolvesScope}
 use Rattle.wit_interfaces.specs.Passed.wit_resolved_scopes-InArena.{Context, IsScopeIn, GrowsFor, IsBuilt}
 use Rattle.wit_interfaces.specs.Passed.wit_resolved_scopes-Texts.{labelled_texts, own_members}
+use Rattle.wit_interfaces.proofs.Passed.wit_resolved_scopes-Listing.{extends_for}
 use Rattle.wit_interfaces.proofs.Passed.wit_resolved_scopes-Placing.{resolved_scopes_are_in, scope_grown}
 use Rattle.wit_interfaces.specs.Adding.{MembersBreak, MayBring}
 use Rattle.wit_interfaces.specs.Labelled.{TextsBreak, MayAddTexts, AddsTexts}
-use Rattle.wit_interfaces.proofs.Growing.{extends_for, grows_for_through}
+use Rattle.wit_interfaces.proofs.Growing.{grows_for_through}
 use Rattle.wit_worlds.specs.Paths.{PathsTree}
 use Rattle.wit_worlds.specs.Making.{MakesWorld}
 use Rattle.wit_worlds.proofs.Entries.{made_worlds_stand}
@@ -49,7 +50,7 @@ module _ (c : Context) (k : KnownTypes) (a : List TypeDef) (interfaces : List In
       made = made;
       behind = behind;
       is = made_worlds_stand c ps w d table fs ids (length worlds) made may.leads (scope_grown c b d adds.grows (extends_for c b d adds.grows) (in_world w.name.text) (belongs.World (length worlds)) (own_members w.members) table fs own_in.2) adds.ids_are makes;
-      listed = world_listed k a b d (types_of (own_members w.members)) (own_members w.members) table fs interfaces2 adds.listed worlds worlds2 r made behind ps w ids makes;
+      listed = world_listed c k a b d table fs interfaces interfaces2 adds.more adds.behind worlds worlds2 w may_bring_own r adds.grows adds.listed made behind ps ids makes;
     }
 
 -- ---- what it breaks

@@ -16,8 +16,9 @@ use Rattle.wit_interfaces.proofs.Passed.wit_arena-Lists.{get_more}
 use Rattle.wit_interfaces.specs.Passed.wit_resolved_scopes-InArena.{Context, IsTypeIn, GrowsFor}
 use Rattle.wit_interfaces.specs.Passed.wit_resolved_scopes-Texts.{side_members}
 use Rattle.wit_interfaces.proofs.Passed.wit_resolved_scopes-Eaches.{each_to}
-use Rattle.wit_interfaces.proofs.Passed.wit_resolved_scopes-Placing.{get_extended, type_grown, function_in_grown}
-use Rattle.wit_interfaces.proofs.Growing.{extends_for}
+use Rattle.wit_interfaces.proofs.Passed.wit_resolved_scopes-Again.{get_extended}
+use Rattle.wit_interfaces.proofs.Passed.wit_resolved_scopes-Listing.{extends_for}
+use Rattle.wit_interfaces.proofs.Passed.wit_resolved_scopes-Placing.{type_grown, function_in_grown}
 use Rattle.wit_worlds.specs.Worlds.{Entry, IsTypeEntry, IsFunctionEntry, IsExternEntry, IsEntryOf, AreLists, IsWorldIn, AreWorldsIn}
 
 module _ (c : Context) (a b : List TypeDef) (grows : GrowsFor c a b) where

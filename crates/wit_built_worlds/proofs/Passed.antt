@@ -4,6 +4,7 @@ pub use Rattle.wit_interfaces.proofs.Growing as wit_interfaces-Growing
 pub use Rattle.wit_interfaces.proofs.Labelling as wit_interfaces-Labelling
 pub use Rattle.wit_interfaces.proofs.Listing as wit_interfaces-Listing
 pub use Rattle.wit_interfaces.proofs.Passed.wit_resolved_scopes-Eaches as wit_resolved_scopes-Eaches
+pub use Rattle.wit_interfaces.proofs.Passed.wit_resolved_scopes-Listing as wit_resolved_scopes-Listing
 pub use Rattle.wit_interfaces.proofs.Passed.wit_resolved_scopes-Orders as wit_resolved_scopes-Orders
 pub use Rattle.wit_interfaces.proofs.Passed.wit_resolved_scopes-Readying as wit_resolved_scopes-Readying
 pub use Rattle.wit_interfaces.proofs.Viewing as wit_interfaces-Viewing

@@ -24,7 +24,7 @@ use Rattle.wit_interfaces.specs.Interfaces.{AreInterfacesIn}
 use Rattle.wit_interfaces.proofs.Behind.{get_middle, given_around}
 use Rattle.wit_interfaces.proofs.Growing.{grows_for_self, grows_for_through, interfaces_grown, no_interfaces}
 use Rattle.wit_interfaces.proofs.Labelling.{interfaces_behind}
-use Rattle.wit_interfaces.specs.Listed.{IsListed}
+use Rattle.wit_interfaces.specs.Listed.{IsListed, NewTypesAreListed}
 use Rattle.wit_interfaces.proofs.Listing.{listed_through}
 use Rattle.wit_worlds.specs.Paths.{LeadRight}
 use Rattle.wit_worlds.specs.Worlds.{IsWorldIn, AreWorldsIn}
@@ -53,7 +53,7 @@ module _ (k0 : KnownTypes) (a0 : List TypeDef) (old : List Interface) (items : I
       more = [];
       behind = sym (append-nil first);
       are_in = no_worlds c a0 (length first);
-      listed = none_new (IsListed old first) a0;
+      listed = none_new (IsListed c (record { interfaces = []; worlds = [] }) a0 old first) a0;
     };
     kept = λ c may j x less at. absurd (omega (arith, less));
   }
@@ -129,7 +129,11 @@ module _ (k0 : KnownTypes) (a0 : List TypeDef) (old : List Interface) (items : I
               are_in =
                   subst (λ (vs : List WorldScope). AreWorldsIn c b (length first) vs (x.more ++ y.made ∷ [])) (sym (taken ws n w there))
                   (worlds_more c b (length first) (take n ws) x.more w y.made (worlds_grown c a b y.grows (length first) (take n ws) x.more x.are_in) (subst (λ (m : ℕ). IsWorldIn c b w m y.made) place y.is));
-              listed = listed_through interfaces interfaces2 y.labelled y.interfaces_behind worlds worlds2 (y.made ∷ []) y.behind a0 a b x.listed y.listed;
+              listed =
+                  subst (λ (vs : List WorldScope). NewTypesAreListed c (record { interfaces = flat_map labelled_texts vs; worlds = vs }) interfaces2 worlds2 a0 b) (sym (taken ws n w there))
+                  (subst (λ (ts : List InterfaceText). NewTypesAreListed c (record { interfaces = ts; worlds = take n ws ++ w ∷ [] }) interfaces2 worlds2 a0 b) (sym (flat_map-push labelled_texts (take n ws) w))
+                  (listed_through c interfaces interfaces2 y.labelled y.interfaces_behind worlds worlds2 (y.made ∷ []) y.behind (record { interfaces = flat_map labelled_texts (take n ws); worlds = take n ws }) (record { interfaces = labelled_texts w; worlds = w ∷ [] }) a0 a b
+                  y.grows x.listed y.listed));
             }
 
         pub next_so_far : SoFar (n + 1) k2 b interfaces2 names2 worlds2

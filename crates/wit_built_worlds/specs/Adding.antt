@@ -83,7 +83,7 @@ pub record AddsWorld (c : Context) (k : KnownTypes) (a : List TypeDef) (interfac
   pub made : World
   pub behind : worlds2 ≡ worlds ++ made ∷ []
   pub is : IsWorldIn c b w (length worlds) made
-  pub listed : NewTypesAreListed interfaces2 worlds2 a b
+  pub listed : NewTypesAreListed c (record { interfaces = labelled_texts w; worlds = w ∷ [] }) interfaces2 worlds2 a b
 
 -- ---- many
 
@@ -121,4 +121,4 @@ pub record AddsWorlds (c : Context) (k : KnownTypes) (a : List TypeDef) (interfa
   pub more : List World
   pub behind : worlds2 ≡ worlds ++ more
   pub are_in : AreWorldsIn c b (length worlds) ws more
-  pub listed : NewTypesAreListed interfaces2 worlds2 a b
+  pub listed : NewTypesAreListed c (record { interfaces = flat_map labelled_texts ws; worlds = ws }) interfaces2 worlds2 a b

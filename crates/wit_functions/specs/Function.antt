@@ -3,7 +3,7 @@ use Rattle.std.specs.Prelude.{◌≡◌, List, string_bytes}
 use Rattle.wit_types.specs.declared.function.Function.{Function}
 use Rattle.wit_types.specs.declared.interface.TypeDef.{TypeDef}
 use Rattle.wit_package_types.specs.Passed.wit_scopes-Members.{MemberTree}
-use Rattle.wit_package_types.specs.Passed.wit_rules-Labels.{full_name}
+use Rattle.wit_package_types.specs.Passed.wit_rules-Labels.{full_name, name_place}
 use Rattle.wit_package_types.specs.Passed.wit_arena-Table.{Entries}
 use Rattle.wit_package_types.specs.Passed.wit_arena-Docs.{said, contents_of}
 use Rattle.wit_package_types.specs.Stability.{IsStabilityOf}
@@ -16,4 +16,4 @@ pub record LowersFunction (table : Entries) (a : List TypeDef) (m : MemberTree) 
   pub signature : LowersSignature table a (all_params m) (all_result m) b (record { params = f.params; result = f.result })
   pub docs : contents_of f.docs ≡ said m.docs
   pub stability : IsStabilityOf m.attributes f.stability
-  pub span : f.span ≡ m.name.span
+  pub span : f.span ≡ name_place m.kind m.name m.span

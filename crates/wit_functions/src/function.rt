@@ -3,7 +3,7 @@
 ghost use Rattle.std.specs.Prelude.{◌≡◌, [], ◌∷◌, string_bytes, IfOk};
 ghost use Rattle.wit_package_types.specs.Passed.wit_syntax-AstView as view;
 ghost use Rattle.wit_package_types.specs.Passed.wit_scopes-View as scope_view;
-ghost use Rattle.wit_package_types.specs.Passed.wit_rules-Labels.{full_name};
+ghost use Rattle.wit_package_types.specs.Passed.wit_rules-Labels.{full_name, name_place};
 ghost use Rattle.wit_package_types.specs.Passed.wit_arena-Meaning.{Has};
 ghost use Rattle.wit_package_types.specs.Passed.wit_arena-Lower.{AreThere};
 ghost use Rattle.wit_package_types.specs.Stability.{AreGates};
@@ -12,7 +12,7 @@ ghost use Rattle.wit_functions.specs.Signature.{IsFunction, function_names, IsKi
 
 use crate::signature::{Signature, lower_signature};
 use std::alloc::{AllocError, Global};
-use wit_package_types::{Id, Member, MemberKind, Table, Types, docs_of, stability_in};
+use wit_package_types::{Id, Member, MemberKind, Span, Table, Types, docs_of, stability_in};
 use wit_types::{Function, FunctionKind, TypeId};
 
 /// The name by which a function is known in its scope.
@@ -34,6 +34,16 @@ fn function_name(alloc: Global, member: &Member<'_>) -> Result<String, AllocErro
             format!(in alloc; "[constructor]{resource}")
         }
         _ => String::from_str(alloc, name),
+    }
+}
+
+/// Where that name stands: a constructor's is not written, but stands for the whole of it.
+fn function_place(member: &Member<'_>) -> Span
+    ensures { result ≡ name_place (scope_view.member_kind member.now.kind) (view.id member.now.name) member.now.span }
+{
+    match &member.kind {
+        MemberKind::Constructor { .. } => member.span,
+        _ => member.name.span,
     }
 }
 
@@ -110,6 +120,6 @@ pub fn lower_function(
         result,
         docs,
         stability,
-        span: member.name.span,
+        span: function_place(member),
     })
 }

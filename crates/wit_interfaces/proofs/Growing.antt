@@ -8,21 +8,18 @@ use Rattle.wit_types.specs.declared.interface.TypeOwner.{TypeOwner}
 use Rattle.wit_types.specs.declared.interface.TypeOwner.TheVariants as belongs
 use Rattle.wit_types.specs.declared.function.Function.{Function}
 use Rattle.wit_scopes.specs.Members.{MemberTree}
-use Rattle.wit_arena.specs.Tree.{Name, Place, Owner, Tree, resource_leaf}
+use Rattle.wit_arena.specs.Tree.{Name, Place, Owner, Tree}
 use Rattle.wit_arena.specs.Table.{Entries}
 use Rattle.wit_arena.specs.Standing.{Stands, AreStanding}
 use Rattle.wit_arena.proofs.Lists.{get_more}
-use Rattle.wit_arena.proofs.Extending.{Extends}
 use Rattle.wit_arena.proofs.Growing.{grows_self, grows_through}
 use Rattle.wit_resolved_scopes.specs.InArena.{Context, IsTypeIn, IsScopeIn, GrowsFor, IsBuilt}
 use Rattle.wit_resolved_scopes.specs.Passed.wit_package_types-Known.{KnownTypes}
 use Rattle.wit_resolved_scopes.specs.Texts.{InterfaceText}
 use Rattle.wit_resolved_scopes.proofs.Eaches.{each_right}
+use Rattle.wit_resolved_scopes.proofs.Listing.{extends_for}
 use Rattle.wit_resolved_scopes.proofs.Placing.{scope_grown}
 use Rattle.wit_interfaces.specs.Interfaces.{IsInterfaceIn, AreInterfacesIn}
-
-pub extends_for : (c : Context) (a b : List TypeDef) → GrowsFor c a b → Extends a b
-extends_for c a b g = let h = g resource_leaf in (h.more, h.grown)
 
 pub grows_for_self : (c : Context) (k : KnownTypes) (a : List TypeDef) → IsBuilt c k a → GrowsFor c a a
 grows_for_self c k a built = λ given. grows_self c.owners given a (built.whole given)

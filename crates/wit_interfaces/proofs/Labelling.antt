@@ -67,7 +67,7 @@ interfaces_behind c a first ts us ds es are also = record {
 
 module _ (c : Context) (k : KnownTypes) where
   pub adds_none : (a : List TypeDef) (old : List Interface) → IsBuilt c k a → AddsTexts c k a old [] a old []
-  adds_none a old built = record { grows = grows_for_self c k a built; built = built; more = []; behind = sym (append-nil old); are_in = no_interfaces c a (length old); listed = none_new (IsListed old []) a; ids_are = tt }
+  adds_none a old built = record { grows = grows_for_self c k a built; built = built; more = []; behind = sym (append-nil old); are_in = no_interfaces c a (length old); listed = none_new (IsListed c (record { interfaces = []; worlds = [] }) a old []) a; ids_are = tt }
 
   pub adds_behind : (a b d : List TypeDef) (old new new2 : List Interface) (ts us : List InterfaceText) (ids more : List ℕ) → AddsTexts c k a old ts b new ids → AddsTexts c k b new us d new2 more → AddsTexts c k a old (ts ++ us) d new2 (ids ++ more)
   adds_behind a b d old new new2 ts us ids more x y =
@@ -78,7 +78,7 @@ module _ (c : Context) (k : KnownTypes) where
         more = x.more ++ y.more;
         behind = y.behind ∙ ap (λ (ds : List Interface). ds ++ y.more) x.behind ∙ append_assoc old x.more y.more;
         are_in = interfaces_behind c d (length old) ts us x.more y.more (interfaces_grown c b d y.grows (length old) ts x.more x.are_in) (subst (λ (m : ℕ). AreInterfacesIn c d m us y.more) at y.are_in);
-        listed = listed_through new new2 y.more y.behind [] [] [] refl a b d x.listed y.listed;
+        listed = listed_through c new new2 y.more y.behind [] [] [] refl (record { interfaces = ts; worlds = [] }) (record { interfaces = us; worlds = [] }) a b d y.grows x.listed y.listed;
         ids_are = each_behind (IsIdOf c) ts us ids more x.ids_are y.ids_are;
       }
 
@@ -108,7 +108,7 @@ module _ (c : Context) (k : KnownTypes) where
           are_in =
               interfaces_more c b (length old) [] [] t made (no_interfaces c b (length old))
               (subst (λ (m : ℕ). IsInterfaceIn c b t m made) (sym first) (record { table = table; functions = makes.functions; is = makes.is; scope = law.2 }));
-          listed = interface_listed k a b t old (old ++ made ∷ []) [] table made makes refl;
+          listed = interface_listed c k a b t old (old ++ made ∷ []) table made may_bring_one makes refl;
           ids_are = (own_place, tt);
         }
 

@@ -1,6 +1,7 @@
 -- What crates above name of those below.
 pub use Rattle.wit_arena.proofs.Extending as wit_arena-Extending
 pub use Rattle.wit_arena.proofs.Lists as wit_arena-Lists
+pub use Rattle.wit_resolved_scopes.proofs.Again as wit_resolved_scopes-Again
 pub use Rattle.wit_resolved_scopes.proofs.Declaring as wit_resolved_scopes-Declaring
 pub use Rattle.wit_resolved_scopes.proofs.Eaches as wit_resolved_scopes-Eaches
 pub use Rattle.wit_resolved_scopes.proofs.Fitting as wit_resolved_scopes-Fitting

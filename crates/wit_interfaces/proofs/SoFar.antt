@@ -27,7 +27,7 @@ use Rattle.wit_resolved_scopes.proofs.Placing.{resolved_scopes_are_in, built_mor
 use Rattle.wit_resolved_scopes.specs.Texts.{InterfaceText}
 use Rattle.wit_interfaces.specs.Interfaces.{IsInterfaceIn, AreInterfacesIn}
 use Rattle.wit_interfaces.specs.Adding.{MembersBreak, MayBring, IsReadyIn, AddsInterface, MayAdd, AddsInterfaces}
-use Rattle.wit_interfaces.specs.Listed.{IsListed}
+use Rattle.wit_interfaces.specs.Listed.{one_interface, IsListed, NewTypesAreListed}
 use Rattle.wit_interfaces.proofs.Listing.{listed_through, interface_listed}
 use Rattle.wit_interfaces.proofs.Growing.{grows_for_self, grows_for_through, standing_in, interfaces_grown, no_interfaces, interfaces_more}
 use Rattle.wit_interfaces.proofs.Knowing.{knows_more}
@@ -47,7 +47,7 @@ module _ (k0 : KnownTypes) (a0 : List TypeDef) (old : List Interface) (is : List
     knows = record { names = names; types = λ i has. absurd (has_none i has) };
     foreign = refl;
     count = omega arith;
-    adds = λ c may. record { grows = grows_for_self c k0 a0 may.built; built = may.built; more = []; behind = sym (append-nil old); are_in = no_interfaces c a0 (length old); listed = none_new (IsListed old []) a0 };
+    adds = λ c may. record { grows = grows_for_self c k0 a0 may.built; built = may.built; more = []; behind = sym (append-nil old); are_in = no_interfaces c a0 (length old); listed = none_new (IsListed c (record { interfaces = []; worlds = [] }) a0 old []) a0 };
     kept = λ c may j x less at. absurd (omega (arith, less));
   }
 
@@ -84,16 +84,20 @@ module _ (k0 : KnownTypes) (a0 : List TypeDef) (old : List Interface) (is : List
           let law = resolved_scopes_are_in c t.place (belongs.Interface (length new)) k a b t.members one.table one.makes.functions bring.of_scope bring.built one.makes.resolves in
           let stands = standing_in c t.place (belongs.Interface (length new)) b t.members one.table one.makes.functions law.2 in
           let at : length new ≡ length old + length adds.more = ap length adds.behind ∙ length-append old adds.more in
+          let texts_are : map interface_text (take (n + 1) is) ≡ map interface_text (take n is) ++ t ∷ [] = ap (map interface_text) (taken is n i there) ∙ map_push interface_text (take n is) i in
           record {
             grows = grows_for_through c a0 a b adds.grows law.0;
             built = subst (λ (z : KnownTypes). IsBuilt c z b) (sym one.known) (built_more c k b i.name.text one.table law.1 stands);
             more = adds.more ++ one.made ∷ [];
             behind = one.behind ∙ ap (λ (ds : List Interface). ds ++ one.made ∷ []) adds.behind ∙ append_assoc old adds.more (one.made ∷ []);
             are_in =
-                subst (λ (ts : List InterfaceText). AreInterfacesIn c b (length old) ts (adds.more ++ one.made ∷ [])) (sym (ap (map interface_text) (taken is n i there) ∙ map_push interface_text (take n is) i))
+                subst (λ (ts : List InterfaceText). AreInterfacesIn c b (length old) ts (adds.more ++ one.made ∷ [])) (sym texts_are)
                 (interfaces_more c b (length old) (map interface_text (take n is)) adds.more t one.made (interfaces_grown c a b law.0 (length old) (map interface_text (take n is)) adds.more adds.are_in)
                 (subst (λ (m : ℕ). IsInterfaceIn c b t m one.made) at (record { table = one.table; functions = one.makes.functions; is = one.makes.is; scope = law.2 })));
-            listed = listed_through new new2 (one.made ∷ []) one.behind [] [] [] refl a0 a b adds.listed (interface_listed k a b t new new2 [] one.table one.made one.makes one.behind);
+            listed =
+                subst (λ (ts : List InterfaceText). NewTypesAreListed c (record { interfaces = ts; worlds = [] }) new2 [] a0 b) (sym texts_are)
+                (listed_through c new new2 (one.made ∷ []) one.behind [] [] [] refl (record { interfaces = map interface_text (take n is); worlds = [] }) (one_interface t) a0 a b law.0 adds.listed
+                (interface_listed c k a b t new new2 one.table one.made bring one.makes one.behind));
           }
 
       pub next_so_far : ((c : Context) → MayBring c (in_interface i.name.text) (belongs.Interface (length new)) k a i.members → IsKept (MembersBreak c (in_interface i.name.text) i.members)) → SoFar (n + 1) k2 b new2

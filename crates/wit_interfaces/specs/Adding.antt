@@ -76,4 +76,4 @@ pub record AddsInterfaces (c : Context) (a : List TypeDef) (old : List Interface
   pub more : List Interface
   pub behind : new ≡ old ++ more
   pub are_in : AreInterfacesIn c b (length old) (map interface_text is) more
-  pub listed : NewTypesAreListed new [] a b
+  pub listed : NewTypesAreListed c (record { interfaces = map interface_text is; worlds = [] }) new [] a b

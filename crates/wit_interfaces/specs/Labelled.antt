@@ -30,7 +30,7 @@ pub record AddsTexts (c : Context) (k : KnownTypes) (a : List TypeDef) (old : Li
   pub more : List Interface
   pub behind : new ≡ old ++ more
   pub are_in : AreInterfacesIn c b (length old) ts more
-  pub listed : NewTypesAreListed new [] a b
+  pub listed : NewTypesAreListed c (record { interfaces = ts; worlds = [] }) new [] a b
   pub ids_are : Each (IsIdOf c) ts ids
 
 -- the same behind ids that are there

@@ -35,7 +35,7 @@ use Rattle.wit_well_formed.specs.Passed.wit_worlds-Worlds.{Entry, IsWorldIn}
 use Rattle.wit_named_graphs.specs.Passed.wit_item_names-Used.{IsOwnNamed}
 use Rattle.wit_well_formed.specs.Passed.wit_graph_parts-Own.{asked, own_parts}
 use Rattle.wit_well_formed.specs.Passed.wit_package-TopUses.{files_need}
-use Rattle.wit_well_formed.specs.Passed.wit_package-Resolved.{foreign_owners, owner_in, owners_of, context_of, IsResolved}
+use Rattle.wit_well_formed.specs.Passed.wit_package-Resolved.{foreign_owners, owner_in, owners_of, context_of, own_texts, IsResolved}
 use Rattle.wit_well_formed.specs.Passed.wit_package-Steps.{Resolves}
 use Rattle.wit_well_formed.proofs.Passed.wit_package-Owning.{interface_owners_length, world_owners_length}
 use Rattle.wit_reach.proofs.Holding.{got}
@@ -212,8 +212,8 @@ module _ (files : List FileTree) (p : UnresolvedPackage) (r : Resolves files p) 
     of_interface : (j : ℕ) (f : Interface) (o : IsOwnInterface j f) → d.owner ≡ belongs.Interface j → (x : Name) → Has o.is.table (x, i) → IsOwnType i d
     of_world : (v : ℕ) (f : World) (o : IsOwnWorld v f) → d.owner ≡ belongs.World v → (x : Name) → Has o.is.table (x, i) → IsOwnType i d
 
-  own_listed : (i : ℕ) (d : TypeDef) (o : TypeOwner) → d.owner ≡ o → IsListedAt p.interfaces p.worlds i d o → IsOwnType i d
-  own_listed i d belongs.None e is = a_form is.0 is.1
+  own_listed : (i : ℕ) (d : TypeDef) (o : TypeOwner) → d.owner ≡ o → IsListedAt c (own_texts s.sorted) p.types p.interfaces p.worlds i d o → IsOwnType i d
+  own_listed i d belongs.None e (o, ms, scope, form) = a_form form.shape form.unnamed
   own_listed i d (belongs.Interface j) e (f, at, has) = elim (interface_at j f at) as (λ _. IsOwnType i d) [
     | inl none ↦ absurd (has_none (has.0, i) (subst (λ (es : List (String Global × ℕ)). Has es (has.0, i)) none has.1))
     | inr o ↦ (let h = interface_type c p.types o.text (first + o.place) f o.is i has in of_interface j f o e h.0 h.1)
@@ -243,7 +243,7 @@ module _ (files : List FileTree) (p : UnresolvedPackage) (r : Resolves files p) 
   pub listed_type : (i : ℕ) (d : TypeDef) (v : ℕ) → slice_get p.types i ≡ Some d → d.owner ≡ belongs.World v → (f : World) × (slice_get p.worlds v ≡ Some f) × ImportsType f i
   listed_type i d v at of = elim (s.listed i d at) as (λ _. (f : World) × (slice_get p.worlds v ≡ Some f) × ImportsType f i) [
     | inl other ↦ absurd (let u = unknown_used i d other in let no : belongs.World v ≡ belongs.Interface u.1.interface = sym of ∙ u.1.of in cc)
-    | inr is ↦ subst (IsListedAt p.interfaces p.worlds i d) of is
+    | inr is ↦ subst (IsListedAt c (own_texts s.sorted) p.types p.interfaces p.worlds i d) of is
   ]
 
   whole_given : IsWhole owners (given me) p.types

@@ -86,7 +86,9 @@ module _ (c : Context) (k : KnownTypes) (a : List TypeDef) (interfaces : List In
           more_worlds = more.more;
           worlds_behind = more.behind;
           worlds_are_in = more.are_in;
-          listed = listed_through interfaces2 interfaces3 more.labelled more.interfaces_behind [] worlds2 worlds2 refl a b d adds.listed more.listed;
+          listed =
+              listed_through c interfaces2 interfaces3 more.labelled more.interfaces_behind [] worlds2 worlds2 refl (record { interfaces = map interface_text is; worlds = [] }) (record { interfaces = flat_map labelled_texts ws; worlds = ws }) a b d
+              more.grows adds.listed more.listed;
         }
 
 -- worlds are ready where these interfaces are known

@@ -27,12 +27,12 @@ use Rattle.wit_built_worlds.specs.Passed.wit_resolved_scopes-Texts.{InterfaceTex
 use Rattle.wit_built_worlds.specs.Passed.wit_interfaces-Interfaces.{AreInterfacesIn}
 use Rattle.wit_built_worlds.specs.Passed.wit_interfaces-Listed.{NewTypesAreListed}
 use Rattle.wit_built_worlds.proofs.Passed.wit_interfaces-Behind.{get_right}
-use Rattle.wit_built_worlds.proofs.Passed.wit_interfaces-Growing.{extends_for}
+use Rattle.wit_built_worlds.proofs.Passed.wit_resolved_scopes-Listing.{extends_for}
 use Rattle.wit_built_worlds.specs.Worlds.{AreWorldsIn}
 use Rattle.wit_built_worlds.proofs.Passed.wit_readiness-Parts.{declared_kept}
 use Rattle.wit_package.specs.Start.{IsStart}
 use Rattle.wit_package.specs.Built.{MayBuild, Builds}
-use Rattle.wit_package.specs.Resolved.{foreign_owners, owner_in, owners_of, context_of, IsMade, IsResolved}
+use Rattle.wit_package.specs.Resolved.{foreign_owners, owner_in, owners_of, context_of, own_texts, IsMade, IsResolved}
 use Rattle.wit_package.proofs.Owning.{interface_owners_length, world_owners_length, interface_owned, world_owned}
 use Rattle.wit_package.proofs.Scoping.{interface_there, world_there}
 
@@ -96,6 +96,8 @@ module _ (files : List FileTree) (me : PackageNameTree) (declared : IsDeclared f
         → (p : UnresolvedPackage) → IsMade me (package_docs files) items (files_need me files) b interfaces2 worlds2 spans p → IsResolved files p
     is_resolved b interfaces2 worlds2 builds p made =
         let more = extends_for (context_of me files items sorted) a b builds.grows in
+        let AreListed : List Interface → List World → List TypeDef → Type 0 =
+        λ js vs ds. NewTypesAreListed (context_of me files items sorted) (own_texts sorted) js vs a ds in
         record {
           me = me;
           named = declared.named;
@@ -122,8 +124,8 @@ module _ (files : List FileTree) (me : PackageNameTree) (declared : IsDeclared f
           worlds_are = made.worlds_are ∙ builds.worlds_behind;
           own_worlds_are = subst (λ (ds : List TypeDef). AreWorldsIn (context_of me files items sorted) ds (length worlds) (worlds_of sorted) builds.more_worlds) (sym made.types) builds.worlds_are_in;
           listed =
-              subst (λ (ds : List TypeDef). NewTypesAreListed p.interfaces p.worlds a ds) (sym made.types)
-              (subst (λ (vs : List World). NewTypesAreListed p.interfaces vs a b) (sym made.worlds_are) (subst (λ (js : List Interface). NewTypesAreListed js worlds2 a b) (sym made.interfaces_are) builds.listed));
+              subst (λ (ds : List TypeDef). AreListed p.interfaces p.worlds ds) (sym made.types)
+              (subst (λ (vs : List World). AreListed p.interfaces vs b) (sym made.worlds_are) (subst (λ (js : List Interface). AreListed js worlds2 b) (sym made.interfaces_are) builds.listed));
           foreign_are = start.placeholders;
           deps_are = made.deps_are;
         }

@@ -52,7 +52,7 @@ pub record Builds (c : Context) (a : List TypeDef) (interfaces : List Interface)
   pub more_worlds : List World
   pub worlds_behind : worlds2 ≡ worlds ++ more_worlds
   pub worlds_are_in : AreWorldsIn c b (length worlds) ws more_worlds
-  pub listed : NewTypesAreListed interfaces2 worlds2 a b
+  pub listed : NewTypesAreListed c (record { interfaces = texts_of is ws; worlds = ws }) interfaces2 worlds2 a b
 
 -- one of the interfaces breaks a rule, or one of the worlds
 pub data ItemsBreak (c : Context) (is : List InterfaceScope) (ws : List WorldScope) (rule : PackageRule) (at : Span) : Type 0 where

@@ -25,7 +25,7 @@ use Rattle.wit_package.specs.TopUses.{files_need}
 use Rattle.wit_built_worlds.specs.Passed.wit_resolved_scopes-InArena.{Context}
 use Rattle.wit_built_worlds.specs.Passed.wit_resolved_scopes-Texts.{AreItemsSorted, worlds_of, interface_texts}
 use Rattle.wit_built_worlds.specs.Passed.wit_interfaces-Interfaces.{AreInterfacesIn}
-use Rattle.wit_built_worlds.specs.Passed.wit_interfaces-Listed.{NewTypesAreListed}
+use Rattle.wit_built_worlds.specs.Passed.wit_interfaces-Listed.{ScopeTexts, NewTypesAreListed}
 use Rattle.wit_built_worlds.specs.Worlds.{AreWorldsIn}
 use Rattle.wit_placeholders.specs.Placeholders.{ArePlaceholders}
 
@@ -55,6 +55,10 @@ owners_of me items sorted = record {
 
 abbrev pub context_of : PackageNameTree → List FileTree → Items → List ItemScope → Context
 context_of me files items sorted = record { me = package_text me; scopes = package_scopes me files; owners = owners_of (package_text me) items sorted }
+
+-- all scopes of a package
+abbrev pub own_texts : List ItemScope → ScopeTexts
+own_texts sorted = record { interfaces = interface_texts sorted; worlds = worlds_of sorted }
 
 -- ---- the package
 
@@ -98,8 +102,8 @@ pub record IsResolved (files : List FileTree) (p : UnresolvedPackage) : Type 0 w
   pub own_worlds : List World
   pub worlds_are : p.worlds ≡ foreign_worlds ++ own_worlds
   pub own_worlds_are : AreWorldsIn (context_of me files items sorted) p.types (length foreign_worlds) (worlds_of sorted) own_worlds
-  -- each of its own types is a form without a name that belongs nowhere, or belongs to one of these, in which it stands
-  pub listed : NewTypesAreListed p.interfaces p.worlds unknown p.types
+  -- each of its own types belongs to one of these, in which it stands, or nowhere: then it is a form without a name, and is said to stand where it is written
+  pub listed : NewTypesAreListed (context_of me files items sorted) (own_texts sorted) p.interfaces p.worlds unknown p.types
   -- of interfaces and worlds of other packages nothing is known but their names and where they are first asked for
   pub foreign_are : ArePlaceholders (files_need me files) items foreign_interfaces foreign_worlds
   pub deps_are : AreDeps items (files_need me files) (package_entries p.foreign_deps.entries) p.foreign_dep_spans.items

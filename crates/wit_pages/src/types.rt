@@ -1,6 +1,6 @@
 //! Types.
 
-use crate::names::named_type;
+use crate::names::{named_type, place};
 use crate::page::Page;
 use crate::view::{View, under};
 use std::alloc::{AllocError, Global};
@@ -191,7 +191,7 @@ pub fn defined_as(page: &mut Page, view: &View<'_>, kind: &TypeDefKind) {
     }
 }
 
-/// The types that have no name, in their order.
+/// The types that have no name, in their order, each with where it stands, if places are written.
 pub fn unnamed_types(page: &mut Page, view: &View<'_>) {
     let mut is_first = true;
     for of in view.types.iter() {
@@ -202,6 +202,7 @@ pub fn unnamed_types(page: &mut Page, view: &View<'_>) {
                 page.words("; ");
             }
             spelled(page, view, &of.kind, DEEPEST);
+            place(page, view, of.span);
             is_first = false;
         }
     }

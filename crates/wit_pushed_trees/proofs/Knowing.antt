@@ -46,7 +46,7 @@ use Rattle.wit_moves.specs.Plan.{OwnerPlaces, AreMovedDefs}
 use Rattle.wit_plans.specs.declared.moves.MovedWorld.{MovedWorld}
 use Rattle.wit_well_formed.proofs.Passed.wit_resolved_scopes-Eaches.{each_right}
 use Rattle.wit_well_formed.specs.Passed.wit_resolved_scopes-InArena.{Context, IsTypeIn}
-use Rattle.wit_well_formed.specs.Passed.wit_package-Resolved.{IsResolved, context_of}
+use Rattle.wit_well_formed.specs.Passed.wit_package-Resolved.{IsResolved, context_of, own_texts}
 use Rattle.wit_well_formed.specs.Passed.wit_package-Steps.{Resolves}
 use Rattle.wit_well_formed.specs.Passed.wit_foreign-Items.{interfaces_in, worlds_in}
 use Rattle.wit_well_formed.specs.Passed.wit_interfaces-Interfaces.{IsInterfaceIn}
@@ -149,8 +149,8 @@ module _ (files : List FileTree) (p : UnresolvedPackage) (r : Resolves files p) 
         inr (record { place = o.0; text = t.0; is = s.own_worlds_are.each o.0 t.0 d t.1 o.2 })
   ]
 
-  listed_known : (i : ℕ) (d : TypeDef) (o : TypeOwner) → slice_get p.types i ≡ Some d → IsListedAt p.interfaces p.worlds i d o → d.kind ≡ kind.Unknown → ⊥
-  listed_known i d belongs.None at is unknown = (let no : None ≡ Some is.0 = sym (ap kind_shape unknown) ∙ is.1.kind in cc)
+  listed_known : (i : ℕ) (d : TypeDef) (o : TypeOwner) → slice_get p.types i ≡ Some d → IsListedAt c (own_texts s.sorted) p.types p.interfaces p.worlds i d o → d.kind ≡ kind.Unknown → ⊥
+  listed_known i d belongs.None at (o, ms, scope, is) unknown = (let no : None ≡ Some is.shape = sym (ap kind_shape unknown) ∙ is.unnamed.kind in cc)
   listed_known i d (belongs.Interface j) at (f, there, has) unknown = elim (interface_at j f there) as (λ _. ⊥) [
     | inl none ↦ has_none (has.0, i) (subst (λ (es : List (String Global × ℕ)). Has es (has.0, i)) none has.1)
     | inr o ↦

@@ -8,6 +8,7 @@ pub mod Readying
 pub mod Scoping
 pub mod Meant
 pub mod Declaring
+pub mod Again
 pub mod Placing
 pub mod Fitting
 pub mod Listing

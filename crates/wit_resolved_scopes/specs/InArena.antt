@@ -5,7 +5,7 @@ use Rattle.wit_types.specs.declared.interface.TypeDef.{TypeDef}
 use Rattle.wit_types.specs.declared.interface.TypeOwner.{TypeOwner}
 use Rattle.wit_lookups.specs.Passed.wit_scopes-Members.{MemberKind, MemberTree, defined}
 use Rattle.wit_lookups.specs.Passed.wit_scopes-Scopes.{ItemScope}
-use Rattle.wit_lookups.specs.Passed.wit_rules-Labels.{full_name}
+use Rattle.wit_lookups.specs.Passed.wit_rules-Labels.{full_name, name_place}
 use Rattle.wit_orders.specs.Needs.{types_of, AreSorted}
 use Rattle.wit_resources.specs.Passed.wit_arena-Tree.{Name, PackageText, Place, Owner, Tree}
 use Rattle.wit_resources.specs.Passed.wit_arena-Table.{Entries}
@@ -13,7 +13,8 @@ use Rattle.wit_resources.specs.Passed.wit_arena-Docs.{said, contents_of}
 use Rattle.wit_resources.specs.Passed.wit_arena-LowerKind.{Label, written_labels, labels_of}
 use Rattle.wit_resources.specs.Passed.wit_arena-LowerParams.{written_param, param_label}
 use Rattle.wit_resources.specs.Passed.wit_arena-Unfold.{Owners, IsWhole}
-use Rattle.wit_resources.specs.Passed.wit_arena-Standing.{Stands, Grows, AreFunctional}
+use Rattle.wit_resources.specs.Passed.wit_arena-Standing.{Stands, AreStanding, Grows, AreFunctional}
+use Rattle.wit_resources.specs.Passed.wit_arena-Lower.{LowersParts}
 use Rattle.wit_functions.specs.Passed.wit_package_types-Stability.{IsStabilityOf}
 use Rattle.wit_functions.specs.Passed.wit_package_types-Known.{KnownTypes}
 use Rattle.wit_functions.specs.Passed.wit_package_types-Fill.{IsTypeOf}
@@ -22,7 +23,8 @@ use Rattle.wit_functions.specs.Signature.{all_params, IsKindOf}
 use Rattle.wit_resolved_scopes.specs.Each.{Each}
 use Rattle.wit_resolved_scopes.specs.Texts.{InterfaceText}
 use Rattle.wit_resolved_scopes.specs.Scope.{functions_among, ResolvesScope}
-use Rattle.wit_resolved_scopes.specs.Meaning.{StandsForFunction}
+use Rattle.wit_resolved_scopes.specs.Meaning.{written_parts, function_refs, StandsForFunction}
+use Rattle.wit_resolved_scopes.specs.Brought.{IsBroughtAs}
 
 -- a package: its name, its scopes, and whose its interfaces and worlds are, by their ids
 pub record Context : Type 0 where
@@ -52,6 +54,10 @@ pub record IsTypeIn (c : Context) (o : Place) (whose : TypeOwner) (a : List Type
   pub there : slice_get a e.1 ≡ Some def
   pub is : IsTypeOf whose m def.kind def
   pub labels : labels_of def.kind ≡ labels_written m.kind
+  -- by what names stand for in the scope
+  pub names : Entries
+  pub known : (given : Owner → Name → Tree) → AreStanding c.me c.scopes given c.owners o names a
+  pub brought : IsBroughtAs names a m.kind def.kind
   pub means : (given : Owner → Name → Tree) → Stands c.me c.scopes given c.owners a o m.name.text e.1
 
 -- a function of a scope with these types, of which the same is said as in the text
@@ -61,11 +67,12 @@ pub record IsFunctionOf (table : Entries) (m : MemberTree) (f : Function) : Type
   pub labels : map param_label f.params.items ≡ map written_param (all_params m)
   pub docs : contents_of f.docs ≡ said m.docs
   pub stability : IsStabilityOf m.attributes f.stability
-  pub span : f.span ≡ m.name.span
+  pub span : f.span ≡ name_place m.kind m.name m.span
 
--- its parameters and its result stand for what they mean
+-- its parameters and its result are those that are written, brought in by the names of the scope, and stand for what they mean
 pub record IsFunctionIn (c : Context) (o : Place) (a : List TypeDef) (table : Entries) (m : MemberTree) (f : Function) : Type 0 where
   pub is : IsFunctionOf table m f
+  pub refs : LowersParts table a (written_parts m) a (function_refs f)
   pub means : (given : Owner → Name → Tree) → StandsForFunction c.me c.scopes given c.owners o a m f
 
 -- a scope at a place: its types, each behind those that it names and in the least of such orders, and its functions in that of the text

@@ -2,8 +2,10 @@ pub mod Each
 pub mod Scope
 pub mod Faults
 pub mod Meaning
+pub mod Brought
 pub mod InArena
 pub mod Texts
 pub mod Fit
+pub mod WrittenTypes
 pub mod Listed
 pub mod Passed

@@ -26,7 +26,7 @@ use Rattle.wit_reach.specs.Deps.{interface_of}
 use Rattle.wit_reach.specs.Holding.{listed_types}
 use Rattle.wit_package.specs.TopUses.{files_need}
 use Rattle.wit_package.specs.Faults.{by_lookups}
-use Rattle.wit_package.specs.Resolved.{IsResolved}
+use Rattle.wit_package.specs.Resolved.{context_of, own_texts, IsResolved}
 use Rattle.wit_package.specs.Steps.{Resolves}
 use Rattle.wit_graph_parts.specs.Own.{asked, asked_types}
 use Rattle.wit_well_formed.specs.Listed.{OwnTypesAreOwned, TypesAreListed}
@@ -46,6 +46,9 @@ owner_is (belongs.Interface k) j e = ap belongs.Interface (same_Some k j e)
 module _ (files : List FileTree) (p : UnresolvedPackage) (r : Resolves files p) where
   abbrev s : IsResolved files p
   s = r.resolved
+
+  abbrev IsListedHere : ℕ → TypeDef → TypeOwner → Type 0
+  IsListedHere i t o = IsListedAt (context_of s.me files s.items s.sorted) (own_texts s.sorted) p.types p.interfaces p.worlds i t o
 
   looked_up : IsKept (LookupsBreak s.me (file_uses files) (package_scopes s.me files))
   looked_up rule at b = r.kept rule at (by_lookups s.me s.named b)
@@ -73,7 +76,7 @@ module _ (files : List FileTree) (p : UnresolvedPackage) (r : Resolves files p) 
       let below = interface_below needs s.items s.items_are e.0.0.0 known.interface known.item in
       omega (arith, below, number)
 
-  stands : (i j : ℕ) (t : TypeDef) (d : Interface) → slice_get p.interfaces j ≡ Some d → IsListedAt p.interfaces p.worlds i t (belongs.Interface j) → order.Has (listed_types d) i
+  stands : (i j : ℕ) (t : TypeDef) (d : Interface) → slice_get p.interfaces j ≡ Some d → IsListedHere i t (belongs.Interface j) → order.Has (listed_types d) i
   stands i j t d at (f, at_f, (x, has)) =
       let one : f ≡ d = same_Some f d (sym at_f ∙ at) in
       subst (λ (z : Interface). order.Has (listed_types z) i) one (listed (listed_types f) i (has_map (λ (e : String Global × ℕ). e.1) f.types.entries (x, i) has))
@@ -81,7 +84,7 @@ module _ (files : List FileTree) (p : UnresolvedPackage) (r : Resolves files p) 
   own : (i k : ℕ) (d : Interface) (t : TypeDef) → slice_get (drop (asked p).interfaces p.interfaces) k ≡ Some d → slice_get p.types i ≡ Some t → t.owner ≡ belongs.Interface ((asked p).interfaces + k) → order.Has (listed_types d) i
   own i k d t at at_t of = elim (s.listed i t at_t) as (λ _. order.Has (listed_types d) i) [
     | inl unknown ↦ absurd (let below = other i ((asked p).interfaces + k) t unknown of in omega (arith, below, counted))
-    | inr is ↦ stands i ((asked p).interfaces + k) t d (get_drop (asked p).interfaces p.interfaces k d at) (subst (IsListedAt p.interfaces p.worlds i t) of is)
+    | inr is ↦ stands i ((asked p).interfaces + k) t d (get_drop (asked p).interfaces p.interfaces k d at) (subst (IsListedHere i t) of is)
   ]
 
   -- and no more
@@ -109,7 +112,7 @@ module _ (files : List FileTree) (p : UnresolvedPackage) (r : Resolves files p) 
         let places : asked_types p ≡ length s.names = s.unknown_are.so_many_spans in
         omega (arith, within, types, places))
     | inr is ↦ elim (cases_lt j (asked p).interfaces) as (λ _. (asked p).interfaces ≤ j) [
-      | inl less ↦ absurd (let h = subst (IsListedAt p.interfaces p.worlds (asked_types p + k) t) of is in none_stand j h.0 h.1 less (h.2.0, asked_types p + k) h.2.1)
+      | inl less ↦ absurd (let h = subst (IsListedHere (asked_types p + k) t) of is in none_stand j h.0 h.1 less (h.2.0, asked_types p + k) h.2.1)
       | inr past ↦ past
     ]
   ]

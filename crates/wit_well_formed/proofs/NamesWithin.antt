@@ -49,7 +49,7 @@ use Rattle.wit_package.specs.Passed.wit_worlds-Worlds.{Entry, IsTypeEntry, IsExt
 use Rattle.wit_labels.specs.Labels.{HasLabelsApart, HasParametersApart, HaveParametersApart, functions_in, IsInterfaceApart, IsItemApart, IsSideApart, IsWorldApart}
 use Rattle.wit_labels.proofs.Every.{each_join, each_of}
 use Rattle.wit_package.specs.TopUses.{files_need}
-use Rattle.wit_package.specs.Resolved.{IsResolved, owners_of, context_of}
+use Rattle.wit_package.specs.Resolved.{IsResolved, owners_of, context_of, own_texts}
 use Rattle.wit_package.specs.Steps.{Resolves}
 use Rattle.wit_package.proofs.Scoping.{world_there}
 use Rattle.wit_reach.proofs.Holding.{got}
@@ -209,8 +209,8 @@ module _ (files : List FileTree) (p : UnresolvedPackage) (r : Resolves files p) 
   module _ (P : TypeDef → Type 0) (unknown : (x : Name) (d : TypeDef) → option_map string_bytes d.name ≡ Some x → d.kind ≡ kinds.Unknown → P d) (form : (k : ShapeTree) (d : TypeDef) → IsUnnamed k d → P d)
       (named : (o : Place) (x : Name) (i : ℕ) (d : TypeDef) → slice_get p.types i ≡ Some d → option_map string_bytes d.name ≡ Some x → Stands c.me c.scopes by_name c.owners p.types o x i → P d)
     where
-      each_listed : (i : ℕ) (d : TypeDef) (o : TypeOwner) → slice_get p.types i ≡ Some d → IsListedAt p.interfaces p.worlds i d o → P d
-      each_listed i d belongs.None at is = form is.0 d is.1
+      each_listed : (i : ℕ) (d : TypeDef) (o : TypeOwner) → slice_get p.types i ≡ Some d → IsListedAt c (own_texts s.sorted) p.types p.interfaces p.worlds i d o → P d
+      each_listed i d belongs.None at (o, ms, scope, is) = form is.shape d is.unnamed
       each_listed i d (belongs.Interface j) at (f, at_f, has) =
           of_interfaces (λ (f : Interface). HasType f i → P d) (λ f none _ h. absurd (has_none (h.0, i) (subst (λ (es : List (String Global × ℕ)). Has es (h.0, i)) none h.1)))
           (λ k t f at_t is h. interface_type c p.types P named t (length s.foreign_interfaces + k) f is i h d at) j f at_f has

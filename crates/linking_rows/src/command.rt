@@ -1,8 +1,10 @@
 //! Rows of the program: its words, and what a run over files writes.
 
+use crate::stopping::{Ending, Stopping};
 use component_linker::{Action, Encoding, Input, Line, LineFault, read_line, run};
-use row_pages::{Page, RowFault, bytes_of, inside_quotes, readable, unescaped};
+use row_pages::{Page, RowFault, UNREADABLE, bytes_of, inside_quotes, readable, unescaped};
 use std::alloc::Global;
+use std::io::Write;
 
 /// A file that a run can read.
 #[derive(Drop)]
@@ -123,24 +125,60 @@ fn write_bytes(page: &mut Page, word: &str, bytes: &[u8]) {
     page.words("\n");
 }
 
-/// Runs the words over the files, and writes the status and what the run wrote.
-pub fn write_run(alloc: Global, files: &[(&str, &[u8])], words: &[&str], page: &mut Page) {
-    let mut answer = Vec::new(alloc);
-    let mut error = Vec::new(alloc);
-    let status = run_words(alloc, files, words, &mut answer, &mut error);
-    page.number("status", usize::from(status));
-    write_bytes(page, "out", &answer);
-    write_bytes(page, "err", &error);
-}
-
 /// Runs the words over the files, and answers the status.
-fn run_words(
+fn run_words<O: Write, E: Write>(
     alloc: Global,
     files: &[(&str, &[u8])],
     words: &[&str],
-    answer: &mut Vec<u8>,
-    error: &mut Vec<u8>,
+    out: &mut O,
+    err: &mut E,
 ) -> u8 {
     let line = read_line(alloc, words);
-    run(alloc, &line, files, answer, error)
+    run(alloc, &line, files, out, err)
+}
+
+/// Runs the words over the files, and writes the status and what the run wrote.
+pub fn write_run(alloc: Global, files: &[(&str, &[u8])], words: &[&str], page: &mut Page) {
+    let mut out = Vec::new(alloc);
+    let mut err = Vec::new(alloc);
+    let status = run_words(alloc, files, words, &mut out, &mut err);
+    page.number("status", usize::from(status));
+    write_bytes(page, "out", &out);
+    write_bytes(page, "err", &err);
+}
+
+/// A writer by the words of a row: how many bytes it takes, at most how many a call, and how it ends.
+fn stopping(alloc: Global, left: &str, most: &str, ending: &str) -> Option<Stopping> {
+    let left = left.parse::<usize>().ok()?;
+    let most = most.parse::<usize>().ok()?;
+    let ending = match ending {
+        "fails" => Ending::Fails,
+        "nothing" => Ending::TakesNothing,
+        _ => return None,
+    };
+    Some(Stopping::after(alloc, left, most, ending))
+}
+
+/// What a writer took, and whether it was called behind its end.
+fn write_taken(page: &mut Page, word: &str, writer: &Stopping) {
+    write_bytes(page, word, &writer.taken);
+    page.holds(!writer.is_called_again, "it is called behind its end");
+}
+
+/// Runs words over the files with writers that stop, and writes the status and what these took. In front of the words stands how
+/// many bytes standard output takes and how many standard error, at most how many a call, and how both end.
+pub fn write_stop(alloc: Global, files: &[(&str, &[u8])], words: &[&str], page: &mut Page) {
+    let [out, err, most, ending, line @ ..] = words else {
+        return page.words(UNREADABLE);
+    };
+    let Some(mut out) = stopping(alloc, out, most, ending) else {
+        return page.words(UNREADABLE);
+    };
+    let Some(mut err) = stopping(alloc, err, most, ending) else {
+        return page.words(UNREADABLE);
+    };
+    let status = run_words(alloc, files, line, &mut out, &mut err);
+    page.number("status", usize::from(status));
+    write_taken(page, "out", &out);
+    write_taken(page, "err", &err);
 }
