@@ -1,5 +1,5 @@
 -- First places of names.
-use Rattle.std.proofs.Common.{◌≡◌, ℕ, ◌<◌, suc, List, [], ◌∷◌, ◌++◌, length, arith, Bool, true, false, cond, Option, Some, None, is_some, refl, sym, ap, ◌∙◌, ◌⊎◌, inl, inr}
+use Rattle.std.proofs.Common.{◌≡◌, ℕ, ◌<◌, zero, suc, List, [], ◌∷◌, ◌++◌, take, length, arith, Bool, true, false, cond, Option, Some, None, is_some, refl, sym, ap, ◌∙◌, ◌⊎◌, inl, inr}
 use Rattle.std.specs.Prelude.{option_map, slice_get, bytes_eq}
 use Rattle.std.specs.List.{list_any}
 use Rattle.std.proofs.lemmas.Option.{same_Some}
@@ -85,6 +85,21 @@ module _ (ns : List (List ℕ)) (n : List ℕ) (old : List ℕ → Option ℕ) (
         update name ∙ value ∙ right name ∙ sym (place_push name ns n ∙ other)
   ]
 
+-- where a name gets another value and then its own again, each has the value that it had
+pub put_back : (n : List ℕ) (old mid new : List ℕ → Option ℕ) (first other : ℕ) → old n ≡ Some first
+    → ((name : List ℕ) → mid name ≡ cond (bytes_eq n name) (Some other) (old name))
+    → ((name : List ℕ) → new name ≡ cond (bytes_eq n name) (Some first) (mid name))
+    → (name : List ℕ) → new name ≡ old name
+put_back n old mid new first other had away back name = elim (cases_Bool (bytes_eq n name)) [
+  | inl t ↦
+      let value : cond (bytes_eq n name) (Some first) (mid name) ≡ Some first = rw t refl in
+      back name ∙ value ∙ sym had ∙ ap old ((bytes_eq-Decides n name).0 t)
+  | inr t ↦
+      let kept : cond (bytes_eq n name) (Some first) (mid name) ≡ mid name = rw t refl in
+      let same : cond (bytes_eq n name) (Some other) (old name) ≡ old name = rw t refl in
+      back name ∙ kept ∙ away name ∙ same
+]
+
 -- a place lies within the list
 pub place_within : (name : List ℕ) (ns : List (List ℕ)) (p : ℕ) → place_of name ns ≡ Some p → p < length ns
 place_within name [] p h = absurd cc
@@ -97,6 +112,24 @@ place_within name (n ∷ ns) p h = here (λ k e. place_within name ns k e) (byte
         let q : Some (suc k) ≡ Some p = sym (ap (λ (b : Bool). cond b (Some 0) (option_map suc (place_of name ns))) t ∙ ap (option_map suc) e) ∙ h in
         let less : k < length ns = behind k e in
         let z : suc k ≡ p = same_Some (suc k) p q in omega arith
+
+-- a name that is one of the first names has the same place in all of them
+pub place_in_front : (name : List ℕ) (ns : List (List ℕ)) (k p : ℕ) → place_of name (take k ns) ≡ Some p → (place_of name ns ≡ Some p) × (p < k)
+place_in_front name ns zero p h = absurd cc
+place_in_front name [] (suc k) p h = absurd cc
+place_in_front name (n ∷ ns) (suc k) p h = here (λ q e. place_in_front name ns k q e) (bytes_eq name n) refl (place_of name (take k ns)) refl
+  where
+    here : ((q : ℕ) → place_of name (take k ns) ≡ Some q → (place_of name ns ≡ Some q) × (q < k)) → (b : Bool) → bytes_eq name n ≡ b → (o : Option ℕ) → place_of name (take k ns) ≡ o → (place_of name (n ∷ ns) ≡ Some p) × (p < suc k)
+    here behind true t o e =
+        let q : Some 0 ≡ Some p = sym (ap (λ (b : Bool). cond b (Some 0) (option_map suc (place_of name (take k ns)))) t) ∙ h in
+        let z : 0 ≡ p = same_Some 0 p q in
+        (ap (λ (b : Bool). cond b (Some 0) (option_map suc (place_of name ns))) t ∙ q, omega arith)
+    here behind false t None e = absurd (let q : None ≡ Some p = sym (ap (λ (b : Bool). cond b (Some 0) (option_map suc (place_of name (take k ns)))) t ∙ ap (option_map suc) e) ∙ h in cc)
+    here behind false t (Some q) e =
+        let r : Some (suc q) ≡ Some p = sym (ap (λ (b : Bool). cond b (Some 0) (option_map suc (place_of name (take k ns)))) t ∙ ap (option_map suc) e) ∙ h in
+        let z : suc q ≡ p = same_Some (suc q) p r in
+        let l : q < k = (behind q e).1 in
+        (ap (λ (b : Bool). cond b (Some 0) (option_map suc (place_of name ns))) t ∙ ap (option_map suc) (behind q e).0 ∙ r, omega arith)
 
 -- a name has a place exactly where it is one of these
 pub place-is_some : (name : List ℕ) (ns : List (List ℕ)) → is_some (place_of name ns) ≡ list_any (bytes_eq name) ns

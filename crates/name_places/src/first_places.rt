@@ -44,6 +44,22 @@ impl<'a> FirstPlaces<'a> {
         }
     }
 
+    /// No names, with room for so many, where they are enough to have a table.
+    pub fn with_capacity(alloc: Global, capacity: usize) -> Result<FirstPlaces<'a>, AllocError>
+        ensures { IfOk result (λ p. p ≡ []) }
+    {
+        if capacity <= FEW {
+            return Ok(FirstPlaces::new(alloc));
+        }
+        let names = SmallVec::with_capacity(alloc, capacity)?;
+        let table = IndexMap::with_capacity(alloc, capacity)?;
+        Ok(FirstPlaces {
+            alloc,
+            names,
+            table: Some(Box::new(alloc, table)?),
+        })
+    }
+
     /// The first place of a name.
     pub fn first(&self, name: &str) -> Option<usize>
         ensures { result ≡ place_of name.now self.now }
@@ -98,10 +114,14 @@ fn add<'a>(
     ensures ok { (names : List (List ℕ)) → AreFirst table.old names → place ≡ length names → OnOk result (AreFirst table.new (names ++ name.entry.now ∷ [])) }
     ensures err { (names : List (List ℕ)) → AreFirst table.old names → OnErr result (AreFirst table.new names) }
 {
-    if !table.contains_key(name) {
-        table.insert(name, place)?;
+    // Most names are new, and one look at the table puts them in.
+    match table.insert(name, place)? {
+        Some(first) => {
+            table.insert(name, first)?;
+            Ok(())
+        }
+        None => Ok(()),
     }
-    Ok(())
 }
 
 /// Adds to the table of names one that comes behind them, where there is a table or it is time for one.

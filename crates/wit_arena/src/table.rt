@@ -1,6 +1,6 @@
 //! Types under the names of a scope.
 
-ghost use Rattle.std.specs.Prelude.{◌≡◌, ℕ, ◌<◌, ◌∷◌, ◌++◌, [], Some, length, slice_get, OnErr, OnOk, IfSome, IfNone};
+ghost use Rattle.std.specs.Prelude.{◌≡◌, ℕ, ◌<◌, ◌∷◌, ◌++◌, [], Some, length, slice_get, IfOk, OnErr, OnOk, IfSome, IfNone};
 ghost use Rattle.wit_arena.specs.Meaning.{Has};
 
 use name_places::FirstPlaces;
@@ -35,14 +35,14 @@ impl<'a> Model for Table<'a> {
 }
 
 impl<'a> Table<'a> {
-    /// Nothing under any name.
-    pub fn new(alloc: Global) -> Table<'a>
-        ensures { result ≡ [] }
+    /// Nothing under any name, with room for so many names.
+    pub fn with_capacity(alloc: Global, capacity: usize) -> Result<Table<'a>, AllocError>
+        ensures { IfOk result (λ t. t ≡ []) }
     {
-        Table {
-            names: FirstPlaces::new(alloc),
-            entries: SmallVec::new(alloc),
-        }
+        Ok(Table {
+            names: FirstPlaces::with_capacity(alloc, capacity)?,
+            entries: SmallVec::with_capacity(alloc, capacity)?,
+        })
     }
 
     /// What stands under a name.

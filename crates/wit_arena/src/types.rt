@@ -116,6 +116,13 @@ impl Types {
         self.alloc
     }
 
+    /// Makes room for so many more types.
+    pub fn reserve(&mut self, additional: usize) -> Result<(), AllocError>
+        ensures { self.new ≡ self.old }
+    {
+        self.arena.reserve(additional)
+    }
+
     /// How many types there are: each id below that number has one.
     pub fn len(&self) -> usize
         ensures { result ≡ length self.now }

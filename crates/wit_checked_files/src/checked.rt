@@ -50,7 +50,7 @@ pub fn check_names(alloc: Global, names: &[Label<'_>]) -> Result<(), PackageFaul
     if names.len() <= 1 {
         return Ok(());
     }
-    let mut keys = Vec::new(alloc);
+    let mut keys = Vec::with_capacity(alloc, names.len())?;
     for name in names {
         keys.push(NameKey::of(name.text.as_str()))?;
     }

@@ -201,8 +201,8 @@ pub fn package_names<'a>(
 ) -> Result<PackageNames<'a>, AllocError>
     ensures { IfOk result (seen.AreNames (map scope_view.item_scope scopes.now)) }
 {
-    let mut items = FirstPlaces::new(alloc);
-    let mut types = Vec::new(alloc);
+    let mut items = FirstPlaces::with_capacity(alloc, scopes.len())?;
+    let mut types = Vec::with_capacity(alloc, scopes.len())?;
     for scope in scopes {
         items.push(item_name(scope))?;
         types.push(item_type_names(alloc, scope)?)?;

@@ -40,7 +40,7 @@ fn function_pairs(
 ) -> Result<Vec<(String, Function)>, AllocError>
     ensures { IfOk result (λ v. (spec.functions_in v.items ≡ functions.items) × spec.AreNamed v.items) }
 {
-    let mut pairs = Vec::new(alloc);
+    let mut pairs = Vec::with_capacity(alloc, functions.len())?;
     for function in functions {
         let name = String::from_str(alloc, function.name.as_str())?;
         pairs.push((name, function))?;
@@ -53,7 +53,7 @@ pub fn named_types(alloc: Global, table: &Table<'_>) -> Result<IndexMap<String, 
     requires { AreApartBy (λ e. e.0) table.now }
     ensures { IfOk result (λ m. spec.named_types m.entries ≡ table.now) }
 {
-    let mut types = IndexMap::new(alloc);
+    let mut types = IndexMap::with_capacity(alloc, table.len())?;
     for place in 0..table.len() {
         let (name, id) = table.entry(place);
         types.insert(String::from_str(alloc, name)?, id)?;

@@ -1,5 +1,6 @@
 -- Entries by places: what each needs, in the order in which it names it.
-use Rattle.std.specs.Prelude.{◌≡◌, ℕ, List, [], ◌∷◌, map, flat_map, Option, Some, None, slice_get}
+use Rattle.std.specs.Prelude.{◌≡◌, ℕ, Bool, true, List, [], ◌∷◌, map, flat_map, take, Option, Some, None, is_some, slice_get}
+use Rattle.std.specs.List.{list_all}
 use Rattle.name_places.specs.FirstPlaces.{place_of}
 use Rattle.wit_words.specs.Slice.{Slice}
 use Rattle.wit_order.specs.Places.{Rows}
@@ -23,3 +24,11 @@ AreRows es rows = map (λ r. r.items) rows ≡ map (row_of (labels es)) es
 -- none of the entries names anything
 abbrev pub AreWithoutNeeds : List Entry → Type 0
 AreWithoutNeeds es = (i : ℕ) (one : Entry) → slice_get es i ≡ Some one → one.needs ≡ []
+
+-- whether these names are all among those
+abbrev pub are_among : List Name → List Slice → Bool
+are_among names needs = list_all (λ n. is_some (place_of n.text names)) needs
+
+-- each name that an entry needs is that of an entry in front of it
+abbrev pub AreBehindNeeds : List Entry → Type 0
+AreBehindNeeds es = (i : ℕ) (one : Entry) → slice_get es i ≡ Some one → are_among (take i (labels es)) one.needs ≡ true

@@ -73,7 +73,7 @@ fn item_entry<'a>(alloc: Global, item: &ItemScope<'a>) -> Result<Entry<'a>, Allo
 fn item_entries<'a>(alloc: Global, scopes: &[ItemScope<'a>]) -> Result<Vec<Entry<'a>>, AllocError>
     ensures { IfOk result (λ v. map seen.entry v.items ≡ map spec.item_entry (map scope_view.item_scope scopes.now)) }
 {
-    let mut found = Vec::new(alloc);
+    let mut found = Vec::with_capacity(alloc, scopes.len())?;
     for item in scopes {
         let entry = item_entry(alloc, item)?;
         found.push(entry)?;

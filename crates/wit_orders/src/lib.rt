@@ -10,4 +10,4 @@ mod types;
 pub use items::item_order;
 pub use law::law_orders_are_toposorts;
 pub use order::{Entry, order_of};
-pub use types::{are_types, name_nothing, scope_types, sorted_types, type_order, world_types};
+pub use types::{are_sorted, are_types, scope_types, sorted_types, type_order, world_types};

@@ -27,7 +27,7 @@ pub struct Entry<'a> {
 fn places<'a>(alloc: Global, entries: &[Entry<'a>]) -> Result<FirstPlaces<'a>, AllocError>
     ensures { IfOk result (λ p. p ≡ spec.labels (map seen.entry entries.now)) }
 {
-    let mut found = FirstPlaces::new(alloc);
+    let mut found = FirstPlaces::with_capacity(alloc, entries.len())?;
     for entry in entries {
         found.push(entry.label.name)?;
     }
@@ -79,7 +79,7 @@ fn rows<'a>(alloc: Global, entries: &[Entry<'a>]) -> Result<Vec<Vec<usize>>, All
     ensures { IfOk result (λ r. AreRows (map seen.entry entries.now) r.items) }
 {
     let places = needed_places(alloc, entries)?;
-    let mut rows = Vec::new(alloc);
+    let mut rows = Vec::with_capacity(alloc, entries.len())?;
     for entry in entries {
         let row = places_of(alloc, &places, entry.needs.as_slice())?;
         rows.push(row)?;

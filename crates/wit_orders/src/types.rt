@@ -1,18 +1,21 @@
 //! The types of scopes, and their orders.
 
-ghost use Rattle.std.specs.Prelude.{◌≡◌, ◌<◌, ℕ, [], ◌∷◌, ◌++◌, true, false, Some, map, length, slice_get, IfOk, OnOk, IfErr};
+ghost use Rattle.std.specs.Prelude.{◌≡◌, ◌<◌, ℕ, [], ◌∷◌, ◌++◌, true, false, Some, is_some, map, length, slice_get, IfOk, OnOk, IfErr};
+ghost use Rattle.std.specs.List.{list_all};
+ghost use Rattle.name_places.specs.FirstPlaces.{place_of};
 ghost use Rattle.wit_order.specs.Order.{Has};
 ghost use Rattle.wit_type_names.specs.Passed.wit_scopes-Members.{MemberTree};
 ghost use Rattle.wit_type_names.specs.Passed.wit_scopes-View as scope_view;
 ghost use Rattle.wit_rules.specs.Breaks.{IsKept, IsFaultOf};
 ghost use Rattle.wit_orders.specs.Needs as spec;
-ghost use Rattle.wit_orders.specs.Rows.{AreWithoutNeeds};
+ghost use Rattle.wit_orders.specs.Rows.{AreBehindNeeds};
 ghost use Rattle.wit_orders.specs.View as seen;
 
 use crate::order::{Entry, order_of};
+use name_places::FirstPlaces;
 use std::alloc::{AllocError, Global};
 use wit_rules::PackageFault;
-use wit_type_names::{Member, MemberKind, WorldMember, member_type_names};
+use wit_type_names::{Id, Member, MemberKind, WorldMember, member_type_names};
 
 /// Whether a member is a type.
 fn is_type(kind: &MemberKind<'_>) -> bool
@@ -88,7 +91,7 @@ pub fn world_types<'a>(
 fn type_entries<'a>(alloc: Global, types: &[Member<'a>]) -> Result<Vec<Entry<'a>>, AllocError>
     ensures { IfOk result (λ v. map seen.entry v.items ≡ map spec.type_entry (scope_view.members types.now)) }
 {
-    let mut found = Vec::new(alloc);
+    let mut found = Vec::with_capacity(alloc, types.len())?;
     for member in types {
         let needs = member_type_names(alloc, &member.kind)?;
         found.push(Entry {
@@ -99,18 +102,25 @@ fn type_entries<'a>(alloc: Global, types: &[Member<'a>]) -> Result<Vec<Entry<'a>
     Ok(found)
 }
 
-/// Whether the definitions of none of the types name a type: then each stands behind all that it needs.
-pub fn name_nothing<'a>(alloc: Global, types: &[Member<'a>]) -> Result<bool, AllocError>
-    ensures yes { IfOk result (λ b. b ≡ true → spec.AreSorted (scope_view.members types.now) (scope_view.members types.now) × IsKept (spec.CircleBreaks (map spec.type_entry (scope_view.members types.now)))) }
-    ensures no { IfOk result (λ b. b ≡ false → AreWithoutNeeds (map spec.type_entry (scope_view.members types.now)) → ⊥) }
+/// Whether these names are all among those.
+fn are_among(known: &FirstPlaces<'_>, names: &[Id<'_>]) -> bool
+    ensures { result ≡ list_all (λ n. is_some (place_of n.name.now known.now)) names.now }
 {
+    names.iter().all(|name| known.first(name.name).is_some())
+}
+
+/// Whether each of the types stands behind all that its definition names: then they need no sorting.
+pub fn are_sorted<'a>(alloc: Global, types: &[Member<'a>]) -> Result<bool, AllocError>
+    ensures yes { IfOk result (λ b. b ≡ true → spec.AreSorted (scope_view.members types.now) (scope_view.members types.now) × IsKept (spec.CircleBreaks (map spec.type_entry (scope_view.members types.now)))) }
+    ensures no { IfOk result (λ b. b ≡ false → AreBehindNeeds (map spec.type_entry (scope_view.members types.now)) → ⊥) }
+{
+    let mut before = FirstPlaces::with_capacity(alloc, types.len())?;
     for member in types {
-        if !member_type_names(alloc, &member.kind)?
-            .as_slice()
-            .is_empty()
-        {
+        let needs = member_type_names(alloc, &member.kind)?;
+        if !are_among(&before, needs.as_slice()) {
             return Ok(false);
         }
+        before.push(member.name.name)?;
     }
     Ok(true)
 }
@@ -142,7 +152,7 @@ fn members_at<'a>(
     requires { (place : ℕ) → Has places.now place → place < length members.now }
     ensures { IfOk result (λ v. spec.AreAt (scope_view.members members.now) places.now (scope_view.members v.items)) }
 {
-    let mut found = Vec::new(alloc);
+    let mut found = Vec::with_capacity(alloc, places.len())?;
     for place in places {
         let copy = member_at(members, *place).clone()?;
         found.push(copy)?;

@@ -1,6 +1,6 @@
 //! The types of a scope.
 
-ghost use Rattle.std.specs.Prelude.{◌≡◌, map, IfOk};
+ghost use Rattle.std.specs.Prelude.{◌≡◌, [], map, IfOk};
 ghost use Rattle.wit_rules.specs.Passed.wit_scopes-View as scope_view;
 ghost use Rattle.wit_package_types.specs.Stability.{AreGates};
 ghost use Rattle.wit_package_types.specs.Fill as spec;
@@ -58,6 +58,15 @@ fn define_type<'a>(
     })
 }
 
+/// A table in which nothing stands; in it and among the types is room for so many more.
+fn table_with_room<'a>(types: &mut Types, count: usize) -> Result<Table<'a>, AllocError>
+    ensures none { IfOk result (λ t. t ≡ []) }
+    ensures kept { types.new ≡ types.old }
+{
+    types.reserve(count)?;
+    Table::with_capacity(types.allocator(), count)
+}
+
 /// The types of a scope, of which each stands behind those that it names: adds them to the arena, and answers where each
 /// stands by its name. What `use` takes is known, and no name stands twice.
 pub fn fill_types<'a>(
@@ -69,7 +78,7 @@ pub fn fill_types<'a>(
     requires { spec.AreFillable known.now (scope_view.members members.now) }
     ensures { IfOk result (spec.Fills known.now owner types.old (scope_view.members members.now) types.new) }
 {
-    let mut table = Table::new(types.allocator());
+    let mut table = table_with_room(types, members.len())?;
     for member in members {
         let id = define_type(types, known, &table, &owner, member)?;
         table.add(member.name.name, id)?;

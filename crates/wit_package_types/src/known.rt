@@ -42,9 +42,10 @@ impl<'a> Known<'a> {
     ) -> Result<Known<'a>, AllocError>
         ensures { IfOk result (λ k. k ≡ record { names = []; tables = []; foreign = foreign.entry }) }
     {
+        let names = FirstPlaces::with_capacity(alloc, capacity)?;
         let tables = Vec::with_capacity(alloc, capacity)?;
         Ok(Known {
-            names: FirstPlaces::new(alloc),
+            names,
             tables,
             foreign,
         })

@@ -14,7 +14,7 @@ pub fn keyed<K: Eq + Hash + Drop, V: Drop>(
     requires { (i j : ℕ) (p q : K × V) → slice_get pairs.items i ≡ Some p → slice_get pairs.items j ≡ Some q → K.eq p.0 q.0 ≡ true → i ≡ j }
     ensures { IfOk result (λ m. m.entries ≡ pairs.items) }
 {
-    let mut found = IndexMap::new(alloc);
+    let mut found = IndexMap::with_capacity(alloc, pairs.len())?;
     for (key, value) in pairs {
         found.insert(key, value)?;
     }

@@ -18,7 +18,7 @@ use crate::functions::resolve_functions;
 use std::alloc::AllocError;
 use wit_functions::{Known, fill_types};
 use wit_lookups::{Member, PackageFault};
-use wit_orders::{name_nothing, sorted_types};
+use wit_orders::{are_sorted, sorted_types};
 use wit_resources::{Natures, Table, Types};
 use wit_types::{Function, TypeOwner};
 
@@ -64,8 +64,8 @@ fn fill_sorted<'a>(
     ensures kept { OnOk result (IsKept (CircleBreaks (map type_entry (scope_view.members declared.now)))) }
     ensures cause { IfErr result (IsFaultOf (CircleBreaks (map type_entry (scope_view.members declared.now)))) }
 {
-    // Most texts need no sorting, which costs some allocations.
-    if name_nothing(types.allocator(), declared)? {
+    // Most texts need no sorting.
+    if are_sorted(types.allocator(), declared)? {
         let table = fill_in_order(types, natures, known, owner, declared)?;
         return Ok(table);
     }

@@ -42,7 +42,7 @@ pub fn first_repeat<K: Eq + Hash>(alloc: Global, keys: &[K]) -> Result<Option<us
     if keys.len() <= FEW {
         return Ok(first_repeat_of_few(keys));
     }
-    let mut seen: IndexSet<&K> = IndexSet::new(alloc);
+    let mut seen: IndexSet<&K> = IndexSet::with_capacity(alloc, keys.len())?;
     for (place, key) in keys.iter().enumerate() {
         let (_, is_new) = seen.insert_full(key)?;
         if !is_new {

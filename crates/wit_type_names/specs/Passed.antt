@@ -5,6 +5,7 @@ pub use Rattle.wit_scopes.specs.Passed.wit_items-declared-items-TypeDefKind as w
 pub use Rattle.wit_scopes.specs.Passed.wit_productions-NameView as wit_productions-NameView
 pub use Rattle.wit_scopes.specs.Passed.wit_productions-TypeTree as wit_productions-TypeTree
 pub use Rattle.wit_scopes.specs.Passed.wit_productions-TypeView as wit_productions-TypeView
+pub use Rattle.wit_scopes.specs.Passed.wit_productions-declared-names-Id as wit_productions-declared-names-Id
 pub use Rattle.wit_scopes.specs.Passed.wit_productions-declared-types-Type as wit_productions-declared-types-Type
 pub use Rattle.wit_scopes.specs.Passed.wit_productions-declared-types-TypeKind-TheViews as wit_productions-declared-types-TypeKind-TheViews
 pub use Rattle.wit_scopes.specs.Passed.wit_syntax-Ast as wit_syntax-Ast

@@ -58,6 +58,13 @@ impl<T: Stored> Arena<T> {
         Ok(Id::from_index(index))
     }
 
+    /// Makes room for so many more values.
+    pub fn reserve(&mut self, additional: usize) -> Result<(), AllocError>
+        ensures { self.new ≡ self.old }
+    {
+        self.items.reserve(additional)
+    }
+
     /// The value under an id.
     pub fn get(&self, id: Id<T::Tag>) -> &T
         requires { id < length self.now }

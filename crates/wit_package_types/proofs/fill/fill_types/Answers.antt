@@ -1,4 +1,5 @@
-use Rattle.std.proofs.Common.{[], ◌+◌, take, sym, subst}
+use Rattle.std.proofs.Common.{List, [], ◌+◌, take, sym, subst}
+use Rattle.wit_types.specs.declared.interface.TypeDef.{TypeDef}
 use Rattle.wit_rules.specs.Passed.wit_scopes-View as scope_view
 use Rattle.wit_arena.specs.Table.{Entries}
 use Rattle.wit_package_types.specs.Fill.{Fills, fills_none}
@@ -12,7 +13,10 @@ pub define_type-requires-clause-gates : goal.define_type-requires-clause-gates
 define_type-requires-clause-gates c = next_gates c.args.known.now c.args.owner c.args.types.now c.args.members.now c.requires c.loop-member.member-index c.member-item.result c.loop-member-test.true c.member-item.is c.loop-member.types c.loop-member.table c.loop-member.invariant
 
 pub loop-member-init : goal.loop-member-init
-loop-member-init c = subst (λ (t : Entries). Fills c.args.known.now c.args.owner c.args.types.now [] c.args.types.now t) (sym c.new-table.ensures) fills_none
+loop-member-init c =
+    let first : Fills c.args.known.now c.args.owner c.args.types.now [] c.args.types.now c.in_ok-table.table =
+    subst (λ (t : Entries). Fills c.args.known.now c.args.owner c.args.types.now [] c.args.types.now t) (sym c.in_ok-table.ensures.none) fills_none in
+    subst (λ (a : List TypeDef). Fills c.args.known.now c.args.owner c.args.types.now [] a c.in_ok-table.table) (sym c.table_with_room.ensures.kept) first
 
 pub add-requires : goal.add-requires
 add-requires c = next_new c.args.known.now c.args.owner c.args.types.now c.args.members.now c.requires c.loop-member.member-index c.member-item.result c.loop-member-test.true c.member-item.is c.loop-member.types c.loop-member.table c.loop-member.invariant

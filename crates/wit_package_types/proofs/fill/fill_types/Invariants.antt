@@ -4,4 +4,4 @@ use Rattle.wit_package_types.specs.Fill.{Fills}
 use Rattle.wit_package_types.proofs.fill.fill_types.Given as goal
 
 abbrev pub invariant-loop-member : goal.invariant-loop-member
-invariant-loop-member l = Fills l.known l.owner l.initial.types (take l.member-index (scope_view.members l.members)) l.types l.table
+invariant-loop-member l = Fills l.known l.owner l.fn.types (take l.member-index (scope_view.members l.members)) l.types l.table
