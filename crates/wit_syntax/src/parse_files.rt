@@ -171,6 +171,16 @@ fn gated_first<'a>(alloc: Global, tokens: &mut Cursor<'_, 'a>) -> Result<First<'
     Ok(First::Item(attributes, tokens.span_from(start), item))
 }
 
+/// What stands first, where no attribute does, and where.
+fn first_at<'a>(alloc: Global, opening: Opening<'a>, span: Span) -> First<'a>
+    ensures { view.first result ≡ spec.without_gates (span, view.opening opening.entry) }
+{
+    match opening {
+        Opening::Header(name) => First::Header(name),
+        Opening::Item(item) => First::Item(Vec::new(alloc), span, item),
+    }
+}
+
 #[tactic(auto, unfolding(crate::specs::FileGrammar::first, wit_productions::specs::Production::branch, wit_productions::specs::Production::located))]
 fn first_of<'a>(alloc: Global, tokens: &mut Cursor<'_, 'a>) -> Result<First<'a>, ReadError>
     ensures { Reads view.first result tokens.new (spec.first.read tokens.old) }
@@ -179,10 +189,8 @@ fn first_of<'a>(alloc: Global, tokens: &mut Cursor<'_, 'a>) -> Result<First<'a>,
         return gated_first(alloc, tokens);
     }
     let start = tokens.here();
-    match opening_of(alloc, tokens)? {
-        Opening::Header(name) => Ok(First::Header(name)),
-        Opening::Item(item) => Ok(First::Item(Vec::new(alloc), tokens.span_from(start), item)),
-    }
+    let opening = opening_of(alloc, tokens)?;
+    Ok(first_at(alloc, opening, tokens.span_from(start)))
 }
 
 /// A whole file.
