@@ -1,6 +1,10 @@
-"""Makes packages, and a table of what was measured on them: package.py make FOLDER [COUNTS..], package.py table."""
+"""Makes packages, and tables of what was measured on them: package.py make FOLDER [COUNTS..], package.py table, and package.py
+count PROGRAM TEXT.., which counts instructions with valgrind.
+"""
 
 import os
+import re
+import subprocess
 import sys
 
 COUNTS = [1000, 2000, 4000, 8000, 16000]
@@ -77,6 +81,16 @@ def make(folder, *counts):
                 file.write(HEADER + "".join(pattern(count)))
 
 
+def named(path):
+    """What a text is of, as `chain 001000`, from its path."""
+    return os.path.basename(path).removesuffix(".wit").split("_", 1)[1].replace("_", " ")
+
+
+def grown(before, pattern, value):
+    """How many times the row before of one pattern a value is, as text."""
+    return f"{value / before[1]:.2f}" if before[0] == pattern else ""
+
+
 def table():
     """The program's lines as a table: how long a text is read, how much longer it takes with resolving, and how that grows."""
     print("| package | bytes | read, s | resolved, s | resolved / read | MB/s, both | times the one before |")
@@ -84,22 +98,50 @@ def table():
     before = (None, None)
     for line in sys.stdin:
         path, size, *took = line.split()
-        name = os.path.basename(path).removesuffix(".wit").split("_", 1)[1].replace("_", " ")
+        name = named(path)
         pattern = name.split()[0]
         if took == ["refused"]:
             print(f"| {name} | {int(size):,} | refused | | | | |")
             continue
         reading, both = [int(it) / 1e9 for it in took]
         resolving = both - reading
-        ratio = f"{resolving / before[1]:.2f}" if before[0] == pattern else ""
         print(
             f"| {name} | {int(size):,} | {reading:.4f} | {resolving:.4f} | {resolving / reading:.1f}"
-            f" | {int(size) / both / 1e6:.1f} | {ratio} |"
+            f" | {int(size) / both / 1e6:.1f} | {grown(before, pattern, resolving)} |"
         )
         before = (pattern, resolving)
 
 
+def instructions(program, step, path):
+    """How many instructions the program executes that takes a text so far."""
+    words = ["valgrind", "--tool=cachegrind", "--cache-sim=no", "--cachegrind-out-file=/dev/null"]
+    ran = subprocess.run([*words, program, step, path], stdout=subprocess.PIPE, stderr=subprocess.PIPE, text=True, check=True)
+    if ran.stdout:
+        sys.exit(ran.stdout)
+    return int(re.search(r"I +refs: +([\d,]+)", ran.stderr)[1].replace(",", ""))
+
+
+def count(program, *paths):
+    """A table of instructions: those of reading a text, those that resolving adds, and how they grow."""
+    print("| package | read, millions | resolved, millions | resolved / read | read, times the one before | resolved, times the one before |")
+    print("| --- | --- | --- | --- | --- | --- |")
+    before = (None, None, None)
+    for path in paths:
+        name = named(path)
+        pattern = name.split()[0]
+        loaded, read, resolved = [instructions(program, step, path) for step in ("load", "read", "resolve")]
+        reading, resolving = read - loaded, resolved - read
+        print(
+            f"| {name} | {reading / 1e6:.2f} | {resolving / 1e6:.2f} | {resolving / reading:.2f}"
+            f" | {grown(before[:2], pattern, reading)} | {grown(before[::2], pattern, resolving)} |",
+            flush=True,
+        )
+        before = (pattern, reading, resolving)
+
+
 if sys.argv[1] == "make":
     make(*sys.argv[2:])
+elif sys.argv[1] == "count":
+    count(*sys.argv[2:])
 else:
     table()

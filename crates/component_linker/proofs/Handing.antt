@@ -14,7 +14,7 @@ use Rattle.wit_types.specs.declared.«package».PackageName.{PackageName}
 use Rattle.wit_words.specs.Sources.{SourceText}
 use Rattle.component_linker.specs.declared.program.Stop.{Stop}
 use Rattle.component_linker.specs.declared.program.Stop.TheVariants as stops
-use Rattle.component_linker.specs.Program.{Files, file_fault, opened, packages_of, Names, IsMain, IsCompleted, last_main, text_or, Handed}
+use Rattle.component_linker.specs.Program.{Files, file_fault, opened, packages_of, Names, AreModules, IsCompleted, last_main, text_or, Handed}
 use Rattle.component_linker.specs.Stops.{IsFileStop, IsPlaceOf, IsResolveStop, IsTextsStop, AreTextsNotTaken, IsNameError, IsInputStop, IsHandStop, IsCompleteStop, IsPrepareStop}
 
 -- ---- what isn't resolved, and its place
@@ -111,18 +111,18 @@ module _ (eq : PackageName → PackageName → Bool) (files : Files) (l : Line) 
         chosen = done.chosen;
         chooses = ap (λ (i : Input). i.world) done.rest;
         world = subst (λ (r : Resolved). Names r main (string_bytes l.world) done.chosen) (sym same) done.world;
-        main = subst (λ (r : Resolved). IsMain files r main l (last_main l.inputs.items) given.main) (sym same) done.main;
+        modules = subst (λ (r : Resolved). AreModules files r main l (last_main l.inputs.items) given.modules) (sym same) done.modules;
         options = ap (λ (i : Input). i.options) done.rest ∙ ap (λ (i : Input). i.options) rest ∙ ap (λ (i : Input). i.options) opens;
       }
 
 -- a session that chose the line's world, and then was handed the modules
 pub completed : (files : Files) (l : Line) (main w : ℕ) (old chosen new : Input) → chosen ≡ record old { world = Some w } → Names old.resolved main (string_bytes l.world) w
-    → IsMain files chosen.resolved main l (last_main l.inputs.items) new.main → new ≡ record chosen { main = new.main } → IsCompleted files main l old new
+    → AreModules files chosen.resolved main l (last_main l.inputs.items) new.modules → new ≡ record chosen { modules = new.modules } → IsCompleted files main l old new
 completed files l main w old chosen new chose names is rest = record {
   chosen = w;
   world = names;
-  main = subst (λ (i : Input). IsMain files i.resolved main l (last_main l.inputs.items) new.main) chose is;
-  rest = rest ∙ ap (λ (i : Input). record i { main = new.main }) chose;
+  modules = subst (λ (i : Input). AreModules files i.resolved main l (last_main l.inputs.items) new.modules) chose is;
+  rest = rest ∙ ap (λ (i : Input). record i { modules = new.modules }) chose;
 }
 
 -- what follows from two facts where there is no error

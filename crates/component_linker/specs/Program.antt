@@ -18,7 +18,9 @@ use Rattle.component_session.specs.Passed.component_audit-Texts.{verdict_text}
 use Rattle.component_session.specs.Passed.component_audit-declared-verdict-Verdict.{Verdict}
 use Rattle.component_session.specs.Passed.component_audit-declared-verdict-Verdict-TheVariants.{Yes, Finding}
 use Rattle.component_session.specs.Headline.{IsBuilt, IsLinkTable, IsJudged}
-use Rattle.component_session.specs.Input.{Input, ModuleInput, OptionsInput, empty_input}
+use Rattle.component_session.specs.Handed.{main_input}
+use Rattle.component_session.specs.Input.{Input, OptionsInput, empty_input}
+use Rattle.component_session.specs.Passed.handed_modules-Modules.{ModuleInput, with_module}
 use Rattle.link_lines.specs.Line.{link_value}
 use Rattle.link_lines.specs.Texts.{lines_text}
 use Rattle.link_lines.specs.declared.line.Link.{Link}
@@ -153,26 +155,28 @@ text_or [] chosen = chosen
 text_or (b ∷ bs) chosen = b ∷ bs
 
 module _ (files : Files) (r : Resolved) («package» : ℕ) (line : Line) where
-  -- a module is what is said of it: it has the bytes of the file at the path, the world that the text names, and the line's encoding
-  abbrev pub IsMain : Option MainWords → Option ModuleInput → Type 0
-  IsMain None None = Unit {0}
-  IsMain None (Some m) = ⊥
-  IsMain (Some words) None = ⊥
-  IsMain (Some words) (Some m) = IsFile files words.path m.bytes × Names r «package» (text_or words.world (string_bytes line.world)) m.world × (m.encoding ≡ encoding_of line.encoding)
+  -- the main module is what is said of it: it has the bytes of the file at the path, the world that the text names, and the line's encoding
+  abbrev pub IsMain : MainWords → ModuleInput → Type 0
+  IsMain words m = (bytes : List ℕ) × (w : ℕ) × IsFile files words.path bytes × Names r «package» (text_or words.world (string_bytes line.world)) w × (m ≡ main_input bytes w (encoding_of line.encoding))
 
-  -- an input that is a module stands in the place of the old one, and another changes nothing
-  abbrev pub ReplacesMain : LineInput → Option ModuleInput → Option ModuleInput → Type 0
-  ReplacesMain (inputs.Text path) old new = new ≡ old
-  ReplacesMain (inputs.Dep path) old new = new ≡ old
-  ReplacesMain (inputs.Main world path) old new = IsMain (later_main None (inputs.Main world path)) new
-  ReplacesMain (inputs.Component path) old new = new ≡ old
+  -- it is the only module, where something is said of it
+  abbrev pub AreModules : Option MainWords → List ModuleInput → Type 0
+  AreModules None ms = ms ≡ []
+  AreModules (Some words) ms = (m : ModuleInput) × IsMain words m × (ms ≡ m ∷ [])
+
+  -- an input that is a module is handed in, and another changes nothing
+  abbrev pub HandsIn : LineInput → List ModuleInput → List ModuleInput → Type 0
+  HandsIn (inputs.Text path) old new = new ≡ old
+  HandsIn (inputs.Dep path) old new = new ≡ old
+  HandsIn (inputs.Main world path) old new = (m : ModuleInput) × IsMain (record { world = string_bytes world; path = string_bytes path }) m × (new ≡ with_module m old)
+  HandsIn (inputs.Component path) old new = new ≡ old
 
 -- a session chooses the world of a line, and is handed its last module
 pub record IsCompleted (files : Files) («package» : ℕ) (line : Line) (old new : Input) : Type 0 where
   pub chosen : ℕ
   pub world : Names old.resolved «package» (string_bytes line.world) chosen
-  pub main : IsMain files old.resolved «package» line (last_main line.inputs.items) new.main
-  pub rest : new ≡ record old { world = Some chosen; main = new.main }
+  pub modules : AreModules files old.resolved «package» line (last_main line.inputs.items) new.modules
+  pub rest : new ≡ record old { world = Some chosen; modules = new.modules }
 
 -- What is handed to a session: the packages of a line's texts, with the features that it makes active, the world that it names and the
 -- last module, with its options; each file is there.
@@ -183,7 +187,7 @@ pub record Handed (eq : PackageName → PackageName → Bool) (files : Files) (l
   pub chosen : ℕ
   pub chooses : given.world ≡ Some chosen
   pub world : Names given.resolved «package» (string_bytes line.world) chosen
-  pub main : IsMain files given.resolved «package» line (last_main line.inputs.items) given.main
+  pub modules : AreModules files given.resolved «package» line (last_main line.inputs.items) given.modules
   pub options : given.options ≡ options_of line
 
 -- an input is the component with these bytes

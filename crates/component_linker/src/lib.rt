@@ -6,9 +6,10 @@ mod program;
 pub use command_line::{Action, Encoding, Input, Line, LineFault, read_line};
 pub use component_builder::{EmitFault, emit};
 pub use component_session::{
-    Fault, FindingKind, HandedModule, Id, Link, LinkFault, LinkKind, LinkSide, ModuleCause,
-    Options, Owner, PackageId, Resolve, ResolveError, ResolveErrorKind, Session, StringEncoding,
-    Verdict, WorldId, audit, law_audit_of_what_was_built, law_built_has_no_cause,
-    law_ready_has_no_cause, law_right_is_judged_yes, law_written_is_right,
+    ExportKind, Fault, FindingKind, HandedModule, HandedModules, Id, Instance, Item, LibraryInfo,
+    Link, LinkFault, LinkKind, LinkSide, MainOrAdapter, ModuleCause, ModuleKind, Options, Owner,
+    PackageId, Resolve, ResolveError, ResolveErrorKind, Session, StringEncoding, Verdict, WorldId,
+    audit, law_audit_of_what_was_built, law_built_has_no_cause, law_ready_has_no_cause,
+    law_right_is_judged_yes, law_written_is_right,
 };
 pub use program::run;

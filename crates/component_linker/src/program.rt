@@ -1,12 +1,13 @@
 //! The program over two writers and the files that could be read.
 
-ghost use Rattle.std.specs.Prelude.{◌≡◌, ◌<◌, ◌⊎◌, ℕ, [], None, Some, string_bytes, IfErr, OnErr, IfOk, OnOk, option_map};
+ghost use Rattle.std.specs.Prelude.{◌≡◌, ◌<◌, ◌⊎◌, ℕ, [], false, None, Some, string_bytes, IfErr, OnErr, IfOk, OnOk, option_map};
 ghost use Rattle.std.specs.List.{flat_map};
 ghost use Rattle.std.specs.Io.KnownBytes.{Appends};
 ghost use Rattle.component_linker.specs.Program as spec;
 ghost use Rattle.component_linker.specs.Stops as stops;
 ghost use Rattle.component_session.specs.Refusals.{IsCause, IsBuildCause, IsAuditCause};
 ghost use Rattle.component_session.specs.GroupView.{texts};
+ghost use Rattle.component_session.specs.Passed.handed_modules-Modules.{has_others};
 ghost use Rattle.component_session.specs.Texts.{files_of};
 ghost use Rattle.component_session.specs.Pushes.{AreTextsPushed};
 
@@ -244,8 +245,9 @@ fn hand_in_one<'a>(
     input: &'a Input,
     files: &'a [(&'a str, &'a [u8])],
 ) -> Result<(), Stop<'a>>
-    ensures main { OnOk result (spec.ReplacesMain files.entry.now session.old.resolved «package» line.entry.now input.entry.now session.old.main session.new.main) }
-    ensures rest { OnOk result (session.new ≡ record session.old { main = session.new.main }) }
+    requires { has_others session.old.modules ≡ false }
+    ensures modules { OnOk result (spec.HandsIn files.entry.now session.old.resolved «package» line.entry.now input.entry.now session.old.modules session.new.modules) }
+    ensures rest { OnOk result (session.new ≡ record session.old { modules = session.new.modules }) }
     ensures err { IfErr result (stops.IsInputStop files.entry.now session.old.resolved «package» (string_bytes line.entry.now.world) input.entry.now) }
 {
     let Input::Main { world, path } = input else {
@@ -257,8 +259,10 @@ fn hand_in_one<'a>(
         Err(error) => return Err(unresolved(session, error)),
     };
     let bytes = bytes_at(files, path.as_str())?;
-    session.module(bytes, world, encoding_of(line.encoding))?;
-    Ok(())
+    match session.module(bytes, world, encoding_of(line.encoding)) {
+        Ok(()) => Ok(()),
+        Err(fault) => Err(Stop::Refused(fault)),
+    }
 }
 
 /// Hands in the modules in order.
@@ -268,9 +272,9 @@ fn hand_in<'a>(
     line: &'a Line,
     files: &'a [(&'a str, &'a [u8])],
 ) -> Result<(), Stop<'a>>
-    requires { session.old.main ≡ None }
-    ensures main { OnOk result (spec.IsMain files.entry.now session.old.resolved «package» line.entry.now (spec.last_main line.entry.now.inputs.items) session.new.main) }
-    ensures rest { OnOk result (session.new ≡ record session.old { main = session.new.main }) }
+    requires { session.old.modules ≡ [] }
+    ensures modules { OnOk result (spec.AreModules files.entry.now session.old.resolved «package» line.entry.now (spec.last_main line.entry.now.inputs.items) session.new.modules) }
+    ensures rest { OnOk result (session.new ≡ record session.old { modules = session.new.modules }) }
     ensures err { IfErr result (stops.IsHandStop files.entry.now session.old.resolved «package» (string_bytes line.entry.now.world) line.entry.now.inputs.items) }
 {
     for input in &line.inputs {
@@ -427,7 +431,7 @@ fn complete<'a>(
     line: &'a Line,
     files: &'a [(&'a str, &'a [u8])],
 ) -> Result<(), Stop<'a>>
-    requires { session.old.main ≡ None }
+    requires { session.old.modules ≡ [] }
     ensures ok { OnOk result (spec.IsCompleted files.entry.now «package» line.entry.now session.old session.new) }
     ensures err { IfErr result (stops.IsCompleteStop files.entry.now session.old.resolved «package» line.entry.now) }
 {

@@ -5,6 +5,7 @@ pub mod Exact
 pub mod Linked
 pub mod Chosen
 pub mod Keeping
+pub mod Handing
 pub mod Exporting
 pub mod Grouped
 pub mod Switches

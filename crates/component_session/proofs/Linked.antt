@@ -18,7 +18,8 @@ use Rattle.text_graphs.specs.Passed.wit_resolution-Names.{known_of}
 use Rattle.wit_types.specs.declared.world.World.{World}
 use Rattle.wit_component.specs.Linking.{reading}
 use Rattle.wit_component.proofs.Readings.{reading_is}
-use Rattle.component_session.specs.Input.{Input, ModuleInput, world_at, worlds_of}
+use Rattle.handed_modules.specs.Modules.{ModuleInput}
+use Rattle.component_session.specs.Input.{Input, main_in, world_at, worlds_of}
 use Rattle.component_session.specs.Refusals.{ImportsBeyond, IsWide}
 
 -- a plain world fits
@@ -39,7 +40,7 @@ module _ (input : Input) (w : ℕ) (plain : WorldMeaning) (handed : ModuleInput)
   abbrev Beyond : World → WorldMeaning → ModuleValue → Type 0
   Beyond v p m = Any (IsBeyond (known_of input.resolved.graph.tables) v (names_of p.imports)) m.imports
 
-  pub no_imports : input.world ≡ Some w → world_at input w ≡ Some plain → input.main ≡ Some handed → IsModule handed.bytes core
+  pub no_imports : input.world ≡ Some w → world_at input w ≡ Some plain → main_in input ≡ Some handed → IsModule handed.bytes core
       → ((v : World) → slice_get (worlds_of input.resolved) w ≡ Some v → Beyond v plain core → ⊥) → ImportsBeyond input → ⊥
   no_imports chooses world hands reads none h =
       let chosen : w ≡ h.chosen = same_Some w h.chosen (sym chooses ∙ h.chooses) in
@@ -49,7 +50,7 @@ module _ (input : Input) (w : ℕ) (plain : WorldMeaning) (handed : ModuleInput)
       let one : core ≡ h.core = one_module h.handed.bytes core h.core (subst (λ (x : ModuleInput). IsModule x.bytes core) given reads) h.reads in
       none h.world at (subst (λ (p : WorldMeaning). Beyond h.world p core) (sym same) (subst (λ (m : ModuleValue). Beyond h.world h.plain m) (sym one) h.beyond))
 
-  pub imports_beyond : (v : World) → input.world ≡ Some w → world_at input w ≡ Some plain → input.main ≡ Some handed → IsModule handed.bytes core
+  pub imports_beyond : (v : World) → input.world ≡ Some w → world_at input w ≡ Some plain → main_in input ≡ Some handed → IsModule handed.bytes core
       → slice_get (worlds_of input.resolved) w ≡ Some v → Beyond v plain core → ImportsBeyond input
   imports_beyond v chooses world hands reads at beyond = record {
     chosen = w;

@@ -27,7 +27,8 @@ use Rattle.linked_components.specs.Build.{LinkedHaveNoCause, HasTwoNames}
 use Rattle.linked_components.specs.Passed.right_components-Outside.{AreInterfaceNames}
 use Rattle.linked_components.specs.Passed.type_sinks-Root.{InterfaceNames}
 use Rattle.linked_components.specs.Passed.wit_graph-Graph.{IsGraph}
-use Rattle.component_session.specs.Input.{Input, ModuleInput, world_at, IsLinkingOf, IsWideLinkingOf}
+use Rattle.handed_modules.specs.Modules.{ModuleInput}
+use Rattle.component_session.specs.Input.{Input, main_in, world_at, IsLinkingOf, IsWideLinkingOf}
 use Rattle.component_session.specs.Faults.{of_module}
 use Rattle.component_session.specs.Refusals.{ChangesNames, MergesTracks, OptionsBeyond, by_canonical_names, by_given_names, by_tracks, OfWide, HasNoTable, IsLinkingCause, IsCause, IsBuildCause, IsReady, IsWideReady}
 use Rattle.component_session.specs.Headline.{IsPlainlyBuilt, IsWidelyBuilt}
@@ -52,7 +53,7 @@ no_module_cause bytes core h modules.TooLarge cause = absurd (omega (arith, h.sm
 no_module_cause bytes core h modules.Malformed (small, e, breaks, is) = absurd ((one_break bytes e breaks).0 core h)
 no_module_cause bytes core h modules.Unsupported (small, e, breaks, is) = absurd ((one_break bytes e breaks).0 core h)
 
-no_bad_module : (input : Input) (here : ModuleInput) (read_as : ModuleValue) → input.main ≡ Some here → IsModule here.bytes read_as → (m : ModuleCause) → IsCause input (faults.BadModule m) → ⊥
+no_bad_module : (input : Input) (here : ModuleInput) (read_as : ModuleValue) → main_in input ≡ Some here → IsModule here.bytes read_as → (m : ModuleCause) → IsCause input (faults.BadModule m) → ⊥
 no_bad_module input here read_as given reads m (handed, hands, (n, is, cause)) =
     let same = same_Some here handed (sym given ∙ hands) in
     let read = subst (λ (x : ModuleInput). IsModule x.bytes read_as) same reads in
@@ -82,14 +83,17 @@ module _ (input : Input) (l : Linking) (h : IsReady input l) where
   no_wide_cause {P} fault (m, links, is_wide, cause) = absurd (h.plain is_wide)
 
   pub no_cause : (fault : Fault) → IsCause input fault → fault ≡ faults.OutOfMemory
-  no_cause faults.NotYet (inl (m, links, plain, cause)) = absurd (h.linkable.plain (subst IsStillToCome (one_linking input m l links h.links_input) cause))
-  no_cause faults.NotYet (inr (inl cause)) = no_wide_cause faults.NotYet cause
-  no_cause faults.NotYet (inr (inr cause)) = no_wide_cause faults.NotYet cause
+  no_cause faults.NotYet (inl others) = absurd (h.links_input.alone others)
+  no_cause faults.NotYet (inr (inl (m, links, plain, cause))) = absurd (h.linkable.plain (subst IsStillToCome (one_linking input m l links h.links_input) cause))
+  no_cause faults.NotYet (inr (inr (inl cause))) = no_wide_cause faults.NotYet cause
+  no_cause faults.NotYet (inr (inr (inr cause))) = no_wide_cause faults.NotYet cause
   no_cause faults.NoModule cause = let bad = sym h.links_input.hands ∙ cause in absurd cc
   no_cause faults.NoWorld cause = let bad = sym h.links_input.chooses ∙ cause in absurd cc
   no_cause faults.ExportUnsupplied cause = absurd (h.exports.all cause)
   no_cause faults.ExportNotInWorld cause = absurd (h.exports.alone cause)
   no_cause (faults.BadModule m) cause = absurd (no_bad_module input h.links_input.handed h.links_input.core h.links_input.hands h.links_input.reads m cause)
+  no_cause faults.UnknownAdapter cause = absurd cause
+  no_cause faults.DuplicateModule cause = absurd cause
   no_cause (faults.Linking fault) cause = absurd (no_linking_cause fault cause)
   no_cause faults.NoMemory cause = no_wide_cause faults.NoMemory cause
   no_cause faults.NoRealloc cause = no_wide_cause faults.NoRealloc cause
@@ -143,14 +147,17 @@ module _ (input : Input) (l : WideLinking) (law : LinkedHaveNoCause) (whole : Is
   no_core_cause linking.OutOfMemory cause = absurd cause
 
   pub wide_no_cause : (fault : Fault) → IsCause input fault → fault ≡ faults.OutOfMemory
-  wide_no_cause faults.NotYet (inl (m, links, plain, cause)) = absurd (plain h.wide)
-  wide_no_cause faults.NotYet (inr (inl (m, links, wide, cause))) = absurd (h.options cause)
-  wide_no_cause faults.NotYet (inr (inr cause)) = let bad = no_table_cause tables.NotYet cause in absurd cc
+  wide_no_cause faults.NotYet (inl others) = absurd (h.links_input.alone others)
+  wide_no_cause faults.NotYet (inr (inl (m, links, plain, cause))) = absurd (plain h.wide)
+  wide_no_cause faults.NotYet (inr (inr (inl (m, links, wide, cause)))) = absurd (h.options cause)
+  wide_no_cause faults.NotYet (inr (inr (inr cause))) = let bad = no_table_cause tables.NotYet cause in absurd cc
   wide_no_cause faults.NoModule cause = let bad = sym h.links_input.hands ∙ cause in absurd cc
   wide_no_cause faults.NoWorld cause = let bad = sym h.links_input.chooses ∙ cause in absurd cc
   wide_no_cause faults.ExportUnsupplied cause = absurd (h.exports.all cause)
   wide_no_cause faults.ExportNotInWorld cause = absurd (h.exports.alone cause)
   wide_no_cause (faults.BadModule m) cause = absurd (no_bad_module input h.links_input.handed l.main h.links_input.hands h.links_input.reads m cause)
+  wide_no_cause faults.UnknownAdapter cause = absurd cause
+  wide_no_cause faults.DuplicateModule cause = absurd cause
   wide_no_cause (faults.Linking fault) cause = absurd (no_core_cause fault cause)
   wide_no_cause faults.NoMemory cause = let bad = no_table_cause tables.NoMemory cause in absurd cc
   wide_no_cause faults.NoRealloc cause = let bad = no_table_cause tables.NoRealloc cause in absurd cc

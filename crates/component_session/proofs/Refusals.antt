@@ -23,12 +23,14 @@ use Rattle.component_audit.specs.Judged.{IsJudgeCause}
 -- ---- of an input
 
 pub input_cause_is : (input : Input) (fault : Fault) → IsInputCause input fault → IsCause input fault
-input_cause_is input faults.NotYet cause = absurd cause
+input_cause_is input faults.NotYet cause = inl cause
 input_cause_is input faults.NoModule cause = cause
 input_cause_is input faults.NoWorld cause = cause
 input_cause_is input faults.ExportUnsupplied cause = cause
 input_cause_is input faults.ExportNotInWorld cause = cause
 input_cause_is input (faults.BadModule m) cause = cause
+input_cause_is input faults.UnknownAdapter cause = absurd cause
+input_cause_is input faults.DuplicateModule cause = absurd cause
 input_cause_is input (faults.Linking f) cause = absurd cause
 input_cause_is input faults.NoMemory cause = absurd cause
 input_cause_is input faults.NoRealloc cause = absurd cause
@@ -45,7 +47,7 @@ input_audit_cause_is input bytes fault cause = IsAuditCause.of_input cause
 
 module _ (input : Input) (l : Linking) (links : IsLinkingOf input l) (exports : AreExportsSupplied input) (plain : IsWide input → ⊥) where
   pub link_cause_is : (fault : LinkFault) → IsLinkCause l fault → IsCause input (of_linking fault)
-  link_cause_is linking.NotYet cause = inl (l, links, plain, cause)
+  link_cause_is linking.NotYet cause = inr (inl (l, links, plain, cause))
   link_cause_is linking.DuplicateImport cause = inl (l, links, plain, cause)
   link_cause_is linking.UnknownImport cause = inl (l, links, plain, cause)
   link_cause_is linking.Ambiguous cause = inl (l, links, plain, cause)
@@ -74,7 +76,7 @@ module _ (input : Input) (l : Linking) (links : IsLinkingOf input l) (exports : 
 -- ---- of all that a world has
 
 pub options_cause_is : (input : Input) (l : WideLinking) → IsWideLinkingOf input l → IsWide input → OptionsBeyond input → IsCause input faults.NotYet
-options_cause_is input l links wide cause = inr (inl (l, links, wide, cause))
+options_cause_is input l links wide cause = inr (inr (inl (l, links, wide, cause)))
 
 module _ (input : Input) (l : WideLinking) (links : IsWideLinkingOf input l) (exports : AreExportsSupplied input) (wide : IsWide input) (options : OptionsBeyond input → ⊥) where
   core_cause_is : (fault : CoreFault) → IsTableCause l (tables.Link fault) → IsCause input (of_core fault)
@@ -88,7 +90,7 @@ module _ (input : Input) (l : WideLinking) (links : IsWideLinkingOf input l) (ex
   core_cause_is core.OutOfMemory cause = tt
 
   pub table_cause_is : (fault : TableFault) → IsTableCause l fault → IsCause input (of_table fault)
-  table_cause_is tables.NotYet cause = inr (inr (l, links, wide, cause))
+  table_cause_is tables.NotYet cause = inr (inr (inr (l, links, wide, cause)))
   table_cause_is (tables.Link fault) cause = core_cause_is fault cause
   table_cause_is tables.NoMemory cause = (l, links, wide, cause)
   table_cause_is tables.NoRealloc cause = (l, links, wide, cause)

@@ -28,10 +28,10 @@ module _ (input : Input) (references names validates : Bool) where
   other = with_switches input references names validates
 
   links_alike : (l : Linking) → IsLinkingOf input l → IsLinkingOf other l
-  links_alike l h = record { chosen = h.chosen; handed = h.handed; core = h.core; chooses = h.chooses; world = h.world; hands = h.hands; reads = h.reads; main = h.main; rejects = h.rejects }
+  links_alike l h = record { alone = h.alone; chosen = h.chosen; handed = h.handed; core = h.core; chooses = h.chooses; world = h.world; hands = h.hands; reads = h.reads; main = h.main; rejects = h.rejects }
 
   abbrev wide_links_alike : (l : WideLinking) → IsWideLinkingOf input l → IsWideLinkingOf other l
-  wide_links_alike l h = record { chosen = h.chosen; handed = h.handed; chooses = h.chooses; names = h.names; hands = h.hands; reads = h.reads; encoding = h.encoding; rejects = h.rejects }
+  wide_links_alike l h = record { alone = h.alone; chosen = h.chosen; handed = h.handed; chooses = h.chooses; names = h.names; hands = h.hands; reads = h.reads; encoding = h.encoding; rejects = h.rejects }
 
   beyond : ImportsBeyond input → ImportsBeyond other
   beyond h = record { chosen = h.chosen; world = h.world; plain = h.plain; handed = h.handed; core = h.core; chooses = h.chooses; world_is = h.world_is; plain_is = h.plain_is; hands = h.hands; reads = h.reads; beyond = h.beyond }
@@ -41,7 +41,7 @@ module _ (input : Input) (references names validates : Bool) where
   wide (by_import h) = by_import (beyond h)
 
   worlds : (chosen handed : World) → HaveWorlds input chosen handed → HaveWorlds other chosen handed
-  worlds chosen handed h = record { chosen_id = h.chosen_id; main = h.main; chooses = h.chooses; hands = h.hands; chosen_is = h.chosen_is; handed_is = h.handed_is }
+  worlds chosen handed h = record { single = h.single; chosen_id = h.chosen_id; main = h.main; chooses = h.chooses; hands = h.hands; chosen_is = h.chosen_is; handed_is = h.handed_is }
 
   lacks : LacksExports input → LacksExports other
   lacks (chosen, handed, are, more) = (chosen, handed, worlds chosen handed are, more)
@@ -65,6 +65,7 @@ module _ (input : Input) (references names validates : Bool) where
 
   supplied : AreExportsSupplied input → AreExportsSupplied new
   supplied h = record {
+    single = h.single;
     all = λ l. h.all (lacks new input.options.shim_return_call_ref input.options.debug_names input.options.validate l);
     alone = λ l. h.alone (has_others new input.options.shim_return_call_ref input.options.debug_names input.options.validate l);
   }
@@ -130,12 +131,14 @@ module _ (input : Input) (references names validates : Bool) where
   table_refused fault h = of_wide (λ l. IsTableCause l fault) h
 
   input_refused : (fault : Fault) → IsInputCause input fault → IsInputCause new fault
-  input_refused faults.NotYet cause = absurd cause
+  input_refused faults.NotYet cause = cause
   input_refused faults.NoModule cause = cause
   input_refused faults.NoWorld cause = cause
   input_refused faults.ExportUnsupplied cause = lacks input references names validates cause
   input_refused faults.ExportNotInWorld cause = has_others input references names validates cause
   input_refused (faults.BadModule m) cause = cause
+  input_refused faults.UnknownAdapter cause = absurd cause
+  input_refused faults.DuplicateModule cause = absurd cause
   input_refused (faults.Linking fault) cause = absurd cause
   input_refused faults.NoMemory cause = absurd cause
   input_refused faults.NoRealloc cause = absurd cause
@@ -143,14 +146,17 @@ module _ (input : Input) (references names validates : Bool) where
   input_refused faults.OutOfMemory cause = cause
 
   refused : (fault : Fault) → IsCause input fault → IsCause new fault
-  refused faults.NotYet (inl cause) = inl (of_linking IsStillToCome cause)
-  refused faults.NotYet (inr (inl (l, links, is_wide, asks))) = inr (inl (l, wide_links_alike input references names validates l links, wide input references names validates is_wide, options input references names validates asks))
-  refused faults.NotYet (inr (inr cause)) = inr (inr (table_refused tables.NotYet cause))
+  refused faults.NotYet (inl others) = inl others
+  refused faults.NotYet (inr (inl cause)) = inr (inl (of_linking IsStillToCome cause))
+  refused faults.NotYet (inr (inr (inl (l, links, is_wide, asks)))) = inr (inr (inl (l, wide_links_alike input references names validates l links, wide input references names validates is_wide, options input references names validates asks)))
+  refused faults.NotYet (inr (inr (inr cause))) = inr (inr (inr (table_refused tables.NotYet cause)))
   refused faults.NoModule cause = cause
   refused faults.NoWorld cause = cause
   refused faults.ExportUnsupplied cause = lacks input references names validates cause
   refused faults.ExportNotInWorld cause = has_others input references names validates cause
   refused (faults.BadModule m) cause = cause
+  refused faults.UnknownAdapter cause = absurd cause
+  refused faults.DuplicateModule cause = absurd cause
   refused (faults.Linking fault) cause = linking_refused fault cause
   refused faults.NoMemory cause = table_refused tables.NoMemory cause
   refused faults.NoRealloc cause = table_refused tables.NoRealloc cause

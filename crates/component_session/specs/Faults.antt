@@ -1,5 +1,7 @@
 -- Faults: what refusals of the layers below become, and the codes and names of them all, which are part of what the program prints.
 use Rattle.std.specs.Prelude.{ℕ, List, Option, Some, None, codes}
+use Rattle.handed_modules.specs.declared.fault.HandFault.{HandFault}
+use Rattle.handed_modules.specs.declared.fault.HandFault.TheVariants as handing
 use Rattle.wasm_format.specs.declared.fault.ModuleFault.{ModuleFault}
 use Rattle.wasm_format.specs.declared.fault.ModuleFault.TheVariants as reading
 use Rattle.wit_component.specs.declared.fault.Fault.{Fault as LinkFault}
@@ -24,6 +26,12 @@ of_module reading.Malformed = faults.BadModule modules.Malformed
 of_module reading.Unsupported = faults.BadModule modules.Unsupported
 of_module reading.TooLarge = faults.BadModule modules.TooLarge
 of_module reading.OutOfMemory = faults.OutOfMemory
+
+-- of modules that were handed in
+abbrev pub of_hand : HandFault → Fault
+of_hand handing.UnknownAdapter = faults.UnknownAdapter
+of_hand handing.DuplicateModule = faults.DuplicateModule
+of_hand handing.OutOfMemory = faults.OutOfMemory
 
 -- of what is linked
 abbrev pub of_linking : LinkFault → Fault
@@ -84,6 +92,8 @@ code faults.NoWorld = Some (codes "B2")
 code faults.ExportUnsupplied = Some (codes "B3")
 code faults.ExportNotInWorld = Some (codes "B5")
 code (faults.BadModule cause) = Some (module_code cause)
+code faults.UnknownAdapter = Some (codes "B22")
+code faults.DuplicateModule = Some (codes "B24")
 code (faults.Linking fault) = link.code fault
 code faults.NoMemory = Some (codes "B13")
 code faults.NoRealloc = Some (codes "B14")
@@ -109,6 +119,8 @@ name faults.NoWorld = codes "NoWorld"
 name faults.ExportUnsupplied = codes "ExportUnsupplied"
 name faults.ExportNotInWorld = codes "ExportNotInWorld"
 name (faults.BadModule cause) = module_name cause
+name faults.UnknownAdapter = codes "UnknownAdapter"
+name faults.DuplicateModule = codes "DuplicateModule"
 name (faults.Linking fault) = link.name fault
 name faults.NoMemory = codes "NoMemory"
 name faults.NoRealloc = codes "NoRealloc"

@@ -9,7 +9,7 @@ use Rattle.wit_component.specs.declared.fault.Fault.{Fault as LinkFault}
 use Rattle.wit_component.specs.declared.fault.Fault.TheVariants as linking
 use Rattle.component_session.specs.declared.fault.Fault.{Fault}
 use Rattle.component_session.specs.declared.fault.Fault.TheVariants as faults
-use Rattle.component_session.specs.Faults.{of_module}
+use Rattle.component_session.specs.Faults.{of_hand, of_module}
 use Rattle.wit_component.specs.Linking.{Linking}
 use Rattle.wit_component.specs.Cause.{IsStillToCome, IsLinkCause, IsLinkable, IsTooLarge}
 use Rattle.core_links.specs.declared.fault.LinkFault.{LinkFault as CoreFault}
@@ -24,7 +24,9 @@ use Rattle.component_audit.specs.Judged.{IsBeyond}
 use Rattle.export_keys.specs.Keys.{ExportsMore}
 use Rattle.text_graphs.specs.Passed.wit_resolution-Names.{known_of}
 use Rattle.wit_types.specs.declared.world.World.{World}
-use Rattle.component_session.specs.Input.{Input, ModuleInput, IsChosen, IsLinkingOf, IsWideLinkingOf, world_at, worlds_of}
+use Rattle.handed_modules.specs.Modules.{ModuleInput, IsHandCause}
+use Rattle.handed_modules.specs.declared.fault.HandFault.{HandFault}
+use Rattle.component_session.specs.Input.{Input, HasOthers, IsChosen, IsLinkingOf, IsWideLinkingOf, main_in, world_at, worlds_of}
 
 -- ---- what isn't plain
 
@@ -38,18 +40,19 @@ pub record ImportsBeyond (input : Input) : Type 0 where
   pub chooses : input.world ≡ Some chosen
   pub world_is : slice_get (worlds_of input.resolved) chosen ≡ Some world
   pub plain_is : plain_world world ≡ Some plain
-  pub hands : input.main ≡ Some handed
+  pub hands : main_in input ≡ Some handed
   pub reads : IsModule handed.bytes core
   pub beyond : Any (IsImportBeyond (known_of input.resolved.graph.tables) world (names_of plain.imports)) core.imports
 
 -- ---- what worlds export
 
--- the chosen world, and that of the main module
+-- the chosen world, and that of the main module, where this is the only one
 pub record HaveWorlds (input : Input) (chosen handed : World) : Type 0 where
+  pub single : HasOthers input → ⊥
   pub chosen_id : ℕ
   pub main : ModuleInput
   pub chooses : input.world ≡ Some chosen_id
-  pub hands : input.main ≡ Some main
+  pub hands : main_in input ≡ Some main
   pub chosen_is : slice_get (worlds_of input.resolved) chosen_id ≡ Some chosen
   pub handed_is : slice_get (worlds_of input.resolved) main.world ≡ Some handed
 
@@ -61,8 +64,9 @@ LacksExports input = (chosen : World) × (handed : World) × HaveWorlds input ch
 abbrev pub HasOtherExports : Input → Type 0
 HasOtherExports input = (chosen : World) × (handed : World) × HaveWorlds input chosen handed × ExportsMore handed chosen
 
--- the main module's world exports exactly what the chosen one does
+-- the main module is the only one, and its world exports exactly what the chosen one does
 pub record AreExportsSupplied (input : Input) : Type 0 where
+  pub single : HasOthers input → ⊥
   pub all : LacksExports input → ⊥
   pub alone : HasOtherExports input → ⊥
 
@@ -95,11 +99,17 @@ pub record IsPlain (input : Input) (plain : WorldMeaning) : Type 0 where
   pub chosen : IsChosen input plain
   pub here : IsWide input → ⊥
 
--- ---- why links aren't answered
+-- ---- why a module isn't taken
 
 -- the module's bytes aren't read: the refusal is that of the module reader
 abbrev pub IsModuleCause : List ℕ → Fault → Type 0
 IsModuleCause bytes fault = (m : ModuleFault) × (of_module m ≡ fault) × IsModuleFault bytes m
+
+-- or it doesn't go with those that were handed in
+abbrev pub IsHandInCause : List ModuleInput → ModuleInput → Fault → Type 0
+IsHandInCause modules m fault = IsModuleCause m.bytes fault ⊎ ((why : HandFault) × (of_hand why ≡ fault) × IsHandCause modules m why)
+
+-- ---- why links aren't answered
 
 -- the input links plain functions, and this is so of that
 abbrev pub OfLinking : Input → (Linking → Type 0) → Type 0
@@ -125,14 +135,16 @@ IsLinkingCause input linking.MissingCoreExport = HasNoTable input linking.Missin
 IsLinkingCause input linking.TooLarge = ⊥
 IsLinkingCause input linking.OutOfMemory = ⊥
 
--- what is linked doesn't count
+-- what is linked doesn't count; adapters and libraries are still to come
 abbrev pub IsInputCause : Input → Fault → Type 0
-IsInputCause input faults.NotYet = ⊥
-IsInputCause input faults.NoModule = input.main ≡ None
+IsInputCause input faults.NotYet = HasOthers input
+IsInputCause input faults.NoModule = main_in input ≡ None
 IsInputCause input faults.NoWorld = input.world ≡ None
 IsInputCause input faults.ExportUnsupplied = LacksExports input
 IsInputCause input faults.ExportNotInWorld = HasOtherExports input
-IsInputCause input (faults.BadModule cause) = (handed : ModuleInput) × (input.main ≡ Some handed) × IsModuleCause handed.bytes (faults.BadModule cause)
+IsInputCause input (faults.BadModule cause) = (handed : ModuleInput) × (main_in input ≡ Some handed) × IsModuleCause handed.bytes (faults.BadModule cause)
+IsInputCause input faults.UnknownAdapter = ⊥
+IsInputCause input faults.DuplicateModule = ⊥
 IsInputCause input (faults.Linking cause) = ⊥
 IsInputCause input faults.NoMemory = ⊥
 IsInputCause input faults.NoRealloc = ⊥
@@ -141,12 +153,14 @@ IsInputCause input faults.OutOfMemory = Unit {0}
 
 -- why links aren't answered
 abbrev pub IsCause : Input → Fault → Type 0
-IsCause input faults.NotYet = OfLinking input IsStillToCome ⊎ (OfWide input (λ l. OptionsBeyond input) ⊎ OfWide input (λ l. IsTableCause l tables.NotYet))
+IsCause input faults.NotYet = IsInputCause input faults.NotYet ⊎ (OfLinking input IsStillToCome ⊎ (OfWide input (λ l. OptionsBeyond input) ⊎ OfWide input (λ l. IsTableCause l tables.NotYet)))
 IsCause input faults.NoModule = IsInputCause input faults.NoModule
 IsCause input faults.NoWorld = IsInputCause input faults.NoWorld
 IsCause input faults.ExportUnsupplied = IsInputCause input faults.ExportUnsupplied
 IsCause input faults.ExportNotInWorld = IsInputCause input faults.ExportNotInWorld
 IsCause input (faults.BadModule cause) = IsInputCause input (faults.BadModule cause)
+IsCause input faults.UnknownAdapter = ⊥
+IsCause input faults.DuplicateModule = ⊥
 IsCause input (faults.Linking cause) = IsLinkingCause input cause
 IsCause input faults.NoMemory = OfWide input (λ l. IsTableCause l tables.NoMemory)
 IsCause input faults.NoRealloc = OfWide input (λ l. IsTableCause l tables.NoRealloc)

@@ -2,9 +2,10 @@
 
 ghost use Rattle.std.specs.Prelude.{◌≡◌, option_map};
 ghost use Rattle.component_session.specs.Faults as spec;
-ghost use Rattle.component_session.specs.Faults.{of_core, of_module};
+ghost use Rattle.component_session.specs.Faults.{of_core, of_hand, of_module};
 
 use core_links::LinkFault as CoreFault;
+use handed_modules::HandFault;
 use linked_components::{ComponentFault, TableFault};
 use linked_types::TypeFault;
 use std::alloc::{AllocError, AllocFailed};
@@ -47,6 +48,12 @@ pub enum Fault {
     /// B6: the bytes of a module can't be read, for M1, M2 or M3.
     #[error("{0}")]
     BadModule(ModuleCause),
+    /// B22: an argument of a library names neither the library itself nor an adapter or library that was handed in.
+    #[error("B22 UnknownAdapter")]
+    UnknownAdapter,
+    /// B24: another module that stays has the same bytes.
+    #[error("B24 DuplicateModule")]
+    DuplicateModule,
     /// B7 to B12: what is linked has no link table; B25: no component says it. Never X1 or want of memory, which are `NotYet` and
     /// `OutOfMemory`.
     #[error("{0}")]
@@ -190,6 +197,17 @@ pub fn module_refusal(fault: ModuleFault) -> Fault
     }
 }
 
+/// What a refusal of modules that don't go together becomes.
+pub fn hand_refusal(fault: HandFault) -> Fault
+    ensures { result ≡ of_hand fault }
+{
+    match fault {
+        HandFault::UnknownAdapter => Fault::UnknownAdapter,
+        HandFault::DuplicateModule => Fault::DuplicateModule,
+        HandFault::OutOfMemory => Fault::OutOfMemory,
+    }
+}
+
 impl ModuleCause {
     /// Its code, as `M1`.
     pub fn code(self) -> &'static str
@@ -226,6 +244,8 @@ impl Fault {
             Fault::ExportUnsupplied => Some("B3"),
             Fault::ExportNotInWorld => Some("B5"),
             Fault::BadModule(cause) => Some(cause.code()),
+            Fault::UnknownAdapter => Some("B22"),
+            Fault::DuplicateModule => Some("B24"),
             Fault::Linking(fault) => fault.code(),
             Fault::NoMemory => Some("B13"),
             Fault::NoRealloc => Some("B14"),
@@ -245,6 +265,8 @@ impl Fault {
             Fault::ExportUnsupplied => "ExportUnsupplied",
             Fault::ExportNotInWorld => "ExportNotInWorld",
             Fault::BadModule(cause) => cause.name(),
+            Fault::UnknownAdapter => "UnknownAdapter",
+            Fault::DuplicateModule => "DuplicateModule",
             Fault::Linking(fault) => fault.name(),
             Fault::NoMemory => "NoMemory",
             Fault::NoRealloc => "NoRealloc",

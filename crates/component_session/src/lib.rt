@@ -9,6 +9,9 @@ mod session;
 
 pub use component_audit::Verdict;
 pub use fault::{Fault, ModuleCause};
+pub use handed_modules::{
+    HandedModule, HandedModules, Instance, Item, LibraryInfo, MainOrAdapter, ModuleKind,
+};
 pub use law::{
     law_audit_of_what_was_built, law_built_has_no_cause, law_ready_has_no_cause,
     law_right_is_judged_yes, law_switches_change_nothing, law_wide_ready_has_no_cause,
@@ -17,8 +20,9 @@ pub use law::{
 pub use linked_types::TypeFault;
 pub use linking::audit;
 pub use options::Options;
-pub use session::{HandedModule, Session};
+pub use session::Session;
 pub use text_graphs::{Resolve, ResolveError, ResolveErrorKind};
+pub use wasm_types::ExportKind;
 pub use wit_component::{
     Fault as LinkFault, FindingKind, Link, LinkKind, LinkSide, Owner, StringEncoding,
 };

@@ -1,7 +1,7 @@
 //! What a session links: its link table, its component, and the judgement of one.
 
 ghost use Rattle.std.specs.Prelude.{◌≡◌, ◌<◌, true, false, length, None, Some, Err, IfOk, IfErr, IfSome, OnOk, Any, map, slice_get};
-ghost use Rattle.component_session.specs.Handed.{module_input};
+ghost use Rattle.handed_modules.specs.Modules.{module_input};
 ghost use Rattle.component_session.specs.Headline as headline;
 ghost use Rattle.component_session.specs.Input as inputs;
 ghost use Rattle.component_session.specs.Refusals as refusals;
@@ -15,12 +15,13 @@ ghost use Rattle.text_graphs.specs.Passed.wit_resolution-Names.{known_of};
 ghost use Rattle.wit_types.specs.declared.world.World.{World as WitWorld};
 
 use crate::fault::{Fault, module_refusal};
-use crate::session::{HandedModule, Session};
+use crate::session::Session;
 use binary_grammar::ReadError;
 use component_audit::{Verdict, judge};
 use component_sections::read_definitions;
 use core_links::CoreNames;
 use export_keys::exports_all;
+use handed_modules::{HandedModule, law_modules_are_kept};
 use labelled_worlds::{law_exported_functions_are_apart, law_worlds_have_parts_apart};
 use linked_components::{Linking as WideLinking, names_change, tracks_are_apart};
 use plain_imports::imports_fit;
@@ -42,13 +43,15 @@ struct MainModule<'a> {
 impl<'a> Session<'a> {
     /// Refuses a main module whose world doesn't export exactly what the chosen one does, by keys.
     fn check_exports(&self, world: WorldId, main: &HandedModule<'_>) -> Result<(), Fault>
+        requires single { inputs.HasOthers self.now → ⊥ }
         requires chosen { self.now.world ≡ Some world }
-        requires main { self.now.main ≡ Some (module_input main.now) }
+        requires main { inputs.main_in self.now ≡ Some (module_input main.now) }
         ensures ok { OnOk result (refusals.AreExportsSupplied self.now) }
         ensures cause { IfErr result (refusals.IsInputCause self.now) }
     {
         self.law_chosen_is_there();
-        self.law_main_world_is_there();
+        self.law_module_worlds_are_there();
+        law_modules_are_kept();
         let worlds = self.resolve().worlds();
         let chosen = worlds.get(world);
         let handed = worlds.get(main.world);
@@ -61,16 +64,19 @@ impl<'a> Session<'a> {
         Ok(())
     }
 
-    /// The chosen world, where the main module's world exports what it does.
+    /// The chosen world, where the main module is the only one and its world exports what the chosen one does.
     fn chosen_world(&self) -> Result<WorldId, Fault>
         ensures found { IfOk result (λ w. self.now.world ≡ Some w) }
         ensures exports { OnOk result (refusals.AreExportsSupplied self.now) }
         ensures cause { IfErr result (refusals.IsInputCause self.now) }
-        ensures first { self.now.main ≡ None → result ≡ Err Fault.NoModule }
+        ensures first { inputs.main_in self.now ≡ None → result ≡ Err Fault.NoModule }
     {
-        let Some(main) = self.main() else {
+        let Some(main) = self.modules().main() else {
             return Err(Fault::NoModule);
         };
+        if self.modules().has_others() {
+            return Err(Fault::NotYet);
+        }
         let Some(world) = self.world() else {
             return Err(Fault::NoWorld);
         };
@@ -78,12 +84,13 @@ impl<'a> Session<'a> {
         Ok(world)
     }
 
-    /// The main module, as its bytes are read.
+    /// The main module, where it is the only one, as its bytes are read.
     fn main_module(&self) -> Result<MainModule<'a>, Fault>
+        requires { inputs.HasOthers self.now → ⊥ }
         ensures found { IfOk result (λ m. inputs.IsMainModule self.now m.bytes.now m.encoding (module_value m.core)) }
         ensures cause { IfErr result (refusals.IsInputCause self.now) }
     {
-        let Some(handed) = self.main() else {
+        let Some(handed) = self.modules().main() else {
             return Err(Fault::NoModule);
         };
         match read_module(self.allocator(), handed.bytes) {
@@ -256,11 +263,11 @@ impl<'a> Session<'a> {
     /// The link table: what each core import of the main module and each exported function of the world ends at,
     /// imports first, by module text and then by name.
     ///
-    /// Answers B1 before any other cause, X1, B2, B3, B5, and B7 to B17.
+    /// Answers B1 before any other cause, X1, which it is where adapters or libraries were handed in too, B2, B3, B5, and B7 to B17.
     pub fn links(&self) -> Result<Vec<Link>, Fault>
         ensures links { IfOk result (λ v. headline.IsLinkTable self.now (map link_value v.items)) }
         ensures cause { IfErr result (refusals.IsCause self.now) }
-        ensures first { self.now.main ≡ None → result ≡ Err Fault.NoModule }
+        ensures first { inputs.main_in self.now ≡ None → result ≡ Err Fault.NoModule }
     {
         self.law_chosen_is_there();
         let world = self.chosen_world()?;
@@ -310,7 +317,7 @@ impl<'a> Session<'a> {
     fn built(&self) -> Result<Vec<u8>, Fault>
         ensures right { IfOk result (λ v. headline.IsBuilt self.now v.items) }
         ensures cause { IfErr result (refusals.IsBuildCause self.now) }
-        ensures first { self.now.main ≡ None → result ≡ Err Fault.NoModule }
+        ensures first { inputs.main_in self.now ≡ None → result ≡ Err Fault.NoModule }
     {
         self.law_chosen_is_there();
         let world = self.chosen_world()?;
@@ -327,7 +334,7 @@ impl<'a> Session<'a> {
     pub fn build(&self) -> Result<Vec<u8>, Fault>
         ensures right { IfOk result (λ v. headline.IsBuilt self.now v.items) }
         ensures cause { IfErr result (refusals.IsBuildCause self.now) }
-        ensures first { self.now.main ≡ None → result ≡ Err Fault.NoModule }
+        ensures first { inputs.main_in self.now ≡ None → result ≡ Err Fault.NoModule }
     {
         let bytes = self.built()?;
         if self.options().validate {
@@ -369,7 +376,7 @@ impl<'a> Session<'a> {
     pub(crate) fn audit(&self, bytes: &[u8]) -> Result<Verdict, Fault>
         ensures verdict { IfOk result (headline.IsJudged self.now bytes.now) }
         ensures cause { IfErr result (refusals.IsAuditCause self.now bytes.now) }
-        ensures first { self.now.main ≡ None → result ≡ Err Fault.NoModule }
+        ensures first { inputs.main_in self.now ≡ None → result ≡ Err Fault.NoModule }
     {
         self.law_chosen_is_there();
         let world = self.chosen_world()?;
@@ -391,7 +398,7 @@ impl<'a> Session<'a> {
 pub fn audit(session: &Session, bytes: &[u8]) -> Result<Verdict, Fault>
     ensures verdict { IfOk result (headline.IsJudged session.now bytes.now) }
     ensures cause { IfErr result (refusals.IsAuditCause session.now bytes.now) }
-    ensures first { session.now.main ≡ None → result ≡ Err Fault.NoModule }
+    ensures first { inputs.main_in session.now ≡ None → result ≡ Err Fault.NoModule }
 {
     session.audit(bytes)
 }

@@ -1,13 +1,15 @@
 //! A session: texts, a chosen world, modules and options.
 
-ghost use Rattle.std.specs.Prelude.{◌≡◌, ℕ, ◌<◌, ◌∷◌, [], length, Some, Err, IfOk, OnOk, OnErr, IfErr, MatchResult, option_map};
-ghost use Rattle.component_session.specs.Refusals.{IsModuleCause};
+ghost use Rattle.std.specs.Prelude.{◌≡◌, ℕ, ◌<◌, ◌∷◌, [], length, map, false, Some, IfOk, OnOk, OnErr, IfErr, MatchResult, option_map};
+ghost use Rattle.component_session.specs.Refusals.{IsModuleCause, IsHandInCause};
 ghost use Rattle.component_session.specs.Coming.{files_of_groups};
 ghost use Rattle.text_graphs.specs.Coming as coming;
 ghost use Rattle.text_graphs.specs.Coming.{ComeOfTexts};
 ghost use Rattle.text_graphs.specs.Meant.{MeansItsTexts};
 ghost use Rattle.text_graphs.specs.There.{AreAllThere};
-ghost use Rattle.component_session.specs.Handed.{pairs_of};
+ghost use Rattle.component_session.specs.Handed.{main_input, adapter_input, library_input, pairs_of};
+ghost use Rattle.handed_modules.specs.Library.{argument_input};
+ghost use Rattle.handed_modules.specs.Modules.{ModuleInput, IsDuplicate, NamesUnknown, has_others, with_module, module_input};
 ghost use Rattle.wasm_format.specs.Grammar.{IsModule};
 ghost use Rattle.wasm_format.specs.Module.{ModuleValue};
 ghost use Rattle.wit_features.specs.Features.{with_name};
@@ -20,8 +22,9 @@ ghost use Rattle.text_graphs.specs.Passed.wit_resolution-Texts.{files_of, IsGrou
 ghost use Rattle.wit_selection.specs.Selection.{IsSelected, IsSelectCause};
 ghost use Rattle.wit_selection.specs.declared.selection.SelectFault.{SelectFault};
 
-use crate::fault::{Fault, module_refusal};
+use crate::fault::{Fault, hand_refusal, module_refusal};
 use crate::options::Options;
+use handed_modules::{HandedModule, HandedModules, LibraryInfo, ModuleKind, law_modules_are_kept};
 use std::alloc::{AllocError, Global};
 use std::collections::HashMap;
 use std::marker::Model;
@@ -34,12 +37,16 @@ use wasm_format::read_module;
 use wit_component::StringEncoding;
 use wit_types::{PackageId, PackageName, WorldId};
 
-/// A module that was handed in.
-#[derive(Clone, Copy)]
-pub struct HandedModule<'a> {
-    pub bytes: &'a [u8],
-    pub world: WorldId,
-    pub encoding: StringEncoding,
+/// Refuses bytes that aren't read.
+fn check_module(alloc: Global, bytes: &[u8]) -> Result<(), Fault>
+    ensures read { OnOk result ((m : ModuleValue) × IsModule bytes.now m) }
+    ensures only { (m : ModuleValue) → IsModule bytes.now m → MatchResult result (λ _. Unit {0}) (λ e. e ≡ Fault.OutOfMemory) }
+    ensures cause { IfErr result (IsModuleCause bytes.now) }
+{
+    if let Err(fault) = read_module(alloc, bytes) {
+        return Err(module_refusal(fault));
+    }
+    Ok(())
 }
 
 /// Texts, a chosen world, modules and options, from which a component is built, and against which one is
@@ -48,7 +55,7 @@ pub struct Session<'a> {
     alloc: Global,
     resolve: Resolve,
     world: Option<WorldId>,
-    main: Option<HandedModule<'a>>,
+    modules: HandedModules<'a>,
     options: Options,
 }
 
@@ -59,7 +66,7 @@ impl Drop for Session<'_> {
             alloc: _,
             resolve: _,
             world: _,
-            main: _,
+            modules: _,
             options: _,
         } = self;
     }
@@ -67,8 +74,6 @@ impl Drop for Session<'_> {
 
 impl<'a> Model for Session<'a> {
     ghost use Rattle.std.specs.Coded.{codes};
-    ghost use Rattle.std.specs.Prelude.{option_map};
-    ghost use Rattle.component_session.specs.Handed.{module_input};
     ghost use Rattle.component_session.specs.Input.{Input};
     ghost use Rattle.component_session.specs.Kept.{WellKept};
     ghost use Rattle.text_graphs.specs.Passed.wit_resolution-contracts-resolve-Resolve as all;
@@ -80,16 +85,14 @@ impl<'a> Model for Session<'a> {
     ghost view = { λ s. record {
       resolved = s.resolve;
       world = s.world;
-      main = option_map module_input s.main;
+      modules = s.modules;
       options = s.options;
     } };
 
-    ghost invariant = { λ s. WellKept ⟦<PackageName as PartialEq>⟧.eq s.resolve s.world (option_map module_input s.main) };
+    ghost invariant = { λ s. WellKept ⟦<PackageName as PartialEq>⟧.eq s.resolve s.world s.modules };
 }
 
 impl<'a> Session<'a> {
-    ghost use Rattle.std.specs.Option.{option_copied};
-    ghost use Rattle.component_session.specs.Handed.{module_input};
     ghost use Rattle.std.specs.Option.{ForSome};
     ghost use Rattle.component_session.specs.Input.{empty_input, worlds_of};
 
@@ -101,7 +104,7 @@ impl<'a> Session<'a> {
             alloc,
             resolve: Resolve::new(alloc),
             world: None,
-            main: None,
+            modules: HandedModules::new(alloc),
             options: Options::new(alloc),
         }
     }
@@ -151,9 +154,9 @@ impl<'a> Session<'a> {
         let _ = &self.resolve;
     }
 
-    /// And so is the world of the main module.
-    pub(crate) fn law_main_world_is_there(&self)
-        ensures { ForSome self.now.main (λ m. m.world < length (worlds_of self.now.resolved)) }
+    /// And so is the world of each module.
+    pub(crate) fn law_module_worlds_are_there(&self)
+        ensures { (m : ModuleInput) → Has self.now.modules m → m.world < length (worlds_of self.now.resolved) }
     {
         let _ = &self.resolve;
     }
@@ -165,11 +168,11 @@ impl<'a> Session<'a> {
         self.world
     }
 
-    /// The main module.
-    pub fn main(&self) -> Option<&HandedModule<'a>>
-        ensures { option_map module_input (option_copied result) ≡ self.now.main }
+    /// The modules: the main module, and adapters and libraries, in the order of their first hand-in.
+    pub fn modules(&self) -> &HandedModules<'a>
+        ensures { result.now ≡ self.now.modules }
     {
-        self.main.as_ref()
+        &self.modules
     }
 
     /// The options.
@@ -291,10 +294,31 @@ impl<'a> Session<'a> {
         self.resolve.select_world(main, name)
     }
 
-    /// Hands in the main module, with the world whose exports it supplies and the encoding of its strings; one
-    /// handed in before is replaced.
+    /// Takes a module whose bytes are read.
+    fn hand_in(&mut self, handed: HandedModule<'a>) -> Result<(), Fault>
+        requires { handed.world < length (worlds_of self.old.resolved) }
+        ensures ok { OnOk result (self.new ≡ record self.old { modules = with_module (module_input handed.entry) self.old.modules }) }
+        ensures read { OnOk result ((m : ModuleValue) × IsModule handed.entry.bytes.now m) }
+        ensures other { OnOk result (IsDuplicate self.old.modules (module_input handed.entry) → ⊥) }
+        ensures known { OnOk result (NamesUnknown self.old.modules (module_input handed.entry) → ⊥) }
+        ensures only { (m : ModuleValue) → IsModule handed.entry.bytes.now m → (IsDuplicate self.old.modules (module_input handed.entry) → ⊥) → (NamesUnknown self.old.modules (module_input handed.entry) → ⊥) → MatchResult result (λ _. Unit {0}) (λ e. e ≡ Fault.OutOfMemory) }
+        ensures cause { IfErr result (IsHandInCause self.old.modules (module_input handed.entry)) }
+        ensures err { OnErr result (self.new ≡ self.old) }
+    {
+        law_modules_are_kept();
+        if let Err(fault) = check_module(self.alloc, handed.bytes) {
+            return Err(fault);
+        }
+        match self.modules.hand_in(handed) {
+            Ok(()) => Ok(()),
+            Err(fault) => Err(hand_refusal(fault)),
+        }
+    }
+
+    /// Hands in the main module, with the world whose exports it supplies and the encoding of its strings; one handed in before is replaced.
     ///
-    /// Refuses with M1, M2 or M3 (B6) where the module reader refuses the bytes.
+    /// Refuses with M1, M2 or M3 (B6) where the module reader refuses the bytes, and with B24 where another module that stays has the same. A
+    /// refused call changes nothing.
     pub fn module(
         &mut self,
         bytes: &'a [u8],
@@ -302,49 +326,83 @@ impl<'a> Session<'a> {
         encoding: StringEncoding,
     ) -> Result<(), Fault>
         requires { world < length (worlds_of self.old.resolved) }
-        ensures ok { OnOk result (self.new ≡ record self.old { main = Some (record { bytes = bytes.entry.now; world = world; encoding = encoding }) }) }
+        ensures ok { OnOk result (self.new ≡ record self.old { modules = with_module (main_input bytes.entry.now world encoding) self.old.modules }) }
         ensures read { OnOk result ((m : ModuleValue) × IsModule bytes.entry.now m) }
-        ensures only { (m : ModuleValue) → IsModule bytes.entry.now m → MatchResult result (λ _. Unit {0}) (λ e. e ≡ Fault.OutOfMemory) }
-        ensures cause { IfErr result (IsModuleCause bytes.entry.now) }
+        ensures other { OnOk result (IsDuplicate self.old.modules (main_input bytes.entry.now world encoding) → ⊥) }
+        ensures only { (m : ModuleValue) → IsModule bytes.entry.now m → (IsDuplicate self.old.modules (main_input bytes.entry.now world encoding) → ⊥) → MatchResult result (λ _. Unit {0}) (λ e. e ≡ Fault.OutOfMemory) }
+        ensures cause { IfErr result (IsHandInCause self.old.modules (main_input bytes.entry.now world encoding)) }
+        ensures single { has_others self.old.modules ≡ false → IfErr result (IsModuleCause bytes.entry.now) }
         ensures err { OnErr result (self.new ≡ self.old) }
     {
-        if let Err(fault) = read_module(self.alloc, bytes) {
-            return Err(module_refusal(fault));
-        }
-        self.main = Some(HandedModule {
+        law_modules_are_kept();
+        self.hand_in(HandedModule {
+            name: String::new(self.alloc),
+            kind: ModuleKind::Main,
             bytes,
             world,
             encoding,
-        });
-        Ok(())
+            arguments: Vec::new(self.alloc),
+        })
     }
 
-    /// Hands in an adapter: still to come.
+    /// Hands in an adapter, which supplies what other modules import, under its name, as `module` does. Another adapter or library of that name is
+    /// replaced. Nothing is linked yet where there is one.
     pub fn adapter(
         &mut self,
-        _name: &str,
-        _bytes: &'a [u8],
-        _world: WorldId,
-        _encoding: StringEncoding,
+        name: &str,
+        bytes: &'a [u8],
+        world: WorldId,
+        encoding: StringEncoding,
     ) -> Result<(), Fault>
-        ensures refused { result ≡ Err Fault.NotYet }
-        ensures same { self.new ≡ self.old }
+        requires { world < length (worlds_of self.old.resolved) }
+        ensures ok { OnOk result (self.new ≡ record self.old { modules = with_module (adapter_input name.now bytes.entry.now world encoding) self.old.modules }) }
+        ensures read { OnOk result ((m : ModuleValue) × IsModule bytes.entry.now m) }
+        ensures other { OnOk result (IsDuplicate self.old.modules (adapter_input name.now bytes.entry.now world encoding) → ⊥) }
+        ensures only { (m : ModuleValue) → IsModule bytes.entry.now m → (IsDuplicate self.old.modules (adapter_input name.now bytes.entry.now world encoding) → ⊥) → MatchResult result (λ _. Unit {0}) (λ e. e ≡ Fault.OutOfMemory) }
+        ensures cause { IfErr result (IsHandInCause self.old.modules (adapter_input name.now bytes.entry.now world encoding)) }
+        ensures err { OnErr result (self.new ≡ self.old) }
     {
-        Err(Fault::NotYet)
+        let name = String::from_str(self.alloc, name)?;
+        self.hand_in(HandedModule {
+            name,
+            kind: ModuleKind::Adapter,
+            bytes,
+            world,
+            encoding,
+            arguments: Vec::new(self.alloc),
+        })
     }
 
-    /// Hands in a library: still to come.
+    /// Hands in a library, as `adapter` does an adapter, with the instances that it is given under the texts by which its core imports name them.
+    ///
+    /// Refuses with B22, too, where an argument names neither the library itself nor an adapter or library that was handed in; with B24 where both
+    /// are so.
     pub fn library(
         &mut self,
-        _name: &str,
-        _bytes: &'a [u8],
-        _world: WorldId,
-        _encoding: StringEncoding,
+        name: &str,
+        bytes: &'a [u8],
+        world: WorldId,
+        encoding: StringEncoding,
+        info: LibraryInfo,
     ) -> Result<(), Fault>
-        ensures refused { result ≡ Err Fault.NotYet }
-        ensures same { self.new ≡ self.old }
+        requires { world < length (worlds_of self.old.resolved) }
+        ensures ok { OnOk result (self.new ≡ record self.old { modules = with_module (library_input name.now bytes.entry.now world encoding (map argument_input info.arguments.items)) self.old.modules }) }
+        ensures read { OnOk result ((m : ModuleValue) × IsModule bytes.entry.now m) }
+        ensures other { OnOk result (IsDuplicate self.old.modules (library_input name.now bytes.entry.now world encoding (map argument_input info.arguments.items)) → ⊥) }
+        ensures known { OnOk result (NamesUnknown self.old.modules (library_input name.now bytes.entry.now world encoding (map argument_input info.arguments.items)) → ⊥) }
+        ensures only { (m : ModuleValue) → IsModule bytes.entry.now m → (IsDuplicate self.old.modules (library_input name.now bytes.entry.now world encoding (map argument_input info.arguments.items)) → ⊥) → (NamesUnknown self.old.modules (library_input name.now bytes.entry.now world encoding (map argument_input info.arguments.items)) → ⊥) → MatchResult result (λ _. Unit {0}) (λ e. e ≡ Fault.OutOfMemory) }
+        ensures cause { IfErr result (IsHandInCause self.old.modules (library_input name.now bytes.entry.now world encoding (map argument_input info.arguments.items))) }
+        ensures err { OnErr result (self.new ≡ self.old) }
     {
-        Err(Fault::NotYet)
+        let name = String::from_str(self.alloc, name)?;
+        self.hand_in(HandedModule {
+            name,
+            kind: ModuleKind::Library,
+            bytes,
+            world,
+            encoding,
+            arguments: info.arguments,
+        })
     }
 
     /// Whether imported interfaces of one version track are merged; at first they are.

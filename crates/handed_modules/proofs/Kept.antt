@@ -4,7 +4,7 @@ use Rattle.std.specs.Prelude.{is_none, slice_get}
 use Rattle.std.proofs.lemmas.Slice.Eq.{bytes_eq-Decides}
 use Rattle.wit_order.specs.Order.{Has}
 use Rattle.handed_modules.specs.Law.{ModulesAreKept}
-use Rattle.handed_modules.specs.Modules.{ModuleInput, AreApart, owner, same_owner, is_main, main_module, with_module, has_others}
+use Rattle.handed_modules.specs.Modules.{ModuleInput, AreApart, IsDuplicate, owner, same_owner, is_main, main_module, with_module, has_others}
 
 abbrev takes : ModuleInput → ModuleInput → Bool
 takes m n = same_owner (owner m) (owner n)
@@ -73,6 +73,14 @@ alone m (n ∷ ns) h = by (is_main n) refl (alone m ns h)
     by : (b : Bool) → is_main n ≡ b → has_others (with_module m ns) ≡ has_others ns → has_others (with_module m (n ∷ ns)) ≡ has_others (n ∷ ns)
     by true t more = (let takes_it : takes m n ≡ true = main_takes (owner m) (owner n) h ∙ t in rw takes_it (rw h (rw t refl)))
     by false t more = (let leaves : takes m n ≡ false = main_takes (owner m) (owner n) h ∙ t in rw leaves (ap (λ (b : Bool). not (is_main n) || b) more))
+
+unlike : (m : ModuleInput) (ms : List ModuleInput) → is_main m ≡ true → has_others ms ≡ false → IsDuplicate ms m → ⊥
+unlike m [] h none twice = absurd cc
+unlike m (n ∷ ns) h none twice = by (is_main n) refl none twice (unlike m ns h)
+  where
+    by : (b : Bool) → is_main n ≡ b → has_others (n ∷ ns) ≡ false → IsDuplicate (n ∷ ns) m → (has_others ns ≡ false → IsDuplicate ns m → ⊥) → ⊥
+    by true t left same more = (let takes_it : takes m n ≡ true = main_takes (owner m) (owner n) h ∙ t in more (rw t at left) (rw takes_it at same))
+    by false t left same more = (let bad : true ≡ false = rw t at left in absurd cc)
 
 -- ---- none is there twice
 
@@ -159,4 +167,4 @@ apart m (n ∷ ns) were i j a b at_a at_b same = by (takes m n) refl i j (apart 
         ap (λ x. suc x) (more k l a b left right same))
 
 pub modules_are_kept : ModulesAreKept
-modules_are_kept = record { there = there; only = only; apart = apart; one = one; main = main; others = others; alone = alone }
+modules_are_kept = record { there = there; only = only; apart = apart; one = one; main = main; others = others; alone = alone; unlike = unlike }

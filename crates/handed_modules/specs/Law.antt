@@ -1,7 +1,7 @@
 -- What is so of modules behind one that is handed in.
 use Rattle.std.specs.Prelude.{◌≡◌, ◌⊎◌, List, Some, true, false}
 use Rattle.wit_order.specs.Order.{Has}
-use Rattle.handed_modules.specs.Modules.{ModuleInput, AreApart, is_main, main_module, with_module, has_others}
+use Rattle.handed_modules.specs.Modules.{ModuleInput, AreApart, IsDuplicate, is_main, main_module, with_module, has_others}
 
 pub record ModulesAreKept : Type 0 where
   -- it is there, and all else was
@@ -15,3 +15,5 @@ pub record ModulesAreKept : Type 0 where
   pub others : (m : ModuleInput) (ms : List ModuleInput) → is_main m ≡ false → main_module (with_module m ms) ≡ main_module ms
   -- where it is the main module there are other ones only if there were
   pub alone : (m : ModuleInput) (ms : List ModuleInput) → is_main m ≡ true → has_others (with_module m ms) ≡ has_others ms
+  -- and where there are none, it has no other's bytes
+  pub unlike : (m : ModuleInput) (ms : List ModuleInput) → is_main m ≡ true → has_others ms ≡ false → IsDuplicate ms m → ⊥

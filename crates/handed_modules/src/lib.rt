@@ -8,5 +8,5 @@ mod modules;
 
 pub use fault::HandFault;
 pub use law::law_modules_are_kept;
-pub use library::{Instance, Item, MainOrAdapter};
+pub use library::{Instance, Item, LibraryInfo, MainOrAdapter};
 pub use modules::{HandedModule, HandedModules, ModuleKind};

@@ -32,3 +32,10 @@ pub enum Instance {
     /// One that is made of these exports.
     Items(Vec<Item>),
 }
+
+/// What a library is handed in with.
+#[derive(Drop)]
+pub struct LibraryInfo {
+    /// What it is instantiated with, under the texts by which its core imports name that.
+    pub arguments: Vec<(String, Instance)>,
+}

@@ -37,7 +37,9 @@ impl<'r> Desk<'r> {
             Row::Line(words) => write_reading(alloc, page, words),
             Row::Run(words) => write_run(alloc, &self.files, words, page),
             Row::Stop(words) => write_stop(alloc, &self.files, words, page),
-            Row::Setup(setup) => hand_over(&mut self.session, &mut self.texts, setup, page),
+            Row::Setup(setup) => {
+                hand_over(alloc, &mut self.session, &mut self.texts, setup, page);
+            }
             Row::Question(question) => {
                 ask(alloc, &mut self.session, &mut self.built, question, page);
             }

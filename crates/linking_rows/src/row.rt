@@ -46,7 +46,9 @@ fn row_of<'t>(alloc: Global, word: &str, rest: &'t str) -> Result<Row<'t>, RowFa
 /// The row of a session that begins with this word.
 fn session_row_of<'t>(alloc: Global, word: &str, rest: &'t str) -> Result<Row<'t>, RowFault> {
     match word {
-        "text" | "world" | "main" | "option" => Ok(Row::Setup(setup_of(alloc, word, rest)?)),
+        "text" | "world" | "main" | "adapter" | "library" | "option" => {
+            Ok(Row::Setup(setup_of(alloc, word, rest)?))
+        }
         "packages" | "select" | "links" | "build" | "audit" | "signature" => {
             Ok(Row::Question(question_of(alloc, word, rest)?))
         }

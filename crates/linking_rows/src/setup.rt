@@ -1,9 +1,14 @@
 //! Rows that hand a session its input; they are answered where they are refused.
 
+ghost use Rattle.std.specs.Prelude.{◌<◌, length, IfSome};
+ghost use Rattle.component_linker.specs.Passed.component_session-Input.{worlds_of};
+
 use crate::refusals::{write_fault, write_unresolved};
-use component_linker::{Fault, PackageId, Session, StringEncoding, WorldId};
+use component_linker::{
+    Fault, Instance, LibraryInfo, MainOrAdapter, PackageId, Session, StringEncoding, WorldId,
+};
 use row_pages::{Page, RowFault, UNREADABLE, bytes_of, readable, unescaped};
-use std::alloc::Global;
+use std::alloc::{AllocError, Global};
 
 /// An option that is on or off.
 #[derive(Clone, Copy)]
@@ -25,6 +30,10 @@ pub enum Setup<'t> {
     World(&'t str),
     /// The main module, for the chosen world or else for the first of all.
     Main(Vec<u8>),
+    /// An adapter's name and bytes, for the same world.
+    Adapter(&'t str, Vec<u8>),
+    /// A library's name, the adapter or library that its one argument names, and its bytes.
+    Library(&'t str, &'t str, Vec<u8>),
     Option(Setting, bool),
 }
 
@@ -93,11 +102,26 @@ fn option_of<'t>(words: &str) -> Option<Setup<'t>> {
     Some(Setup::Option(setting_named(name)?, on))
 }
 
+/// The adapter that the words spell.
+fn adapter_of<'t>(alloc: Global, words: &'t str) -> Result<Setup<'t>, RowFault> {
+    let (name, digits) = readable(words.split_once(' '))?;
+    Ok(Setup::Adapter(name, bytes_of(alloc, digits)?))
+}
+
+/// The library that the words spell.
+fn library_of<'t>(alloc: Global, words: &'t str) -> Result<Setup<'t>, RowFault> {
+    let (name, rest) = readable(words.split_once(' '))?;
+    let (other, digits) = readable(rest.split_once(' '))?;
+    Ok(Setup::Library(name, other, bytes_of(alloc, digits)?))
+}
+
 /// The row of this first word, with the rest of its line.
 pub fn setup_of<'t>(alloc: Global, word: &str, rest: &'t str) -> Result<Setup<'t>, RowFault> {
     match word {
         "text" => Ok(Setup::Text(unescaped(alloc, rest)?)),
         "main" => Ok(Setup::Main(bytes_of(alloc, rest)?)),
+        "adapter" => adapter_of(alloc, rest),
+        "library" => library_of(alloc, rest),
         "option" => readable(option_of(rest)),
         _ => Ok(Setup::World(rest)),
     }
@@ -145,17 +169,68 @@ fn write_refusal(page: &mut Page, outcome: Result<(), Fault>) {
     }
 }
 
-/// Hands in the main module, where there is a world for it.
-fn hand_in<'r>(session: &mut Session<'r>, bytes: &'r [u8], page: &mut Page) {
+/// The chosen world, or else the first of all, if there is one.
+fn world_of(session: &Session) -> Option<WorldId>
+    ensures { IfSome result (λ w. w < length (worlds_of session.now.resolved)) }
+{
     let world = session.world().unwrap_or(WorldId::from_index(0));
     if world.index() >= session.resolve().worlds().len() {
-        return page.words(UNREADABLE);
+        return None;
     }
-    write_refusal(page, session.module(bytes, world, StringEncoding::UTF8));
+    Some(world)
+}
+
+/// Hands in the main module, where there is a world for it.
+fn hand_in<'r>(session: &mut Session<'r>, bytes: &'r [u8], page: &mut Page) {
+    match world_of(session) {
+        Some(world) => write_refusal(page, session.module(bytes, world, StringEncoding::UTF8)),
+        None => page.words(UNREADABLE),
+    }
+}
+
+/// Hands in an adapter, where there is a world for it.
+fn hand_in_adapter<'r>(session: &mut Session<'r>, name: &str, bytes: &'r [u8], page: &mut Page) {
+    match world_of(session) {
+        Some(world) => {
+            write_refusal(
+                page,
+                session.adapter(name, bytes, world, StringEncoding::UTF8),
+            );
+        }
+        None => page.words(UNREADABLE),
+    }
+}
+
+/// A library that is given the instance of another module under `env`.
+fn info_of(alloc: Global, other: &str) -> Result<LibraryInfo, AllocError> {
+    let mut arguments = Vec::new(alloc);
+    let instance = Instance::MainOrAdapter(MainOrAdapter::Adapter(String::from_str(alloc, other)?));
+    arguments.push((String::from_str(alloc, "env")?, instance))?;
+    Ok(LibraryInfo { arguments })
+}
+
+/// Hands in a library, where there is a world for it.
+fn hand_in_library<'r>(
+    session: &mut Session<'r>,
+    name: &str,
+    info: LibraryInfo,
+    bytes: &'r [u8],
+    page: &mut Page,
+) {
+    match world_of(session) {
+        Some(world) => {
+            write_refusal(
+                page,
+                session.library(name, bytes, world, StringEncoding::UTF8, info),
+            );
+        }
+        None => page.words(UNREADABLE),
+    }
 }
 
 /// Hands a session what the row says, and writes the line of a refusal.
 pub fn hand_over<'r>(
+    alloc: Global,
     session: &mut Session<'r>,
     texts: &mut Texts,
     setup: &'r Setup<'_>,
@@ -165,6 +240,11 @@ pub fn hand_over<'r>(
         Setup::Text(text) => push(session, texts, text, page),
         Setup::World(name) => choose(session, texts.main, name, page),
         Setup::Main(bytes) => hand_in(session, bytes, page),
+        Setup::Adapter(name, bytes) => hand_in_adapter(session, name, bytes, page),
+        Setup::Library(name, other, bytes) => match info_of(alloc, other) {
+            Ok(info) => hand_in_library(session, name, info, bytes, page),
+            Err(_) => page.refuse(),
+        },
         Setup::Option(setting, on) => set(session, *setting, *on),
     }
 }

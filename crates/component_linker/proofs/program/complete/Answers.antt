@@ -21,7 +21,7 @@ returns-clause-ok c =
     let (w, chose, names) = c.in_ok-choose.ensures.ok in
     both_ok c.hand_in.result
     (λ is rest. completed c.args.files.now c.args.line.now c.args.«package» w old chosen c.hand_in.new.session chose (subst (λ t. Names old.resolved c.args.«package» t w) c.as_str.ensures.value names) is rest)
-    c.hand_in.ensures.main c.hand_in.ensures.rest
+    c.hand_in.ensures.modules c.hand_in.ensures.rest
 
 pub returns-clause-err : goal.returns-clause-err
 returns-clause-err c =

@@ -1,20 +1,12 @@
-use Rattle.std.proofs.Common.{◌<◌, length, sym, ap, subst, ◌∙◌}
-use Rattle.std.proofs.lemmas.Option.{same_Some}
-use Rattle.wasm_format.specs.Module.{module_value}
-use Rattle.wasm_format.specs.Grammar.{IsModule}
-use Rattle.component_session.specs.Input.{Input, ModuleInput, worlds_of}
-use Rattle.component_session.specs.Faults.{of_module}
+use Rattle.std.proofs.Common.{map, string_bytes, ap}
+use Rattle.handed_modules.specs.Library.{argument_input}
+use Rattle.handed_modules.specs.Modules.{IsDuplicate, NamesUnknown}
+use Rattle.handed_modules.specs.declared.modules.ModuleKind.TheVariants as kinds
+use Rattle.component_session.proofs.Handing.{nor, none_named}
 use Rattle.component_session.proofs.session.Session.module.Goals as goal
 
-pub returns-in-Err-clause-only : goal.returns-in-Err-clause-only
-returns-in-Err-clause-only c = λ m h. c.module_refusal.ensures ∙ ap of_module (c.in-Err.ensures.only m h)
-
-pub invariant_of-self : goal.invariant_of-self
-invariant_of-self c =
-    let within : c.args.world < length (worlds_of c.self.inside.resolve) = subst (λ (i : Input). c.args.world < length (worlds_of i.resolved)) (sym c.self.view_is) c.requires in
-    record {
-      come = c.self.invariant.come;
-      chosen = c.self.invariant.chosen;
-      there = λ x e. subst (λ (y : ModuleInput). y.world < length (worlds_of c.self.inside.resolve)) (same_Some _ x e) within;
-      handed = λ x e. (module_value c.in_default.field-0, subst (λ (y : ModuleInput). IsModule y.bytes (module_value c.in_default.field-0)) (same_Some _ x e) c.in_default.ensures.found);
-    }
+pub returns-clause-only : goal.returns-clause-only
+returns-clause-only c = λ m h other.
+    (let no_arguments = ap (map argument_input) c.new-2.ensures.items in
+    c.hand_in-2.ensures.only m h (nor kinds.Main c.args.bytes.now c.args.world c.args.encoding (IsDuplicate c.args.self.now.modules) _ _ _ _ c.new.ensures.bytes no_arguments other)
+    (none_named c.args.self.now.modules (record { name = string_bytes c.new.result; kind = kinds.Main; bytes = c.args.bytes.now; world = c.args.world; encoding = c.args.encoding; arguments = _ }) no_arguments))
