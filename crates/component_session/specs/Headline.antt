@@ -1,13 +1,13 @@
 -- The headline: what `Session::links`, `Session::build` and `audit` say of an input. To be read from the top; Refusals.antt has why they
 -- refuse.
 --
--- An input (Input.antt) is packages of WIT texts, a chosen world, a main module and options. It links the world's functions with the core
--- imports and exports of the module: the link table (in link_table, Table.antt) has one entry for each, and its lines are what `links`
--- shows. The bytes of a component are a list of definitions by the grammar of components (in component_sections, Component.antt). What their
--- indices stand for is one fold over the list (in component_meaning, Spaces.antt), and what has to hold of that is in right_components,
--- Right.antt. Where plain functions alone are linked, the input is plain (Refusals.antt), and all of this stands in definitions of its own,
--- which the auditor decides: the table in wit_component, Table.antt; the grammar in known_definitions, Component.antt; the fold in
--- wit_component, Meaning.antt; and one condition for each kind of finding there, in Right.antt.
+-- An input (Input.antt) is packages of WIT texts, a chosen world, modules and options. Where the main module is the only one, it links the
+-- world's functions with the core imports and exports of that: the link table (in link_table, Table.antt) has one entry for each, and its
+-- lines are what `links` shows. The bytes of a component are a list of definitions by the grammar of components (in component_sections,
+-- Component.antt). What their indices stand for is one fold over the list (in component_meaning, Spaces.antt), and what has to hold of that
+-- is in right_components, Right.antt. Where plain functions alone are linked, the input is plain (Refusals.antt), and all of this stands in
+-- definitions of its own, which the auditor decides: the table in wit_component, Table.antt; the grammar in known_definitions,
+-- Component.antt; the fold in wit_component, Meaning.antt; and one condition for each kind of finding there, in Right.antt.
 use Rattle.std.specs.Prelude.{◌≡◌, ◌⊎◌, ℕ, ◌≤◌, List, length, map}
 use Rattle.wit_component.specs.Passed.known_definitions-Definition.{DefinitionValue}
 use Rattle.wit_component.specs.Passed.known_definitions-Component.{IsComponent}
